@@ -1,0 +1,11 @@
+-- Counts of faults.
+use Rattle.std.specs.Prelude.{◌≡◌, ◌⊎◌, ℕ, ◌-◌, ◌<◌, ◌≤◌, ◌^◌, Result, Ok, Err}
+
+-- a count of faults rose; one that stands at its end counts as risen
+abbrev pub Rose : ℕ → ℕ → Type 0
+Rose old new = (old < new) ⊎ (new ≡ 2 ^ 64 - 1)
+
+-- a count never falls, and a call failed only where it rose
+abbrev pub IsCaused : {T E : Type 0} → Result T E → ℕ → ℕ → Type 0
+IsCaused (Ok _) old new = old ≤ new
+IsCaused (Err _) old new = (old ≤ new) × Rose old new
