@@ -1,13 +1,14 @@
-// A library with one function.
+//! The values that all crates speak of: texts, lists, kinds of numbers, numbers and tokens.
 #![tactic(auto)]
 
-ghost use Rattle.std.specs.Prelude.{◌≡◌};
-ghost use Rattle.cad_syntax.specs.Echo.{echo_of};
+mod items;
+mod kind;
+mod num;
+mod text;
+mod token;
 
-// The `ensures` clause is the contract: what `echo` returns is `echo_of` of its argument, a definition
-// in `specs/Echo.antt`, which a caller's clause can cite too.
-pub fn echo(x: usize) -> usize
-    ensures { result ≡ echo_of x }
-{
-    x
-}
+pub use items::{Bytes, Items, Names, Tokens};
+pub use kind::Kind;
+pub use num::Num;
+pub use text::{Name, Text};
+pub use token::{Keyword, Sign, Token, TokenKind};
