@@ -3,6 +3,7 @@
 
 mod call;
 mod host;
+mod record;
 mod schedule;
 mod tapes;
 
