@@ -4,3 +4,4 @@ pub mod Input
 pub mod Schedule
 pub mod Tapes
 pub mod Record
+pub mod Memory

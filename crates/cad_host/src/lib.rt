@@ -3,8 +3,12 @@
 
 mod call;
 mod host;
+mod memory;
 mod record;
 mod schedule;
+mod sure;
 mod tapes;
 
 pub use host::{Failed, Host, Tape};
+pub use memory::MemHost;
+pub use sure::SureHost;

@@ -1,6 +1,6 @@
 // Which calls of a kind fail.
-ghost use Rattle.std.specs.Prelude.{◌≡◌, ◌+◌, ◌-◌, ◌^◌, min, IfOk};
-ghost use Rattle.cad_host.specs.Schedule.{fails_next};
+ghost use Rattle.std.specs.Prelude.{◌≡◌, IfOk};
+ghost use Rattle.cad_host.specs.Schedule.{fails_next, Counted};
 
 use std::alloc::{AllocError, Global};
 
@@ -25,8 +25,7 @@ impl Schedule {
     /// Counts a call, and answers whether it is to fail.
     pub fn count(&mut self) -> bool
         ensures fails { result ≡ fails_next self.old.failing.items self.old.calls }
-        ensures failing { self.new.failing.items ≡ self.old.failing.items }
-        ensures calls { self.new.calls ≡ min (self.old.calls + 1) (2 ^ 64 - 1) }
+        ensures counted { Counted self.old self.new }
     {
         let fails = self.failing.contains(&self.calls);
         self.calls = self.calls.saturating_add(1);
