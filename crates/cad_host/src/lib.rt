@@ -2,6 +2,8 @@
 #![tactic(auto)]
 
 mod call;
+mod file_host;
+mod folder;
 mod host;
 mod memory;
 mod record;
@@ -9,6 +11,7 @@ mod schedule;
 mod sure;
 mod tapes;
 
+pub use file_host::FileHost;
 pub use host::{Failed, Host, Tape};
 pub use memory::MemHost;
 pub use sure::SureHost;
