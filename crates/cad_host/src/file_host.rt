@@ -1,6 +1,7 @@
 // A host over the standard streams and three files.
 ghost use Rattle.std.specs.Prelude.{◌≡◌, ◌≤◌, [], IfOk, length};
 
+use crate::faults::fault;
 use crate::folder::Folder;
 use crate::{Failed, Host, Tape};
 use std::alloc::{AllocError, Global};
@@ -73,60 +74,42 @@ impl<R: Input + Print + Files + Drop> Host for FileHost<R> {
     fn take(&mut self, into: &mut [u8]) -> Result<usize, Failed> {
         match read_once(&mut self.input, into) {
             Ok(count) => Ok(count),
-            Err(_) => {
-                self.input_faults = self.input_faults.saturating_add(1);
-                Err(Failed)
-            }
+            Err(_) => Err(fault(&mut self.input_faults)),
         }
     }
 
     fn put(&mut self, bytes: &[u8]) -> Result<(), Failed> {
         match self.rt.write_all(bytes) {
             Ok(()) => Ok(()),
-            Err(_) => {
-                self.output_faults = self.output_faults.saturating_add(1);
-                Err(Failed)
-            }
+            Err(_) => Err(fault(&mut self.output_faults)),
         }
     }
 
     fn length(&mut self, tape: Tape) -> Result<u64, Failed> {
         match self.folder.length(&self.rt, tape) {
             Ok(length) => Ok(length),
-            Err(_) => {
-                self.disk_faults = self.disk_faults.saturating_add(1);
-                Err(Failed)
-            }
+            Err(_) => Err(fault(&mut self.disk_faults)),
         }
     }
 
     fn read(&mut self, tape: Tape, at: u64, into: &mut [u8]) -> Result<usize, Failed> {
         match self.folder.read(&self.rt, tape, at, into) {
             Ok(count) => Ok(count),
-            Err(_) => {
-                self.disk_faults = self.disk_faults.saturating_add(1);
-                Err(Failed)
-            }
+            Err(_) => Err(fault(&mut self.disk_faults)),
         }
     }
 
     fn write(&mut self, tape: Tape, at: u64, bytes: &[u8]) -> Result<(), Failed> {
         match self.folder.write(&self.rt, tape, at, bytes) {
             Ok(()) => Ok(()),
-            Err(_) => {
-                self.disk_faults = self.disk_faults.saturating_add(1);
-                Err(Failed)
-            }
+            Err(_) => Err(fault(&mut self.disk_faults)),
         }
     }
 
     fn sync(&mut self, tape: Tape) -> Result<(), Failed> {
         match self.folder.sync(&self.rt, tape) {
             Ok(()) => Ok(()),
-            Err(_) => {
-                self.disk_faults = self.disk_faults.saturating_add(1);
-                Err(Failed)
-            }
+            Err(_) => Err(fault(&mut self.disk_faults)),
         }
     }
 }

@@ -2,6 +2,7 @@
 #![tactic(auto)]
 
 mod call;
+mod faults;
 mod file_host;
 mod folder;
 mod host;
@@ -15,3 +16,6 @@ pub use file_host::FileHost;
 pub use host::{Failed, Host, Tape};
 pub use memory::MemHost;
 pub use sure::SureHost;
+
+#[cfg(test)]
+mod tests;

@@ -8,6 +8,7 @@ ghost use Rattle.cad_host.specs.Tapes.{bytes_on};
 ghost use Rattle.cad_host.specs.declared.host.Tape.{Tape};
 
 use crate::call::Call;
+use crate::faults::fault;
 use crate::schedule::Schedule;
 use crate::tapes::{Tapes, read_at};
 use crate::{Failed, Host, Tape, record};
@@ -123,8 +124,7 @@ impl Host for MemHost {
         ensures disk { ⟦<MemHost as Host>⟧.disk_faults self.new ≡ ⟦<MemHost as Host>⟧.disk_faults self.old }
     {
         if self.takes.count() {
-            self.input_faults = self.input_faults.saturating_add(1);
-            return Err(Failed);
+            return Err(fault(&mut self.input_faults));
         }
         let count = read_at(&self.input, self.place, into);
         self.place += count;
@@ -150,8 +150,7 @@ impl Host for MemHost {
         };
         let recorded = record::put(self.alloc, &mut self.calls, &mut self.written, kept);
         if fails || recorded.is_err() {
-            self.output_faults = self.output_faults.saturating_add(1);
-            return Err(Failed);
+            return Err(fault(&mut self.output_faults));
         }
         Ok(())
     }
@@ -167,8 +166,7 @@ impl Host for MemHost {
         ensures output { ⟦<MemHost as Host>⟧.output_faults self.new ≡ ⟦<MemHost as Host>⟧.output_faults self.old }
     {
         if self.disks.count() {
-            self.disk_faults = self.disk_faults.saturating_add(1);
-            return Err(Failed);
+            return Err(fault(&mut self.disk_faults));
         }
         Ok(self.tapes.bytes(tape).len() as u64)
     }
@@ -186,8 +184,7 @@ impl Host for MemHost {
         ensures output { ⟦<MemHost as Host>⟧.output_faults self.new ≡ ⟦<MemHost as Host>⟧.output_faults self.old }
     {
         if self.disks.count() {
-            self.disk_faults = self.disk_faults.saturating_add(1);
-            return Err(Failed);
+            return Err(fault(&mut self.disk_faults));
         }
         Ok(read_at(self.tapes.bytes(tape), at as usize, into))
     }
@@ -215,8 +212,7 @@ impl Host for MemHost {
             )
             .is_err()
         {
-            self.disk_faults = self.disk_faults.saturating_add(1);
-            return Err(Failed);
+            return Err(fault(&mut self.disk_faults));
         }
         Ok(())
     }
@@ -232,8 +228,7 @@ impl Host for MemHost {
         ensures output { ⟦<MemHost as Host>⟧.output_faults self.new ≡ ⟦<MemHost as Host>⟧.output_faults self.old }
     {
         if self.disks.count() || record::sync(&mut self.calls, tape).is_err() {
-            self.disk_faults = self.disk_faults.saturating_add(1);
-            return Err(Failed);
+            return Err(fault(&mut self.disk_faults));
         }
         Ok(())
     }
