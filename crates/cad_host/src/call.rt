@@ -1,7 +1,7 @@
 use crate::Tape;
 
 /// A call that changed something.
-#[derive(Debug, Drop)]
+#[derive(Drop)]
 pub enum Call {
     Wrote(Tape, u64, Vec<u8>),
     Synced(Tape),
