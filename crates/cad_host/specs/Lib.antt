@@ -1,3 +1,7 @@
 pub mod Faults
 pub mod Disk
 pub mod Input
+pub mod Schedule
+pub mod Tapes
+pub mod Record
+pub mod Memory
