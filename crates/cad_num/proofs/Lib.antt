@@ -1,0 +1,4 @@
+pub mod KindRanges
+pub mod Outcomes
+pub mod Signs
+pub mod Wrapping
