@@ -1,5 +1,5 @@
 -- What a kind makes of an integer.
-use Rattle.std.proofs.Common.{◌≡◌, ℕ, ◌+◌, ◌%◌, ◌<◌, ◌^◌, ◌≤◌, Bool, true, false, cond, ltb, leb, ℤ, pos, neg_ℤ, Result, Ok, Err, bit_and, refl, sym, ap, ◌∙◌, arith}
+use Rattle.std.proofs.Common.{◌≡◌, ℕ, ◌+◌, ◌%◌, ◌<◌, ◌^◌, ◌≤◌, Bool, true, false, cond, ℤ, pos, neg_ℤ, Ok, Err, bit_and, sym, ap, ◌∙◌, arith}
 use Rattle.std.proofs.lemmas.Int.{ints}
 use Rattle.std.proofs.lemmas.Bool.{leb-false, lt-leb, ltb-true}
 use Rattle.std.proofs.lemmas.Bool.Decides.{nat_tests}
@@ -10,9 +10,7 @@ use Rattle.cad_syntax.specs.declared.kind.Kind.{Kind}
 use Rattle.cad_num.proofs.KindRanges.{greatest_small, depth_small, word_range}
 use Rattle.cad_num.proofs.Wrapping.{wrapped_positive, wrapped_negative}
 use Rattle.cad_num.specs.Numbers.{is_word, outcome}
-use Rattle.cad_num.specs.declared.error.NumError.{NumError}
 use Rattle.cad_num.specs.declared.error.NumError.TheVariants.{Overflow, Underflow}
-use Rattle.std.specs.Prelude.{int_lt}
 
 pub outcome-word : (kind : Kind) (z : ℤ) → is_word kind ≡ true → outcome kind z ≡ Ok (int_rem_euclid z (pos (greatest kind + 1)))
 unfolding outcome

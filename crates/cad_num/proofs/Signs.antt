@@ -2,9 +2,9 @@
 use Rattle.std.specs.Bool.{beq}
 use Rattle.std.proofs.lemmas.Bool.{ne_eqb}
 use Rattle.std.proofs.Math.Nat.{mul-zero, zero-mul, div-zero, zero-div}
-use Rattle.std.proofs.Common.{eqb, zero, suc, ◌&&◌, sym, ap, ◌∙◌, ◌≡◌, ◌≢◌, ℕ, ◌+◌, ◌-◌, ◌*◌, ◌/◌, ◌%◌, ◌<◌, ◌≤◌, Bool, true, false, not, ℤ, pos, negsuc, neg_ℤ, ◌+ℤ◌, ◌-ℤ◌, ◌*ℤ◌, refl, arith}
+use Rattle.std.proofs.Common.{eqb, zero, suc, ◌&&◌, ap, ◌∙◌, ◌≡◌, ℕ, ◌+◌, ◌-◌, ◌*◌, ◌/◌, ◌≤◌, Bool, true, false, not, pos, ◌+ℤ◌, ◌*ℤ◌, refl, arith}
 use Rattle.std.proofs.lemmas.Int.{ints}
-use Rattle.std.specs.Prelude.{int_div, int_rem}
+use Rattle.std.specs.Prelude.{int_div}
 use Rattle.cad_syntax.specs.Kinds.{signed}
 
 pub sum_same : (s : Bool) (m n : ℕ) → signed s m +ℤ signed s n ≡ signed s (m + n)

@@ -1,5 +1,5 @@
 -- Integers modulo the number of words of a kind.
-use Rattle.std.proofs.Common.{◌≡◌, ℕ, zero, suc, ◌+◌, ◌-◌, ◌*◌, ◌%◌, ◌^◌, ◌<◌, ◌≤◌, Bool, true, false, ℤ, pos, negsuc, neg_ℤ, bit_and, refl, sym, ap, ◌∙◌, ⊎_elim, arith, add-zero}
+use Rattle.std.proofs.Common.{◌≡◌, ℕ, zero, suc, ◌+◌, ◌-◌, ◌*◌, ◌%◌, ◌^◌, ◌<◌, ◌≤◌, true, false, pos, bit_and, sym, ap, ◌∙◌, ⊎_elim, arith, add-zero}
 use Rattle.std.proofs.Math.Nat.{mod-mod_of_dvd, mod-lt, mod-add-mod, add-mod-mod, mod-eq_of_lt, mod-eq-sub-mod, mul-mod_right, dvd_of_mod-eq-zero, zero-mod}
 use Rattle.std.proofs.lemmas.Bool.{cases_lt}
 use Rattle.std.proofs.lemmas.Nat.{and_mask, pow_pos}
@@ -19,7 +19,7 @@ complement m x e h z =
     let turned : x + (e % m + 1) ≡ e % m + (x + 1) = omega arith in
     let back : e + (x + 1) ≡ x + suc e = omega arith in
     let parts : (x % m + (e % m + 1)) % m ≡ 0 =
-        mod-add-mod x m (e % m + 1) ∙ ap (λ n. n % m) turned ∙ mod-add-mod e m (x + 1) ∙ ap (λ n. n % m) back ∙ z in
+    mod-add-mod x m (e % m + 1) ∙ ap (λ n. n % m) turned ∙ mod-add-mod e m (x + 1) ∙ ap (λ n. n % m) back ∙ z in
     let low = mod-lt x h in
     let low' = mod-lt e h in
     let all = small_multiple m (x % m + (e % m + 1)) (omega arith) (omega arith) parts in
@@ -52,7 +52,7 @@ sum_modulo M x low exact h z = sym (add-mod-mod x exact M) ∙ ap (λ n. (x + n)
 pub wrapped_negative : {g : ℕ} → IsWordRange g → (low bits exact : ℕ) → low ≡ exact % 2 ^ 128 → (bits + low) % 2 ^ 128 ≡ 0 → pos (bit_and bits g) ≡ int_rem_euclid (signed true exact) (pos (g + 1))
 wrapped_negative {g} r low bits zero h z =
     let all : bits % (g + 1) ≡ 0 =
-        ap (λ n. n % (g + 1)) (sym (add-zero bits)) ∙ zero_modulo (g + 1) (2 ^ r.more) (2 ^ 128) (bits + 0) (multiple_of r) (sum_modulo (2 ^ 128) bits low 0 h z) in
+    ap (λ n. n % (g + 1)) (sym (add-zero bits)) ∙ zero_modulo (g + 1) (2 ^ r.more) (2 ^ 128) (bits + 0) (multiple_of r) (sum_modulo (2 ^ 128) bits low 0 h z) in
     ap pos (mask_is g r.bits bits r.greatest_is ∙ all ∙ sym (zero-mod (g + 1)))
 wrapped_negative {g} r low bits (suc e) h z =
     let all = zero_modulo (g + 1) (2 ^ r.more) (2 ^ 128) (bits + suc e) (multiple_of r) (sum_modulo (2 ^ 128) bits low (suc e) h z) in

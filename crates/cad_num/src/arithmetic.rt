@@ -9,13 +9,7 @@ use crate::fit::{fit, scale};
 use cad_syntax::{Kind, Num};
 
 /// The sum of two integers by sign and magnitude, as a number of a kind.
-fn sum(
-    kind: Kind,
-    a_negative: bool,
-    a: u128,
-    b_negative: bool,
-    b: u128,
-) -> Result<Num, NumError>
+fn sum(kind: Kind, a_negative: bool, a: u128, b_negative: bool, b: u128) -> Result<Num, NumError>
     ensures value { valued result ≡ outcome kind (signed a_negative a +ℤ signed b_negative b) }
     ensures kind { IfOk result (λ n. n.kind ≡ kind) }
 {
@@ -30,13 +24,7 @@ fn sum(
 }
 
 /// The quotient of a product, truncated, as a number of a kind.
-fn scaled(
-    kind: Kind,
-    negative: bool,
-    a: u128,
-    b: u128,
-    divisor: u128,
-) -> Result<Num, NumError>
+fn scaled(kind: Kind, negative: bool, a: u128, b: u128, divisor: u128) -> Result<Num, NumError>
     requires divisible { 0 < divisor }
     requires exact { (a * b < 2 ^ 128) ⊎ (divisor ≡ 1) }
     ensures value { valued result ≡ outcome kind (signed negative (a * b / divisor)) }

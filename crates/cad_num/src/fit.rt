@@ -1,5 +1,5 @@
 // From an exact integer to a number of a kind.
-ghost use Rattle.std.specs.Prelude.{◌≡◌, ℕ, ◌%◌, ◌^◌, ◌<◌, IfOk, true, false};
+ghost use Rattle.std.specs.Prelude.{◌≡◌, ℕ, ◌%◌, ◌^◌, ◌<◌, IfOk, true};
 ghost use Rattle.std.specs.Bool.{FalseIff};
 ghost use Rattle.cad_syntax.specs.Kinds.{signed};
 ghost use Rattle.cad_num.specs.Numbers as spec;

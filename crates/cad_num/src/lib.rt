@@ -2,8 +2,10 @@
 #![tactic(auto)]
 
 mod arithmetic;
+mod decimal;
 mod error;
 mod fit;
 
 pub use arithmetic::{add, mul};
+pub use decimal::{read_decimal, write_decimal};
 pub use error::NumError;

@@ -22,13 +22,13 @@ returns-in-Some-clause-value c exact h o =
     let e = outcome-in c.args.kind c.args.negative c.args.low plain (c.in-Some.ensures.some.0 refl) in
     let n = c.in-Some.n in
     ap Ok (signed-kept n.negative c.args.negative n.magnitude c.args.low c.in-Some.ensures.negative c.in-Some.ensures.magnitude) ∙
-        sym e ∙ ap (λ m. outcome c.args.kind (signed c.args.negative m)) same
+    sym e ∙ ap (λ m. outcome c.args.kind (signed c.args.negative m)) same
 
 pub returns-in-None-clause-value : goal.returns-in-None-clause-value
 returns-in-None-clause-value c exact h o =
     let plain : is_word c.args.kind ≡ false = cc in
     let same = h ∙ mod-eq_of_lt (FalseIff-small c.args.over exact o c.if-over.false) in
     let out : in_range c.args.kind c.args.negative c.args.low ≡ false =
-        false_from_ne_true _ (λ r. false≢true (c.in-None.ensures.some.1 r)) in
+    false_from_ne_true _ (λ r. false≢true (c.in-None.ensures.some.1 r)) in
     let e = outcome-out c.args.kind c.args.negative c.args.low plain out in
     elim c.if-negative.branch [ then-negative w ↦ grind arith | else-negative w ↦ grind arith ]
