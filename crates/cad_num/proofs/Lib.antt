@@ -1,0 +1,7 @@
+pub mod KindRanges
+pub mod Outcomes
+pub mod ReadTexts
+pub mod RoundTrip
+pub mod Signs
+pub mod Wrapping
+pub mod WriteTexts
