@@ -1,6 +1,6 @@
 -- The lexer as a function on lists.
-use Rattle.std.specs.Prelude.{ℕ, ◌^◌, Bool, false, List, [], ◌∷◌, length, codes, Option, Some, None, if◌then◌else◌, ◌==◌, nat_lt, option_map}
-use Rattle.std.specs.Char.{is_digit}
+use Rattle.std.specs.Prelude.{ℕ, ◌||◌, ◌+◌, ◌*◌, ◌^◌, Bool, false, List, [], ◌∷◌, length, codes, Option, Some, None, if◌then◌else◌, ◌==◌, nat_lt, option_map}
+use Rattle.std.specs.Char.{is_digit, digit_value}
 use Rattle.std.specs.Borrow.{Bor}
 use Rattle.std.specs.Str.{bytes_eq}
 use Rattle.cad_syntax.specs.declared.token.Keyword.{Keyword}
@@ -9,7 +9,7 @@ use Rattle.cad_syntax.specs.declared.token.Sign.{Sign}
 use Rattle.cad_syntax.specs.declared.token.Sign.TheVariants as s
 use Rattle.cad_syntax.specs.declared.token.TokenKind.{TokenKind}
 use Rattle.cad_syntax.specs.declared.token.TokenKind.TheVariants as kind
-use Rattle.cad_syntax.specs.Lexes.{is_name_start, is_name_part, begins_with_letter, number}
+use Rattle.cad_syntax.specs.Lexes.{is_white_space, is_name_start, is_name_part, begins_with_letter, Shape, Word, Whole, Mark}
 
 -- the bytes at the front that pass
 unfoldable pub front : (ℕ → Bool) → List ℕ → List ℕ
@@ -20,6 +20,11 @@ front test (b ∷ bytes) = if test b then b ∷ front test bytes else []
 unfoldable pub behind : (ℕ → Bool) → List ℕ → List ℕ
 behind test [] = []
 behind test (b ∷ bytes) = if test b then behind test bytes else b ∷ bytes
+
+-- the bytes behind the white space, and whether a line feed stands in it, or stood before
+unfoldable pub skip : Bool → List ℕ → Bool × List ℕ
+skip broken [] = (broken, [])
+skip broken (b ∷ bytes) = if is_white_space b then skip (broken || (b == 10)) bytes else (broken, b ∷ bytes)
 
 abbrev pub is_decimal : ℕ → Bool
 is_decimal b = is_digit b 10
@@ -112,12 +117,13 @@ kind_by None w = kind.Name (record { 0 = w })
 unfoldable pub word_kind : List ℕ → TokenKind
 word_kind w = kind_by (keyword w) w
 
--- the number that digits write, where it is of 128 bits
-unfoldable pub number_128 : List ℕ → Option ℕ
-number_128 digits = if nat_lt (number 10 digits) (2 ^ 128) then Some (number 10 digits) else None
+-- the number that digits write after those of n, where it is of 128 bits
+unfoldable pub number_from : ℕ → List ℕ → Option ℕ
+number_from n [] = Some n
+number_from n (b ∷ digits) = if nat_lt (10 * n + digit_value b) (2 ^ 128) then number_from (10 * n + digit_value b) digits else None
 
 unfoldable pub whole : List ℕ → List ℕ → Option TokenKind
-whole digits rest = if begins_with_letter rest then None else option_map (λ n. kind.Whole n false) (number_128 digits)
+whole digits rest = if begins_with_letter rest then None else option_map (λ n. kind.Whole n false) (number_from 0 digits)
 
 unfoldable pub sign : ℕ → Option Sign
 sign b =
@@ -140,13 +146,27 @@ sign b =
 abbrev pub with_rest : {A : Type 0} → List ℕ → Option A → Option (A × List ℕ)
 with_rest rest = option_map (λ a. (a, rest))
 
+-- the longest shape at the front, and what follows it
+unfoldable pub shape : List ℕ → Option (Shape × List ℕ)
+shape [] = None
+shape (b ∷ bytes) =
+    if is_name_start b then Some (Word (front is_name_part (b ∷ bytes)), behind is_name_part (b ∷ bytes))
+    else (if is_decimal b then Some (Whole (front is_decimal (b ∷ bytes)), behind is_decimal (b ∷ bytes))
+    else with_rest bytes (option_map Mark (sign b)))
+
+-- the kind of a token of this shape
+unfoldable pub judge : Shape → List ℕ → Option TokenKind
+judge (Word w) rest = Some (word_kind w)
+judge (Whole digits) rest = whole digits rest
+judge (Mark s) rest = Some (kind.Sign s)
+
+abbrev pub judged : Option (Shape × List ℕ) → Option (TokenKind × List ℕ)
+judged None = None
+judged (Some x) = with_rest x.1 (judge x.0 x.1)
+
 -- the token at the front, and what follows it
 unfoldable pub token : List ℕ → Option (TokenKind × List ℕ)
-token [] = None
-token (b ∷ bytes) =
-    if is_name_start b then Some (word_kind (front is_name_part (b ∷ bytes)), behind is_name_part (b ∷ bytes))
-    else (if is_decimal b then with_rest (behind is_decimal (b ∷ bytes)) (whole (front is_decimal (b ∷ bytes)) (behind is_decimal (b ∷ bytes)))
-    else with_rest bytes (option_map kind.Sign (sign b)))
+token text = judged (shape text)
 
 -- a token and what follows it, without where they lie in memory
 abbrev pub seen : TokenKind × Bor (List ℕ) → TokenKind × List ℕ

@@ -1,5 +1,5 @@
 // The lexer.
-ghost use Rattle.std.specs.Prelude.{◌≡◌, ◌+◌, ◌≤◌, ◌<◌, [], List, length, option_map, IfOk, IfSome, ℕ};
+ghost use Rattle.std.specs.Prelude.{◌≡◌, false, ◌+◌, ◌≤◌, ◌<◌, [], List, length, option_map, IfOk, IfSome, ℕ};
 ghost use Rattle.cad_syntax.specs.declared.token.Token.{Token};
 ghost use Rattle.cad_syntax.specs.Lexes.{is_white_space, Lexes, Stops};
 ghost use Rattle.cad_lex.specs.Reading as spec;
@@ -44,6 +44,22 @@ fn is_white_space(byte: u8) -> bool
     byte == b' ' || byte == b'\t' || byte == b'\r' || byte == b'\n'
 }
 
+// The bytes behind the white space at the front, and whether a line feed stands in it.
+#[tactic(auto, unfolding(crate::specs::Reading::skip))]
+fn skip(mut bytes: &[u8]) -> (bool, &[u8])
+    ensures { (result.0, result.1.now) ≡ spec.skip false bytes.entry.now }
+{
+    let mut after_break = false;
+    while let [first, rest @ ..] = bytes {
+        if !is_white_space(*first) {
+            break;
+        }
+        after_break = after_break || *first == b'\n';
+        bytes = rest;
+    }
+    (after_break, bytes)
+}
+
 #[tactic(auto, unfolding(crate::specs::Reading::sign))]
 fn sign(byte: u8) -> Option<Sign>
     ensures { result ≡ spec.sign byte }
@@ -68,11 +84,8 @@ fn sign(byte: u8) -> Option<Sign>
 }
 
 // The token at the front, and the bytes behind it; None where no token begins.
-#[tactic(auto, unfolding(crate::specs::Reading::token))]
-fn token(
-    alloc: Global,
-    bytes: &[u8],
-) -> Result<Option<(TokenKind, &[u8])>, AllocError>
+#[tactic(auto, unfolding(crate::specs::Reading::token, crate::specs::Reading::shape, crate::specs::Reading::judge))]
+fn token(alloc: Global, bytes: &[u8]) -> Result<Option<(TokenKind, &[u8])>, AllocError>
     ensures { IfOk result (λ found. option_map spec.seen found ≡ spec.token bytes.now) }
 {
     let [first, behind @ ..] = bytes else {
@@ -102,27 +115,19 @@ pub fn lex(alloc: Global, bytes: &[u8]) -> Result<Tokens, LexStop>
     ensures place { (n : ℕ) → result ≡ Err (LexStop.At n) → Stops bytes.now n }
 {
     let mut tokens = Vec::new(alloc);
-    let mut rest = bytes;
-    let mut after_break = false;
-    while let [first, behind @ ..] = rest {
-        if is_white_space(*first) {
-            after_break = after_break || *first == b'\n';
-            rest = behind;
-        } else {
-            let start = bytes.len() - rest.len();
-            let Some((kind, behind)) = token(alloc, rest)? else {
-                return Err(LexStop::At(start));
-            };
-            let end = bytes.len() - behind.len();
-            tokens.push(Token {
-                kind,
-                start,
-                end,
-                after_break,
-            })?;
-            after_break = false;
-            rest = behind;
-        }
+    let (mut after_break, mut rest) = skip(bytes);
+    while !rest.is_empty() {
+        let start = bytes.len() - rest.len();
+        let Some((kind, behind)) = token(alloc, rest)? else {
+            return Err(LexStop::At(start));
+        };
+        tokens.push(Token {
+            kind,
+            start,
+            end: bytes.len() - behind.len(),
+            after_break,
+        })?;
+        (after_break, rest) = skip(behind);
     }
     Ok(Items::from_vec(tokens))
 }
@@ -130,5 +135,4 @@ pub fn lex(alloc: Global, bytes: &[u8]) -> Result<Tokens, LexStop>
 /// A text has at most one list of tokens.
 pub fn one_lexing()
     ensures { (text : List ℕ) (a b : List Token) → Lexes text a → Lexes text b → a ≡ b }
-{
-}
+{}

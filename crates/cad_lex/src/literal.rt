@@ -27,6 +27,7 @@ fn behind_digits(mut bytes: &[u8]) -> &[u8]
 }
 
 /// The digits at the front, and the bytes behind them.
+#[tactic(auto, using(crate::proofs::Runs::length_behind, crate::proofs::Runs::take_behind))]
 pub fn split_digits(bytes: &[u8]) -> (&[u8], &[u8])
     ensures digits { result.0.now ≡ spec.front spec.is_decimal bytes.now }
     ensures rest { result.1.now ≡ spec.behind spec.is_decimal bytes.now }
@@ -56,9 +57,9 @@ fn digit_value(byte: u8) -> u8
     }
 }
 
-#[tactic(auto, unfolding(crate::specs::Reading::number_128))]
+#[tactic(auto, unfolding(crate::specs::Reading::number_from))]
 fn number(mut digits: &[u8]) -> Option<u128>
-    ensures { result ≡ spec.number_128 digits.entry.now }
+    ensures { result ≡ spec.number_from 0 digits.entry.now }
 {
     let mut value: u128 = 0;
     while let [digit, rest @ ..] = digits {

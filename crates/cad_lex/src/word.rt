@@ -1,5 +1,5 @@
 // Words: keywords and names.
-ghost use Rattle.std.specs.Prelude.{◌≡◌, IfOk};
+ghost use Rattle.std.specs.Prelude.{◌≡◌, IfOk, IsUtf8};
 ghost use Rattle.cad_syntax.specs.Lexes.{is_name_start, is_name_part};
 ghost use Rattle.cad_lex.specs.Reading as spec;
 
@@ -32,14 +32,26 @@ fn behind_word(mut bytes: &[u8]) -> &[u8]
     bytes
 }
 
+// ASCII bytes as a text.
+fn text_of(word: &[u8]) -> &str
+    requires { IsUtf8 word.now }
+    ensures { result.now ≡ word.now }
+{
+    match str::from_utf8(word) {
+        Ok(text) => text,
+        Err(_) => unreachable!(),
+    }
+}
+
 /// The word at the front, and the bytes behind it.
+#[tactic(auto, using(crate::proofs::Runs::length_behind, crate::proofs::Runs::take_behind))]
 pub fn split_word(bytes: &[u8]) -> (&str, &[u8])
     ensures word { result.0.now ≡ spec.front is_name_part bytes.now }
     ensures rest { result.1.now ≡ spec.behind is_name_part bytes.now }
 {
     let rest = behind_word(bytes);
     let word = &bytes[..bytes.len() - rest.len()];
-    (str::from_utf8(word).unwrap(), rest)
+    (text_of(word), rest)
 }
 
 #[tactic(auto, unfolding(crate::specs::Reading::of_two))]
