@@ -1,0 +1,8 @@
+//! The tokens of a text.
+#![tactic(auto)]
+
+mod lexer;
+mod literal;
+mod word;
+
+pub use lexer::{LexStop, lex};
