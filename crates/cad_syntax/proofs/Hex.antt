@@ -1,15 +1,15 @@
 -- Hexadecimal digits.
-use Rattle.std.proofs.Common.{◌≡◌, ℕ, zero, suc, ◌+◌, ◌-◌, ◌*◌, ◌/◌, ◌%◌, ◌^◌, ◌<◌, ◌≤◌, true, List, [], ◌∷◌, ◌++◌, length, get_or, take, refl, arith, append_assoc, append-nil, add-one, sub-one, rules, ◌≢◌}
+use Rattle.std.proofs.Common.{◌≡◌, ℕ, zero, suc, ◌+◌, ◌-◌, ◌*◌, ◌/◌, ◌%◌, ◌^◌, ◌<◌, ◌≤◌, true, List, [], ◌∷◌, ◌++◌, length, get_or, take, refl, arith, append_assoc, append-nil, add-one, sub-one, rules, ◌≢◌, length-append, Some}
 use Rattle.std.specs.Prelude.{encode_utf8}
 use Rattle.std.proofs.Math.Nat.{pow-suc, pow-le-pow_right}
-use Rattle.std.proofs.lemmas.Int.Digits.{digits_value_more}
-use Rattle.std.proofs.lemmas.List.Folds.{list_all_more}
+use Rattle.std.proofs.lemmas.Int.Digits.{digits_value_more, digits_value_push}
+use Rattle.std.proofs.lemmas.List.Folds.{list_all_more, list_all-append}
 use Rattle.std.proofs.lemmas.Str.{encode_ascii}
 use Rattle.std.proofs.lemmas.Bool.Decides.{nat_tests}
 use Rattle.std.specs.Char.{digit_value, digit_char, is_digit}
 use Rattle.std.specs.List.{list_all}
 use Rattle.std.specs.Str.Parse.{digits_value}
-use Rattle.cad_syntax.specs.Addresses.{hex_digits}
+use Rattle.cad_syntax.specs.Addresses.{hex_digits, address_of, address_text}
 
 -- one more digit
 pub small_more : (n i d : ℕ) → n < 16 ^ i → d < 16 → 16 * n + d < 16 ^ (i + 1)
@@ -52,3 +52,32 @@ pub hex_pushed : (text middle new : List ℕ) (code : ℕ) (k n : ℕ) → k ≢
 hex_pushed text middle new code k n some e f g =
     let positive : 0 < k = omega arith in
     rw (g, e, f, digit_byte n, hex_digits_more k n positive, append_assoc) refl
+
+digit_value_char : (d : ℕ) → d < 16 → digit_value (digit_char d) ≡ d
+digit_value_char d small = grind (arith, nat_tests)
+
+pub length_hex_digits : (k n : ℕ) → length (hex_digits k n) ≡ k
+unfolding hex_digits
+length_hex_digits zero n = refl
+length_hex_digits (suc k) n = rw (length-append, length_hex_digits k (n / 16)) (omega arith)
+
+pub all_hex_digits : (k n : ℕ) → list_all (λ c. is_digit c 16) (hex_digits k n) ≡ true
+unfolding hex_digits
+all_hex_digits zero n = refl
+all_hex_digits (suc k) n =
+    let small : n % 16 < 16 = omega arith in
+    rw (list_all-append (λ c. is_digit c 16) (hex_digits k (n / 16)) (digit_char (n % 16) ∷ []), all_hex_digits k (n / 16), digit_value_char (n % 16) small) (search (rules, nat_tests))
+
+pub value_hex_digits : (k n : ℕ) → n < 16 ^ k → digits_value 16 (hex_digits k n) ≡ n
+unfolding hex_digits
+value_hex_digits zero n small = omega arith
+value_hex_digits (suc k) n small =
+    let last : n % 16 < 16 = omega arith in
+    let bound : n < 16 ^ k * 16 = rw pow-suc at small in
+    let front : n / 16 < 16 ^ k = omega arith in
+    rw (digits_value_push 16 (hex_digits k (n / 16)) (digit_char (n % 16)), value_hex_digits k (n / 16) front, digit_value_char (n % 16) last) (omega arith)
+
+-- the text of an address writes that address
+pub address_of-address_text : (n : ℕ) → n < 2 ^ 64 → address_of (address_text n) ≡ Some n
+address_of-address_text n small =
+    rw (length_hex_digits 16 n, all_hex_digits 16 n, value_hex_digits 16 n small) refl

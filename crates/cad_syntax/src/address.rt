@@ -63,7 +63,7 @@ impl Address {
 }
 
 /// The number that hexadecimal digits in either case write. None exactly where one of them is no digit.
-fn hex_number(digits: &[u8]) -> Option<u64>
+pub(crate) fn hex_number(digits: &[u8]) -> Option<u64>
     requires { length digits.now ≤ 16 }
     ensures { result ≡ spec.hex_number digits.now }
 {

@@ -4,6 +4,8 @@
 mod address;
 mod items;
 mod kind;
+pub mod laws;
+mod names;
 mod num;
 mod text;
 mod token;
@@ -13,6 +15,7 @@ mod types;
 pub use address::{Address, Addresses, Domain, Numbers, Path};
 pub use items::{Bytes, Items, Names, Tokens};
 pub use kind::Kind;
+pub use names::is_name;
 pub use num::Num;
 pub use text::{Name, Text};
 pub use token::{Keyword, Sign, Token, TokenKind};
