@@ -99,6 +99,17 @@ impl<T: Copy> Items<T> {
     }
 }
 
+impl<T: Clone> Clone for Items<T> {
+    ghost is_clone = { λ it copy. ((x y : T) → T.is_clone x y → y ≡ x) → copy ≡ it };
+
+    fn clone(&self) -> Result<Items<T>, AllocError> {
+        let alloc = *self.items.allocator();
+        Ok(Items {
+            items: Vec::from_clones(alloc, self.as_slice())?,
+        })
+    }
+}
+
 impl<T: PartialEq> PartialEq for Items<T> {
     ghost eq = { pointwise T.eq };
 

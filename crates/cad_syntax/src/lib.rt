@@ -1,14 +1,23 @@
 //! The values that all crates speak of: texts, lists, kinds of numbers, numbers and tokens.
 #![tactic(auto)]
 
+mod address;
 mod items;
 mod kind;
+pub mod laws;
+mod names;
 mod num;
 mod text;
 mod token;
+mod type_id;
+mod types;
 
+pub use address::{Address, Addresses, Domain, Numbers, Path};
 pub use items::{Bytes, Items, Names, Tokens};
 pub use kind::Kind;
+pub use names::is_name;
 pub use num::Num;
 pub use text::{Name, Text};
 pub use token::{Keyword, Sign, Token, TokenKind};
+pub use type_id::{Pairs, TypeId, TypeIds};
+pub use types::{Authorization, Basic, CadType, Types};

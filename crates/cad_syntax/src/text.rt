@@ -1,5 +1,5 @@
 // Texts and names.
-ghost use Rattle.std.specs.Prelude.{◌≡◌, ◌++◌, [], ℕ, List, IfOk, OnOk, OnErr, string_bytes};
+ghost use Rattle.std.specs.Prelude.{◌≡◌, ◌++◌, [], ℕ, List, IfOk, OnOk, OnErr, string_bytes, encode_utf8};
 ghost use Rattle.std.specs.Cmp.Lexicographic.{pointwise, lists_per, lists_equiv};
 ghost use Rattle.std.specs.Prelude.{◌==◌};
 ghost use Rattle.std.proofs.Common.{rules};
@@ -69,6 +69,24 @@ impl Text {
     {
         self.text.push_str(more)
     }
+
+    /// Appends a character. After want of memory it is as it was.
+    pub fn push(&mut self, more: char) -> Result<(), AllocError>
+        ensures ok { OnOk result (self.new ≡ self.old ++ encode_utf8 more) }
+        ensures err { OnErr result (self.new ≡ self.old) }
+    {
+        self.text.push(more)
+    }
+}
+
+impl Clone for Text {
+    ghost is_clone = { λ text copy. copy ≡ text };
+
+    fn clone(&self) -> Result<Text, AllocError> {
+        Ok(Text {
+            text: self.text.clone()?,
+        })
+    }
 }
 
 impl PartialEq for Text {
@@ -88,3 +106,11 @@ impl Eq for Text {
 /// A name: of a declaration, a field or a variable, and the identifier of a path.
 #[derive(Debug, Drop, PartialEq, Eq)]
 pub struct Name(pub Text);
+
+impl Clone for Name {
+    ghost is_clone = { λ name copy. copy ≡ name };
+
+    fn clone(&self) -> Result<Name, AllocError> {
+        Ok(Name(self.0.clone()?))
+    }
+}
