@@ -8,6 +8,7 @@ mod folder;
 mod host;
 mod memory;
 mod record;
+mod replay;
 mod schedule;
 mod sure;
 mod tapes;
