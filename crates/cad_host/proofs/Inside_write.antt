@@ -2,6 +2,7 @@
 use Rattle.std.proofs.Common.{◌≡◌, ◌⊎◌, inl, inr, ⊎_elim, ℕ, ◌+◌, ◌-◌, ◌<◌, ◌≤◌, List, ◌∷◌, ◌++◌, length, take, drop, min, sym, ◌∙◌, subst, arith, length-append, length-take, length-drop}
 use Rattle.cad_host.specs.declared.host.Tape.{Tape}
 use Rattle.cad_host.specs.Disk.{Event, wrote, TapeState, state, reads, overwritten, IsImage, IsDisk}
+use Rattle.cad_host.specs.Crash.{IsSettled}
 use Rattle.cad_host.proofs.Images.{each_tape, state_wrote, other_wrote}
 use Rattle.cad_host.proofs.Lists.{get_or_over, length_over}
 
@@ -22,8 +23,8 @@ module _ (s : TapeState) (at k : ℕ) (bytes c : List ℕ) (inside : at ≤ leng
             ∙ sym (get_or_over s.reads bytes at i (omega (arith, settled, below)) outside.0);
       }
 
-pub inside_write : (m : List Event) (t : Tape) (at k : ℕ) (bytes : List ℕ) (disk : Tape → List ℕ) → at ≤ length (reads m t) → (state t m).settled ≤ length (reads m t)
+pub inside_write : (m : List Event) (t : Tape) (at k : ℕ) (bytes : List ℕ) (disk : Tape → List ℕ) → at ≤ length (reads m t) → IsSettled m
     → IsDisk (wrote t at (take k bytes) ∷ m) disk → IsDisk (wrote t at bytes ∷ m) disk
 inside_write m t at k bytes disk inside settled left = each_tape t (λ u. IsImage (state u (wrote t at bytes ∷ m)) (disk u))
-    (subst (λ s. IsImage s (disk t)) (sym (state_wrote t at bytes m)) (front_within (state t m) at k bytes (disk t) inside settled (subst (λ s. IsImage s (disk t)) (state_wrote t at (take k bytes) m) (left t))))
+    (subst (λ s. IsImage s (disk t)) (sym (state_wrote t at bytes m)) (front_within (state t m) at k bytes (disk t) inside (settled t) (subst (λ s. IsImage s (disk t)) (state_wrote t at (take k bytes) m) (left t))))
     (λ u other. subst (λ s. IsImage s (disk u)) (other_wrote u t at (take k bytes) m other ∙ sym (other_wrote u t at bytes m other)) (left u))

@@ -69,3 +69,6 @@ settled_sync u old new did settled = ⊎_elim
 
 pub settled_put : (bytes : List ℕ) (old new : List Event) → (new ≡ put bytes ∷ old) ⊎ BreaksPut bytes old new → IsSettled old → IsSettled new
 settled_put bytes old new did settled t = subst Bounded (sym (put_state bytes old new t did)) (settled t)
+
+pub reads_disk : (m : List Event) → IsSettled m → IsDisk m (reads m)
+reads_disk m settled t = reads_image (state t m) (settled t)

@@ -7,7 +7,7 @@ use Rattle.cad_host.specs.declared.host.Tape.{Tape}
 use Rattle.cad_host.specs.declared.host.Tape.TheVariants.{A, B, Pick}
 use Rattle.cad_host.specs.declared.call.Call.{Call}
 use Rattle.cad_host.specs.Disk.{Event, wrote, filled, TapeState, state, reads, after, same_tape, overwritten, Outside, IsImage, IsDisk, IsClean}
-use Rattle.cad_host.specs.Crash.{IsFilledImage, IsReplayed, at_moment}
+use Rattle.cad_host.specs.Crash.{IsFilledImage, IsReplayed, IsSettled, at_moment}
 use Rattle.cad_host.specs.Record.{event_of, onto, trace_of}
 use Rattle.cad_host.proofs.Recorded.{trace_push}
 use Rattle.cad_host.proofs.Images.{same_refl}
@@ -16,6 +16,9 @@ use Rattle.cad_host.proofs.Lists.{get_or_over, get_or_within, length_over, long_
 -- the image of a crash is one
 pub filled_image : (fill : ℕ) (s : TapeState) (c : List ℕ) → s.settled ≤ length s.reads → IsFilledImage fill s c → IsImage s c
 filled_image fill s c settled image = record { no_shorter = omega (arith, image.long); no_longer = omega (arith, image.long); same = image.stays }
+
+pub filled_disk : (m : List Event) (fill : ℕ) (disk : Tape → List ℕ) → IsSettled m → ((t : Tape) → IsFilledImage fill (state t m) (disk t)) → IsDisk m disk
+filled_disk m fill disk settled exact t = filled_image fill (state t m) (disk t) (settled t) (exact t)
 
 -- a write that stands within the tape
 module _ (fill at : ℕ) (bytes filling : List ℕ) (s : TapeState) (image : List ℕ) (settled : s.settled ≤ length s.reads) (old : IsFilledImage fill s image) (filling_is : filling ≡ replicate (length bytes) fill) where
@@ -152,3 +155,14 @@ replay_all fill tape calls i now image is r =
     let exact : IsFilledImage fill (state tape (trace_of calls)) image = subst (λ (l : List Call). IsFilledImage fill (state tape (trace_of l)) image) whole r.image_so in
     let settled : (state tape (trace_of calls)).settled ≤ length (reads (trace_of calls) tape) = subst (λ (l : List Call). (state tape (trace_of l)).settled ≤ length (reads (trace_of l) tape)) whole r.settled_so in
     (exact, filled_image fill (state tape (trace_of calls)) image settled exact)
+
+-- a host over the images of the front of a record is one over those of that moment
+module _ (calls past : List Call) (k : ℕ) (inside : k ≤ length calls) (front : past ≡ take k calls) (n : List Event) (a b pick : List ℕ) (is : n ≡ three a b pick) where
+  moment : trace_of past ≡ at_moment (trace_of calls) k
+  moment = ap trace_of front ∙ sym (trace_moment calls k inside)
+
+  pub crash_exact : (fill : ℕ) → IsFilledImage fill (state A (trace_of past)) a → IsFilledImage fill (state B (trace_of past)) b → IsFilledImage fill (state Pick (trace_of past)) pick → (t : Tape) → IsFilledImage fill (state t (at_moment (trace_of calls) k)) (reads n t)
+  crash_exact fill in_a in_b in_pick = subst (λ m. Exact fill m n) moment (three_exact fill (trace_of past) n a b pick is in_a in_b in_pick)
+
+  pub crash_image : IsImage (state A (trace_of past)) a → IsImage (state B (trace_of past)) b → IsImage (state Pick (trace_of past)) pick → IsDisk (at_moment (trace_of calls) k) (reads n)
+  crash_image in_a in_b in_pick = subst (λ m. IsDisk m (reads n)) moment (three_images (trace_of past) n a b pick is in_a in_b in_pick)
