@@ -1,5 +1,5 @@
 -- What each call leaves as it was.
-use Rattle.std.proofs.Common.{◌≡◌, ◌⊎◌, ⊎_elim, ℕ, ◌≤◌, List, [], ◌∷◌, length, take, refl, sym, ◌∙◌, ap, subst, arith, if◌then◌else◌}
+use Rattle.std.proofs.Common.{◌≡◌, ◌⊎◌, ⊎_elim, ℕ, ◌≤◌, List, [], ◌∷◌, length, refl, sym, ap, subst, arith}
 use Rattle.cad_host.specs.declared.host.Tape.{Tape}
 use Rattle.cad_host.specs.Disk.{Event, wrote, synced, broke, filled, put, TapeState, state, reads, IsImage, IsDisk, overwritten, output, BreaksWrite, BreaksSync, BreaksPut}
 use Rattle.cad_host.specs.Crash.{IsSettled}

@@ -1,5 +1,5 @@
 -- A replay of a record of calls on what a tape reads and on the image of a crash.
-use Rattle.std.proofs.Common.{◌≡◌, ◌⊎◌, inl, inr, ⊎_elim, ℕ, ◌+◌, ◌-◌, ◌<◌, ◌≤◌, Bool, true, false, List, [], ◌∷◌, ◌++◌, length, get_or, take, drop, min, replicate, refl, sym, ◌∙◌, ap, subst, arith, if◌then◌else◌, length-append, length-take, length-drop, append_assoc, take-append-drop}
+use Rattle.std.proofs.Common.{◌≡◌, inl, inr, ⊎_elim, ℕ, ◌+◌, ◌-◌, ◌<◌, ◌≤◌, true, List, [], ◌∷◌, ◌++◌, length, get_or, take, drop, min, replicate, refl, sym, ◌∙◌, ap, subst, arith, if◌then◌else◌, length-append, length-drop, append_assoc, take-append-drop}
 use Rattle.std.proofs.lemmas.List.{take_all, get_or-replicate, length-replicate, drop_at}
 use Rattle.std.proofs.lemmas.Bool.{cases_lt}
 use Rattle.std.proofs.lemmas.Grind.{take_at_read}
@@ -10,7 +10,6 @@ use Rattle.cad_host.specs.Disk.{Event, wrote, filled, TapeState, state, reads, a
 use Rattle.cad_host.specs.Crash.{IsFilledImage, IsReplayed, IsSettled, at_moment}
 use Rattle.cad_host.specs.Record.{event_of, onto, trace_of}
 use Rattle.cad_host.proofs.Recorded.{trace_push}
-use Rattle.cad_host.proofs.Images.{same_refl}
 use Rattle.cad_host.proofs.Lists.{get_or_over, get_or_within, length_over, long_over, over_past}
 
 -- the image of a crash is one

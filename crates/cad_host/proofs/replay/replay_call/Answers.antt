@@ -1,4 +1,4 @@
-use Rattle.std.proofs.Common.{rules, ◌≡◌, length, min, replicate, sym, ◌∙◌, ap, subst}
+use Rattle.std.proofs.Common.{rules, ◌≡◌, length, min, replicate, sym, subst}
 use Rattle.cad_host.specs.Disk.{after, overwritten}
 use Rattle.cad_host.specs.Crash.{IsReplayed}
 use Rattle.cad_host.specs.Record.{event_of}

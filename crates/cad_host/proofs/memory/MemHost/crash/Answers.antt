@@ -1,4 +1,4 @@
-use Rattle.std.proofs.Common.{◌≡◌, ◌≤◌, ◌∙◌, ap, arith, length, take, length-take}
+use Rattle.std.proofs.Common.{◌≤◌, ◌∙◌, ap, arith, length, take, length-take}
 use Rattle.std.proofs.lemmas.Result.{IfOk-weaker}
 use Rattle.cad_host.specs.Disk.{state, reads, IsDisk}
 use Rattle.cad_host.specs.Crash.{at_moment, IsFilledImage}
