@@ -52,19 +52,19 @@ pub settled_write : (u : Tape) (at : ℕ) (bytes : List ℕ) (old new : List Eve
 settled_write u at bytes old new did settled = ⊎_elim
     (λ is. subst IsSettled (sym is) (settled_wrote u at bytes old settled))
     (λ broken. ⊎_elim
-      (λ is. subst IsSettled (sym is) settled)
-      (λ part. let image : IsImage (record { reads = overwritten (reads old u) at bytes; settled = (state u old).settled; loose = (at, length bytes) ∷ (state u old).loose }) part.0 = subst (λ s. IsImage s part.0) (state_wrote u at bytes old) part.1 in
-      subst IsSettled (sym part.2) (settled_broke u at (length bytes) part.0 old image.no_shorter settled))
-      broken)
+    (λ is. subst IsSettled (sym is) settled)
+    (λ part. let image : IsImage (record { reads = overwritten (reads old u) at bytes; settled = (state u old).settled; loose = (at, length bytes) ∷ (state u old).loose }) part.0 = subst (λ s. IsImage s part.0) (state_wrote u at bytes old) part.1 in
+    subst IsSettled (sym part.2) (settled_broke u at (length bytes) part.0 old image.no_shorter settled))
+    broken)
     did
 
 pub settled_sync : (u : Tape) (old new : List Event) → (new ≡ synced u ∷ old) ⊎ BreaksSync u old new → IsSettled old → IsSettled new
 settled_sync u old new did settled = ⊎_elim
     (λ is. subst IsSettled (sym is) (settled_synced u old settled))
     (λ broken. ⊎_elim
-      (λ is. subst IsSettled (sym is) settled)
-      (λ part. subst IsSettled (sym part.2) (settled_broke u 0 0 part.0 old part.1.no_shorter settled))
-      broken)
+    (λ is. subst IsSettled (sym is) settled)
+    (λ part. subst IsSettled (sym part.2) (settled_broke u 0 0 part.0 old part.1.no_shorter settled))
+    broken)
     did
 
 pub settled_put : (bytes : List ℕ) (old new : List Event) → (new ≡ put bytes ∷ old) ⊎ BreaksPut bytes old new → IsSettled old → IsSettled new

@@ -1,6 +1,8 @@
 -- Runs, one after the other.
-use Rattle.std.proofs.Common.{◌≡◌, List, [], ◌∷◌, ◌++◌, refl, sym, ◌∙◌, ap, subst, append_assoc}
+use Rattle.std.proofs.Common.{◌≡◌, ⊎_elim, ℕ, suc, ◌-◌, ◌≤◌, List, [], ◌∷◌, ◌++◌, length, drop, refl, sym, ◌∙◌, ap, subst, arith, append_assoc}
+use Rattle.std.proofs.lemmas.Bool.{cases_lt}
 use Rattle.cad_host.specs.Disk.{Event, Each, Ran}
+use Rattle.cad_host.specs.Crash.{at_moment}
 
 each_joined : (P : List Event → Type 0) (later since old : List Event) → Each P later (since ++ old) → Each P since old → Each P (later ++ since) old
 each_joined P [] since old second first = first
@@ -50,3 +52,17 @@ ran_end P old new ran = subst P (sym ran.is) (last ran.since ran.each)
     last : (since : List Event) → Each P since old → P (since ++ old)
     last [] p = p
     last (e ∷ since) p = p.0
+
+-- and so is each that a crash may be asked for
+pub ran_moment : (P : List Event → Type 0) (old new : List Event) (moment : ℕ) → Ran old new P → length old ≤ moment → moment ≤ length new → P (at_moment new moment)
+ran_moment P old new moment ran from to = subst (λ (m : List Event). P (at_moment m moment)) (sym ran.is) (among ran.since ran.each (subst (λ (m : List Event). moment ≤ length m) ran.is to))
+  where
+    at : (m : List Event) (n : ℕ) → n ≡ 0 → P m → P (drop n m)
+    at m n is p = subst (λ (k : ℕ). P (drop k m)) (sym is) p
+
+    among : (since : List Event) → Each P since old → moment ≤ length (since ++ old) → P (drop (length (since ++ old) - moment) (since ++ old))
+    among [] p within = at old (length old - moment) (omega (arith, from)) p
+    among (e ∷ since) p within = ⊎_elim
+        (λ earlier. subst (λ (k : ℕ). P (drop k (e ∷ (since ++ old)))) (let one : suc (length (since ++ old) - moment) ≡ suc (length (since ++ old)) - moment = omega (arith, earlier) in one) (among since p.1 (omega (arith, earlier))))
+        (λ last. at (e ∷ (since ++ old)) (suc (length (since ++ old)) - moment) (omega (arith, last)) p.0)
+        (cases_lt moment (suc (length (since ++ old))))

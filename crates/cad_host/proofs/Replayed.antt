@@ -39,14 +39,14 @@ module _ (fill at : ℕ) (bytes filling : List ℕ) (s : TapeState) (image : Lis
       (λ before. get_or_over image filling (min at (length image)) i (omega (arith, before)) (inl before)
       ∙ old.loose i (omega (arith, before, old.long)) (λ kept. not_kept (kept.0, (inl (omega (arith, before)), kept.1))))
       (λ from. ⊎_elim
-        (λ within. get_or_within image filling (min at (length image)) i (omega arith) from (omega (arith, within, long_filling))
-        ∙ ap (λ (l : List ℕ). get_or l (i - min at (length image)) 0) filling_is
-        ∙ get_or-replicate (length bytes) (i - min at (length image)) fill 0 (omega (arith, within, from)))
-        (λ behind. let in_old : i < length s.reads = omega (arith, behind, inside, length_over s.reads bytes at, old.long) in
-        let past : at + length bytes ≤ i = omega (arith, behind, in_old, old.long) in
-        get_or_over image filling (min at (length image)) i (omega (arith, in_old, old.long)) (inr (omega (arith, behind, long_filling)))
-        ∙ old.loose i in_old (λ kept. not_kept (kept.0, (inr past, kept.1))))
-        (cases_lt i (min at (length image) + length bytes)))
+      (λ within. get_or_within image filling (min at (length image)) i (omega arith) from (omega (arith, within, long_filling))
+      ∙ ap (λ (l : List ℕ). get_or l (i - min at (length image)) 0) filling_is
+      ∙ get_or-replicate (length bytes) (i - min at (length image)) fill 0 (omega (arith, within, from)))
+      (λ behind. let in_old : i < length s.reads = omega (arith, behind, inside, length_over s.reads bytes at, old.long) in
+      let past : at + length bytes ≤ i = omega (arith, behind, in_old, old.long) in
+      get_or_over image filling (min at (length image)) i (omega (arith, in_old, old.long)) (inr (omega (arith, behind, long_filling)))
+      ∙ old.loose i in_old (λ kept. not_kept (kept.0, (inr past, kept.1))))
+      (cases_lt i (min at (length image) + length bytes)))
       (cases_lt i (min at (length image)))
 
   pub write_filled : IsFilledImage fill (record { reads = overwritten s.reads at bytes; settled = s.settled; loose = (at, length bytes) ∷ s.loose }) (overwritten image (min at (length image)) filling)
