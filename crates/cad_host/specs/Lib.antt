@@ -5,3 +5,4 @@ pub mod Schedule
 pub mod Tapes
 pub mod Record
 pub mod Memory
+pub mod Crash

@@ -23,6 +23,12 @@ pub record IsPlanned (host : MemHost) (takes puts disks : List ℕ) : Type 0 whe
   pub no_puts : host.puts.calls ≡ 0
   pub no_disks : host.disks.calls ≡ 0
 
+-- no call failed
+pub record HasNoFaults (host : MemHost) : Type 0 where
+  pub input : host.input_faults ≡ 0
+  pub output : host.output_faults ≡ 0
+  pub disk : host.disk_faults ≡ 0
+
 -- no call is to fail
 pub record IsSure (host : MemHost) : Type 0 where
   pub takes : host.takes.failing.items ≡ []

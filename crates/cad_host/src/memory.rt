@@ -1,6 +1,7 @@
 // A host in memory.
 ghost use Rattle.std.specs.Prelude.{◌≡◌, ◌≤◌, ◌<◌, ◌-◌, ◌^◌, ◌++◌, ◌↔◌, List, ℕ, length, take, drop, min, [], ◌∷◌, false, IfOk, OnOk, OnErr, IsErr, IsTrue};
-ghost use Rattle.cad_host.specs.Disk.{Event, reads, output, filled, Writes, Syncs, Puts};
+ghost use Rattle.cad_host.specs.Disk.{Event, state, reads, IsDisk, IsClean, output, filled, Writes, Syncs, Puts};
+ghost use Rattle.cad_host.specs.Crash.{at_moment, IsFilledImage};
 ghost use Rattle.cad_host.specs.Faults.{IsCaused};
 ghost use Rattle.cad_host.specs.Input.{Taking};
 ghost use Rattle.cad_host.specs.Record.{trace_of};
@@ -9,6 +10,7 @@ ghost use Rattle.cad_host.specs.declared.host.Tape.{Tape};
 
 use crate::call::Call;
 use crate::faults::fault;
+use crate::replay::image_of;
 use crate::schedule::Schedule;
 use crate::tapes::{Tapes, read_at};
 use crate::{Failed, Host, Tape, record};
@@ -37,7 +39,7 @@ pub struct MemHost {
 }
 
 impl MemHost {
-    ghost use Rattle.cad_host.specs.Memory.{IsPlanned, CountsNone};
+    ghost use Rattle.cad_host.specs.Memory.{IsPlanned, IsSure, HasNoFaults, CountsNone};
 
     /// A host with this input and empty tapes. The takes, puts and disk calls of these numbers fail, each counted from 0.
     pub fn new(
@@ -95,6 +97,47 @@ impl MemHost {
         ensures counted { CountsNone self.old self.new }
     {
         record::fill(self.alloc, &mut self.calls, &mut self.tapes, tape, bytes)
+    }
+
+    /// The moment: how many events came so far. A look at the tapes or the input is none.
+    #[tactic(auto, using(crate::proofs::Replayed::length_trace))]
+    pub fn now(&self) -> u64
+        ensures { result ≡ length (⟦<MemHost as Host>⟧.trace self.now) }
+    {
+        self.calls.len() as u64
+    }
+
+    /// A host without failing calls whose tapes are an image of an earlier moment, with nothing pending: as long as what
+    /// reads there, and each byte that may be anything is `fill`. It has no input and no output.
+    pub fn crash(&self, moment: u64, fill: u8) -> Result<MemHost, AllocError>
+        requires { moment ≤ length (⟦<MemHost as Host>⟧.trace self.now) }
+        ensures image { IfOk result (λ h. IsDisk (at_moment (⟦<MemHost as Host>⟧.trace self.now) moment) (reads (⟦<MemHost as Host>⟧.trace h))) }
+        ensures exact { IfOk result (λ h. (t : Tape) → IsFilledImage fill (state t (at_moment (⟦<MemHost as Host>⟧.trace self.now) moment)) (reads (⟦<MemHost as Host>⟧.trace h) t)) }
+        ensures clean { IfOk result (λ h. (t : Tape) → IsClean (state t (⟦<MemHost as Host>⟧.trace h))) }
+        ensures output { IfOk result (λ h. output (⟦<MemHost as Host>⟧.trace h) ≡ []) }
+        ensures left { IfOk result (λ h. ⟦<MemHost as Host>⟧.left h ≡ []) }
+        ensures faults { IfOk result HasNoFaults }
+        ensures sure { IfOk result IsSure }
+    {
+        let past = &self.calls[..moment as usize];
+        let a = image_of(self.alloc, past, Tape::A, fill)?;
+        let b = image_of(self.alloc, past, Tape::B, fill)?;
+        let pick = image_of(self.alloc, past, Tape::Pick, fill)?;
+        MemHost::over(self.alloc, &a, &b, &pick)
+    }
+
+    /// A host without failing calls over these tapes, with nothing pending.
+    fn over(alloc: Global, a: &[u8], b: &[u8], pick: &[u8]) -> Result<MemHost, AllocError>
+        ensures trace { IfOk result (λ h. ⟦<MemHost as Host>⟧.trace h ≡ filled Tape.Pick pick.now ∷ filled Tape.B b.now ∷ filled Tape.A a.now ∷ []) }
+        ensures left { IfOk result (λ h. ⟦<MemHost as Host>⟧.left h ≡ []) }
+        ensures faults { IfOk result HasNoFaults }
+        ensures sure { IfOk result IsSure }
+    {
+        let mut host = MemHost::new(alloc, &[], &[], &[], &[])?;
+        host.fill(Tape::A, a)?;
+        host.fill(Tape::B, b)?;
+        host.fill(Tape::Pick, pick)?;
+        Ok(host)
     }
 }
 

@@ -1,9 +1,11 @@
 // A host in memory without failing calls.
 ghost use Rattle.std.specs.Prelude.{◌≡◌, ◌≤◌, ◌<◌, ◌-◌, ◌^◌, ◌++◌, ℕ, length, take, drop, min, [], ◌∷◌, IfOk, OnOk, OnErr, IsOk};
-ghost use Rattle.cad_host.specs.Disk.{reads, output, filled, Writes, Syncs, Puts};
+ghost use Rattle.cad_host.specs.Disk.{state, reads, IsDisk, IsClean, output, filled, Writes, Syncs, Puts};
+ghost use Rattle.cad_host.specs.Crash.{at_moment, IsFilledImage};
 ghost use Rattle.cad_host.specs.Faults.{IsCaused};
 ghost use Rattle.cad_host.specs.Input.{Taking};
 ghost use Rattle.cad_host.specs.Memory.{IsSure};
+ghost use Rattle.cad_host.specs.declared.host.Tape.{Tape};
 
 use crate::{Failed, Host, MemHost, Tape};
 use std::alloc::{AllocError, Global};
@@ -54,6 +56,31 @@ impl SureHost {
         ensures disk_faults { ⟦<SureHost as Host>⟧.disk_faults self.new ≡ ⟦<SureHost as Host>⟧.disk_faults self.old }
     {
         self.host.fill(tape, bytes)
+    }
+
+    /// The moment: how many events came so far. A look at the tapes or the input is none.
+    pub fn now(&self) -> u64
+        ensures { result ≡ length (⟦<SureHost as Host>⟧.trace self.now) }
+    {
+        self.host.now()
+    }
+
+    /// A host whose tapes are an image of an earlier moment, with nothing pending: as long as what reads there, and each
+    /// byte that may be anything is `fill`. It has no input and no output.
+    pub fn crash(&self, moment: u64, fill: u8) -> Result<SureHost, AllocError>
+        requires { moment ≤ length (⟦<SureHost as Host>⟧.trace self.now) }
+        ensures image { IfOk result (λ h. IsDisk (at_moment (⟦<SureHost as Host>⟧.trace self.now) moment) (reads (⟦<SureHost as Host>⟧.trace h))) }
+        ensures exact { IfOk result (λ h. (t : Tape) → IsFilledImage fill (state t (at_moment (⟦<SureHost as Host>⟧.trace self.now) moment)) (reads (⟦<SureHost as Host>⟧.trace h) t)) }
+        ensures clean { IfOk result (λ h. (t : Tape) → IsClean (state t (⟦<SureHost as Host>⟧.trace h))) }
+        ensures output { IfOk result (λ h. output (⟦<SureHost as Host>⟧.trace h) ≡ []) }
+        ensures left { IfOk result (λ h. ⟦<SureHost as Host>⟧.left h ≡ []) }
+        ensures input_faults { IfOk result (λ h. ⟦<SureHost as Host>⟧.input_faults h ≡ 0) }
+        ensures output_faults { IfOk result (λ h. ⟦<SureHost as Host>⟧.output_faults h ≡ 0) }
+        ensures disk_faults { IfOk result (λ h. ⟦<SureHost as Host>⟧.disk_faults h ≡ 0) }
+    {
+        Ok(SureHost {
+            host: self.host.crash(moment, fill)?,
+        })
     }
 }
 

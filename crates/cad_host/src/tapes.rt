@@ -65,7 +65,7 @@ impl Tapes {
 }
 
 /// Puts the bytes at `at` in place. The cost is that of the bytes, and not of what is held.
-fn overwrite(held: &mut Vec<u8>, at: usize, bytes: &[u8]) -> Result<(), AllocError>
+pub fn overwrite(held: &mut Vec<u8>, at: usize, bytes: &[u8]) -> Result<(), AllocError>
     requires { at ≤ length held.old.items }
     ensures ok { OnOk result (held.new.items ≡ overwritten held.old.items at bytes.now) }
     ensures err { OnErr result (held.new.items ≡ held.old.items) }

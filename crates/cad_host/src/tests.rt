@@ -75,3 +75,41 @@ fn files_keep_what_was_written(rt: HostRuntime) -> Result<(), Fail> {
     assert_eq!(rt; pick.as_slice(), b"1".as_slice());
     Ok(())
 }
+
+#[test]
+fn crashes_leave_images(rt: HostRuntime) -> Result<(), Fail> {
+    let mut host = SureHost::new(rt.alloc(), b"")?;
+    assert_eq!(rt; host.write(Tape::A, 0, b"hello"), Ok(()));
+    assert_eq!(rt; host.sync(Tape::A), Ok(()));
+    assert_eq!(rt; host.write(Tape::A, 1, b"ipp"), Ok(()));
+    assert_eq!(rt; host.write(Tape::A, 5, b"!?"), Ok(()));
+    assert_eq!(rt; host.sync(Tape::A), Ok(()));
+    assert_eq!(rt; host.now(), 5);
+    for (moment, image) in [
+        (0, ""),
+        (1, "....."),
+        (2, "hello"),
+        (3, "h...o"),
+        (4, "h...o.."),
+        (5, "hippo!?"),
+    ] {
+        assert!(rt; moment <= host.now());
+        let crashed = host.crash(moment, b'.')?;
+        assert_eq!(rt; crashed.tape(Tape::A), image.as_bytes(), "at {moment}");
+    }
+    Ok(())
+}
+
+#[test]
+fn a_filled_tape_has_nothing_pending(rt: HostRuntime) -> Result<(), Fail> {
+    let mut host = MemHost::new(rt.alloc(), b"", &[], &[], &[])?;
+    host.fill(Tape::Pick, b"1")?;
+    assert_eq!(rt; host.put(b"out"), Ok(()));
+    assert_eq!(rt; host.now(), 2);
+    let moment = 2;
+    assert!(rt; moment <= host.now());
+    let crashed = host.crash(moment, 0)?;
+    assert_eq!(rt; crashed.tape(Tape::Pick), b"1".as_slice());
+    assert_eq!(rt; crashed.output(), b"".as_slice());
+    Ok(())
+}

@@ -1,0 +1,14 @@
+use Rattle.cad_host.proofs.Kept.{settled_none, settled_put, settled_write, settled_sync}
+use Rattle.cad_host.proofs.laws.no_shorter_than_synced.Goals as goal
+
+pub returns-clause-none : goal.returns-clause-none
+returns-clause-none c = settled_none
+
+pub returns-clause-put : goal.returns-clause-put
+returns-clause-put c = settled_put
+
+pub returns-clause-write : goal.returns-clause-write
+returns-clause-write c = settled_write
+
+pub returns-clause-sync : goal.returns-clause-sync
+returns-clause-sync c = settled_sync
