@@ -1,5 +1,6 @@
 // Sums, products and quotients before they are put into a kind's range.
-ghost use Rattle.std.specs.Prelude.{◌≡◌, ◌*◌, ◌/◌, ◌<◌, ◌^◌, ◌⊎◌, ◌+ℤ◌, ◌-ℤ◌, ◌*ℤ◌, int_div, pos};
+ghost use Rattle.std.specs.Prelude.{◌≡◌, ◌*◌, ◌/◌, ◌%◌, ◌<◌, ◌^◌, ◌⊎◌, ◌+ℤ◌, ◌-ℤ◌, ◌*ℤ◌, int_div, pos};
+ghost use Rattle.std.specs.Bool.{FalseIff};
 ghost use Rattle.cad_syntax.specs.Kinds.{signed};
 ghost use Rattle.cad_num.specs.Numbers as spec;
 ghost use Rattle.cad_num.specs.Numbers.{IsExact, value_of};
@@ -44,16 +45,33 @@ fn signed_sum(a_negative: bool, a: u128, b_negative: bool, b: u128) -> Exact
     }
 }
 
+/// The low 128 bits of a product, and whether it has more. Factors of 64 bits need no test.
+fn multiplied(a: u128, b: u128) -> (u128, bool)
+    ensures low { result.0 ≡ (a * b) % 2 ^ 128 }
+    ensures over { FalseIff result.1 (a * b < 2 ^ 128) }
+{
+    if a < 1 << 64 && b < 1 << 64 {
+        (a * b, false)
+    } else {
+        a.overflowing_mul(b)
+    }
+}
+
 /// The quotient of a product, truncated, with a sign.
 fn scaled(negative: bool, a: u128, b: u128, divisor: u128) -> Exact
     requires divisible { 0 < divisor }
     requires exact { (a * b < 2 ^ 128) ⊎ (divisor ≡ 1) }
     ensures { IsExact result (signed negative (a * b / divisor)) }
 {
-    let (low, over) = a.overflowing_mul(b);
+    let (product, over) = multiplied(a, b);
+    let low = if divisor == 1 {
+        product
+    } else {
+        product / divisor
+    };
     Exact {
         negative,
-        low: low / divisor,
+        low,
         over,
     }
 }
