@@ -3,7 +3,7 @@ use Rattle.std.proofs.Common.{◌≡◌, ℕ, ◌-◌, ◌*◌, ◌^◌, true, l
 use Rattle.cad_syntax.specs.Kinds.{greatest, depth}
 use Rattle.cad_syntax.specs.declared.kind.Kind.{Kind}
 use Rattle.cad_syntax.specs.declared.kind.Kind.TheVariants.{Int, Int8, Int16, Int32, Int64, Int128, UInt, UInt8, UInt16, UInt32, UInt64, UInt128, Word8, Word16, Word32, Word64, Word128, Fix64, UFix64, Address}
-use Rattle.cad_num.specs.Numbers.{is_word, is_fixed}
+use Rattle.cad_num.specs.Numbers.{is_word, is_fixed, count_of}
 
 pub greatest_small : (kind : Kind) → ltb (greatest kind) (2 ^ 128) ≡ true
 greatest_small Int = refl
@@ -62,3 +62,30 @@ pub fixed_shallow : (kind : Kind) → is_fixed kind ≡ true → ltb (depth kind
 fixed_shallow Fix64 h = refl
 fixed_shallow UFix64 h = refl
 fixed_shallow _ h = cc
+
+-- each kind has 2 ^ k integers
+pub record IsBitRange (count : ℕ) : Type 0 where
+  pub bits : ℕ
+  pub count_is : count ≡ 2 ^ bits
+
+pub bit_range : (kind : Kind) → IsBitRange (count_of kind)
+bit_range Int = record { bits = 128; count_is = refl }
+bit_range Int8 = record { bits = 8; count_is = refl }
+bit_range Int16 = record { bits = 16; count_is = refl }
+bit_range Int32 = record { bits = 32; count_is = refl }
+bit_range Int64 = record { bits = 64; count_is = refl }
+bit_range Int128 = record { bits = 128; count_is = refl }
+bit_range UInt = record { bits = 128; count_is = refl }
+bit_range UInt8 = record { bits = 8; count_is = refl }
+bit_range UInt16 = record { bits = 16; count_is = refl }
+bit_range UInt32 = record { bits = 32; count_is = refl }
+bit_range UInt64 = record { bits = 64; count_is = refl }
+bit_range UInt128 = record { bits = 128; count_is = refl }
+bit_range Word8 = record { bits = 8; count_is = refl }
+bit_range Word16 = record { bits = 16; count_is = refl }
+bit_range Word32 = record { bits = 32; count_is = refl }
+bit_range Word64 = record { bits = 64; count_is = refl }
+bit_range Word128 = record { bits = 128; count_is = refl }
+bit_range Fix64 = record { bits = 64; count_is = refl }
+bit_range UFix64 = record { bits = 64; count_is = refl }
+bit_range Address = record { bits = 64; count_is = refl }

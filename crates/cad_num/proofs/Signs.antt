@@ -67,3 +67,14 @@ product_scaled s t m n d = ap (λ z. int_div z (pos d)) (product s t m n) ∙ qu
 -- a number as `Num::new` makes it
 pub signed-kept : (s t : Bool) (m n : ℕ) → s ≡ (t && not (eqb n 0)) → m ≡ n → signed s m ≡ signed t n
 signed-kept s t m n e f = ap (λ b. signed b m) e ∙ ap (signed (t && not (eqb n 0))) f ∙ signed-unsigned_zero t n
+
+pub product_unsigned : (s : Bool) (m d : ℕ) → signed s m *ℤ pos d ≡ signed s (m * d)
+product_unsigned true zero d = simp zero-mul
+product_unsigned true (suc m) d = refl
+product_unsigned false m d = refl
+
+pub quotient_rescaled : (s : Bool) (m d e : ℕ) → int_div (signed s m *ℤ pos d) (pos e) ≡ signed s (m * d / e)
+quotient_rescaled s m d e = ap (λ z. int_div z (pos e)) (product_unsigned s m d) ∙ quotient_scaled s (m * d) e
+
+pub quotient_divided : (s t : Bool) (m d n : ℕ) → int_div (signed s m *ℤ pos d) (signed t n) ≡ signed (not (beq s t)) (m * d / n)
+quotient_divided s t m d n = ap (λ z. int_div z (signed t n)) (product_unsigned s m d) ∙ quotient s t (m * d) n

@@ -1,38 +1,14 @@
-// Arithmetic on two numbers of one kind.
-ghost use Rattle.std.specs.Prelude.{◌≡◌, ℕ, ◌*◌, ◌/◌, ◌<◌, ◌^◌, ◌⊎◌, IfOk, ◌+ℤ◌, ◌*ℤ◌, int_div, pos};
-ghost use Rattle.cad_syntax.specs.Kinds.{signed};
+// Arithmetic on numbers.
+ghost use Rattle.std.specs.Prelude.{◌≡◌, IfOk, ◌+ℤ◌, ◌-ℤ◌, ◌*ℤ◌, neg_ℤ, int_div, int_rem, pos};
+ghost use Rattle.std.specs.Ordering.{int_cmp};
 ghost use Rattle.cad_num.specs.Numbers as spec;
-ghost use Rattle.cad_num.specs.Numbers.{outcome, valued, value_of};
+ghost use Rattle.cad_num.specs.Numbers.{outcome, valued, value_of, divided_by};
 
 use crate::error::NumError;
-use crate::fit::{fit, scale};
+use crate::exact::{difference, product, quotient, rescaled, sum, whole};
+use crate::fit::fit;
 use cad_syntax::{Kind, Num};
-
-/// The sum of two integers by sign and magnitude, as a number of a kind.
-fn sum(kind: Kind, a_negative: bool, a: u128, b_negative: bool, b: u128) -> Result<Num, NumError>
-    ensures value { valued result ≡ outcome kind (signed a_negative a +ℤ signed b_negative b) }
-    ensures kind { IfOk result (λ n. n.kind ≡ kind) }
-{
-    if a_negative == b_negative {
-        let (low, over) = a.overflowing_add(b);
-        fit(kind, a_negative, low, over)
-    } else if b <= a {
-        fit(kind, a_negative, a - b, false)
-    } else {
-        fit(kind, b_negative, b - a, false)
-    }
-}
-
-/// The quotient of a product, truncated, as a number of a kind.
-fn scaled(kind: Kind, negative: bool, a: u128, b: u128, divisor: u128) -> Result<Num, NumError>
-    requires divisible { 0 < divisor }
-    requires exact { (a * b < 2 ^ 128) ⊎ (divisor ≡ 1) }
-    ensures value { valued result ≡ outcome kind (signed negative (a * b / divisor)) }
-    ensures kind { IfOk result (λ n. n.kind ≡ kind) }
-{
-    let (low, over) = a.overflowing_mul(b);
-    fit(kind, negative, low / divisor, over)
-}
+use std::cmp::Ordering;
 
 /// The sum.
 pub fn add(a: Num, b: Num) -> Result<Num, NumError>
@@ -40,7 +16,16 @@ pub fn add(a: Num, b: Num) -> Result<Num, NumError>
     ensures value { valued result ≡ outcome a.kind (value_of a +ℤ value_of b) }
     ensures kind { IfOk result (λ n. n.kind ≡ a.kind) }
 {
-    sum(a.kind, a.negative, a.magnitude, b.negative, b.magnitude)
+    fit(a.kind, sum(a, b))
+}
+
+/// The difference.
+pub fn sub(a: Num, b: Num) -> Result<Num, NumError>
+    requires { a.kind ≡ b.kind }
+    ensures value { valued result ≡ outcome a.kind (value_of a -ℤ value_of b) }
+    ensures kind { IfOk result (λ n. n.kind ≡ a.kind) }
+{
+    fit(a.kind, difference(a, b))
 }
 
 /// The product; of a fixed-point kind truncated toward zero.
@@ -50,6 +35,62 @@ pub fn mul(a: Num, b: Num) -> Result<Num, NumError>
         ≡ outcome a.kind (int_div (value_of a *ℤ value_of b) (pos (spec.scale a.kind))) }
     ensures kind { IfOk result (λ n. n.kind ≡ a.kind) }
 {
-    let negative = a.negative != b.negative;
-    scaled(a.kind, negative, a.magnitude, b.magnitude, scale(a.kind))
+    fit(a.kind, product(a, b))
+}
+
+/// The quotient, truncated toward zero. DivisionByZero exactly where the divisor is 0.
+pub fn div(a: Num, b: Num) -> Result<Num, NumError>
+    requires { a.kind ≡ b.kind }
+    ensures value { valued result ≡ divided_by (value_of b)
+        (outcome a.kind (int_div (value_of a *ℤ pos (spec.scale a.kind)) (value_of b))) }
+    ensures kind { IfOk result (λ n. n.kind ≡ a.kind) }
+{
+    if b.magnitude == 0 {
+        return Err(NumError::DivisionByZero);
+    }
+    fit(a.kind, quotient(a, b))
+}
+
+/// The remainder of the quotient that is truncated to a whole number; it has the sign of `a`. DivisionByZero exactly
+/// where the divisor is 0.
+pub fn rem(a: Num, b: Num) -> Result<Num, NumError>
+    requires { a.kind ≡ b.kind }
+    ensures value { valued result ≡ divided_by (value_of b)
+        (outcome a.kind (int_rem (value_of a) (value_of b))) }
+    ensures kind { IfOk result (λ n. n.kind ≡ a.kind) }
+{
+    if b.magnitude == 0 {
+        return Err(NumError::DivisionByZero);
+    }
+    fit(a.kind, whole(a.negative, a.magnitude % b.magnitude))
+}
+
+/// The number with the other sign.
+pub fn neg(a: Num) -> Result<Num, NumError>
+    ensures value { valued result ≡ outcome a.kind (neg_ℤ (value_of a)) }
+    ensures kind { IfOk result (λ n. n.kind ≡ a.kind) }
+{
+    fit(a.kind, whole(!a.negative, a.magnitude))
+}
+
+/// The number of another kind. Decimals that it hasn't are cut off, toward zero.
+pub fn convert(a: Num, kind: Kind) -> Result<Num, NumError>
+    ensures value { valued result
+        ≡ outcome kind (int_div (value_of a *ℤ pos (spec.scale kind)) (pos (spec.scale a.kind))) }
+    ensures kind { IfOk result (λ n. n.kind ≡ kind) }
+{
+    fit(kind, rescaled(a, kind))
+}
+
+/// The order of two numbers.
+pub fn compare(a: Num, b: Num) -> Ordering
+    requires { a.kind ≡ b.kind }
+    ensures { result ≡ int_cmp (value_of a) (value_of b) }
+{
+    match (a.negative, b.negative) {
+        (false, false) => a.magnitude.cmp(&b.magnitude),
+        (false, true) => Ordering::Greater,
+        (true, false) => Ordering::Less,
+        (true, true) => b.magnitude.cmp(&a.magnitude),
+    }
 }

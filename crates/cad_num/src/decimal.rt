@@ -3,7 +3,7 @@ ghost use Rattle.std.specs.Prelude.{◌≡◌, ◌≢◌, IfOk, IfSome, Some, op
 ghost use Rattle.cad_num.specs.Decimal.{read_of, written, whole_of, fixed_of, magnitude_of, has_sign, unsigned_part, eight_digits, magnitude_text, within_128_bits};
 ghost use Rattle.cad_num.specs.Numbers.{value_of};
 
-use crate::fit::is_fixed;
+use crate::kinds::is_fixed;
 use cad_syntax::{Kind, Num, Text};
 use std::alloc::{AllocError, Global};
 

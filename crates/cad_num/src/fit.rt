@@ -1,45 +1,24 @@
 // From an exact integer to a number of a kind.
-ghost use Rattle.std.specs.Prelude.{◌≡◌, ℕ, ◌%◌, ◌^◌, ◌<◌, IfOk, true};
-ghost use Rattle.std.specs.Bool.{FalseIff};
-ghost use Rattle.cad_syntax.specs.Kinds.{signed};
+ghost use Rattle.std.specs.Prelude.{◌≡◌, IfOk, ℤ, true, if◌then◌else◌};
 ghost use Rattle.cad_num.specs.Numbers as spec;
-ghost use Rattle.cad_num.specs.Numbers.{outcome, valued, value_of};
+ghost use Rattle.cad_num.specs.Numbers.{outcome, valued, value_of, least_of, greatest_of, IsExact};
 
 use crate::error::NumError;
+use crate::exact::Exact;
+use crate::kinds::is_word;
 use cad_syntax::{Kind, Num};
 
-/// Whether the numbers of this kind wrap.
-pub(crate) fn is_word(kind: Kind) -> bool
-    ensures { result ≡ spec.is_word kind }
-{
-    matches!(
-        kind,
-        Kind::Word8 | Kind::Word16 | Kind::Word32 | Kind::Word64 | Kind::Word128
-    )
-}
-
-/// Whether the numbers of this kind have 8 decimals.
-pub(crate) fn is_fixed(kind: Kind) -> bool
-    ensures { result ≡ spec.is_fixed kind }
-{
-    matches!(kind, Kind::Fix64 | Kind::UFix64)
-}
-
-/// The integer of the number one.
-pub(crate) fn scale(kind: Kind) -> u128
-    ensures { result ≡ spec.scale kind }
-{
-    if is_fixed(kind) { 100_000_000 } else { 1 }
-}
-
-/// The integer with this sign and a magnitude that is `low` modulo 2^128, as a word.
-fn wrap(kind: Kind, negative: bool, low: u128) -> Num
+/// The word of an integer.
+fn wrap(kind: Kind, exact: Exact) -> Num
     requires { spec.is_word kind ≡ true }
-    ensures value { (exact : ℕ) → low ≡ exact % 2 ^ 128
-        → Ok (value_of result) ≡ outcome kind (signed negative exact) }
+    ensures value { (z : ℤ) → IsExact exact z → Ok (value_of result) ≡ outcome kind z }
     ensures kind { result.kind ≡ kind }
 {
-    let bits = if negative { low.wrapping_neg() } else { low };
+    let bits = if exact.negative {
+        exact.low.wrapping_neg()
+    } else {
+        exact.low
+    };
     Num {
         kind,
         negative: false,
@@ -47,26 +26,75 @@ fn wrap(kind: Kind, negative: bool, low: u128) -> Num
     }
 }
 
-/// What a kind makes of the integer with this sign and a magnitude that is `low` modulo 2^128, and 2^128 or more where
-/// `over`.
-pub(crate) fn fit(kind: Kind, negative: bool, low: u128, over: bool) -> Result<Num, NumError>
-    ensures value { (exact : ℕ) → low ≡ exact % 2 ^ 128 → FalseIff over (exact < 2 ^ 128)
-        → valued result ≡ outcome kind (signed negative exact) }
+/// What a kind makes of an integer.
+pub(crate) fn fit(kind: Kind, exact: Exact) -> Result<Num, NumError>
+    ensures value { (z : ℤ) → IsExact exact z → valued result ≡ outcome kind z }
     ensures kind { IfOk result (λ n. n.kind ≡ kind) }
 {
     if is_word(kind) {
-        return Ok(wrap(kind, negative, low));
+        return Ok(wrap(kind, exact));
     }
-    let error = if negative {
+    let error = if exact.negative {
         NumError::Underflow
     } else {
         NumError::Overflow
     };
-    if over {
+    if exact.over {
         return Err(error);
     }
-    match Num::new(kind, negative, low) {
+    match Num::new(kind, exact.negative, exact.low) {
         Some(n) => Ok(n),
         None => Err(error),
+    }
+}
+
+/// The least number of a kind.
+pub fn least(kind: Kind) -> Num
+    ensures value { value_of result ≡ least_of kind }
+    ensures kind { result.kind ≡ kind }
+{
+    let magnitude = kind.depth();
+    Num {
+        kind,
+        negative: magnitude > 0,
+        magnitude,
+    }
+}
+
+/// The greatest number of a kind.
+pub fn greatest(kind: Kind) -> Num
+    ensures value { value_of result ≡ greatest_of kind }
+    ensures kind { result.kind ≡ kind }
+{
+    Num {
+        kind,
+        negative: false,
+        magnitude: kind.greatest(),
+    }
+}
+
+/// The end of a kind's range on the side of a sign.
+fn end(kind: Kind, negative: bool) -> Num
+    ensures value { value_of result ≡ (if negative then least_of kind else greatest_of kind) }
+    ensures kind { result.kind ≡ kind }
+{
+    if negative {
+        least(kind)
+    } else {
+        greatest(kind)
+    }
+}
+
+/// The number in a kind's range that is nearest to an integer.
+pub(crate) fn nearest(kind: Kind, exact: Exact) -> Num
+    ensures value { (z : ℤ) → IsExact exact z → value_of result ≡ spec.nearest kind z }
+    ensures kind { result.kind ≡ kind }
+{
+    if exact.over {
+        return end(kind, exact.negative);
+    }
+    match Num::new(kind, exact.negative, exact.low) {
+        Some(n) => n,
+        None => end(kind, exact.negative),
     }
 }

@@ -2,10 +2,19 @@
 #![tactic(auto)]
 
 mod arithmetic;
+mod bitwise;
 mod decimal;
 mod error;
+mod exact;
 mod fit;
+mod kinds;
+mod saturation;
+#[cfg(test)]
+mod tests;
 
-pub use arithmetic::{add, mul};
+pub use arithmetic::{add, compare, convert, div, mul, neg, rem, sub};
+pub use bitwise::{BitOp, bits};
 pub use decimal::{read_decimal, write_decimal};
 pub use error::NumError;
+pub use fit::{greatest, least};
+pub use saturation::{Op, saturate};

@@ -1,11 +1,13 @@
 -- A word is what is left of the integer modulo the number of words.
+use Rattle.std.proofs.Common.{ap}
+use Rattle.cad_num.specs.Numbers.{outcome}
 use Rattle.cad_num.proofs.Outcomes.{wrap_positive, wrap_negative}
 use Rattle.cad_num.proofs.fit.wrap.Goals as goal
-use Rattle.cad_num.proofs.fit.wrap.Goals.{then-negative, else-negative}
+use Rattle.cad_num.proofs.fit.wrap.Goals.{then-exact, else-exact}
 
 pub returns-clause-value : goal.returns-clause-value
-returns-clause-value c exact h =
-    elim c.if-negative.branch [
-      | then-negative w ↦ (let e = wrap_negative c.args.kind c.args.low w.wrapping_neg-bits.result exact c.requires h w.wrapping_neg-bits.ensures in cc)
-      | else-negative w ↦ (let e = wrap_positive c.args.kind c.args.low exact c.requires h in cc)
+returns-clause-value c z e =
+    elim c.if-exact.branch [
+      | then-exact w ↦ (let f = wrap_negative c.args.kind c.args.exact.low w.wrapping_neg-bits.result e.magnitude c.requires e.low w.wrapping_neg-bits.ensures in let i = ap (outcome c.args.kind) e.integer in cc)
+      | else-exact w ↦ (let f = wrap_positive c.args.kind c.args.exact.low e.magnitude c.requires e.low in let i = ap (outcome c.args.kind) e.integer in cc)
     ]
