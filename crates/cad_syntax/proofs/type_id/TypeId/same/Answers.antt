@@ -1,0 +1,5 @@
+use Rattle.cad_syntax.proofs.Same.{answer_tells, same_id, ids_tell}
+use Rattle.cad_syntax.proofs.type_id.TypeId.same.Goals as goal
+
+pub returns : goal.returns
+returns c = answer_tells same_id ids_tell c.eq.result c.args.self.now c.args.other.now c.eq.ensures
