@@ -1,13 +1,11 @@
 -- The derived tests of equality tell whether two values are the same.
-use Rattle.std.proofs.Common.{◌≡◌, ℕ, Bool, true, false, ◌&&◌, ◌==◌, ◌↔◌, IsTrue, List, [], ◌∷◌, refl, ap, sym, ◌∙◌}
+use Rattle.std.proofs.Common.{◌≡◌, ℕ, Bool, true, false, ◌&&◌, ◌==◌, ◌↔◌, IsTrue, Contains, List, [], ◌∷◌, refl, ap, sym, ◌∙◌}
 use Rattle.std.proofs.lemmas.Bool.{false≢true, eqb-true, eq-eqb}
 use Rattle.std.specs.Cmp.Lexicographic.{pointwise}
+use Rattle.cad_syntax.specs.TypeIds.{same_id, has}
 use Rattle.cad_syntax.specs.declared.text.Name.{Name}
 use Rattle.cad_syntax.specs.declared.type_id.TypeId.{TypeId}
-
-pub and_both : (a b : Bool) → (a && b) ≡ true → (a ≡ true) × (b ≡ true)
-and_both true b e = (refl, e)
-and_both false b e = absurd (false≢true e)
+use Rattle.cad_syntax.proofs.Members.{and_both, some_passes, passes_some}
 
 -- a test that tells whether two values are the same
 abbrev pub Tells : {A : Type 0} → (A → A → Bool) → Type 0
@@ -33,9 +31,6 @@ numbers_tell x y = (eqb-true x y, eq-eqb x y)
 pub names_tell : Tells (λ (a b : Name). pointwise ◌==◌ a.0 b.0)
 names_tell a b = (λ e. ap (λ t. record { 0 = t }) ((lists_tell ◌==◌ numbers_tell a.0 b.0).0 e), λ e. (lists_tell ◌==◌ numbers_tell a.0 b.0).1 (ap (λ (n : Name). n.0) e))
 
-abbrev pub same_id : TypeId → TypeId → Bool
-same_id a b = (a.address.0 == b.address.0) && pointwise (λ (m n : Name). pointwise ◌==◌ m.0 n.0) a.names b.names
-
 pub ids_tell : Tells same_id
 ids_tell a b = (
   λ e. let both = and_both (a.address.0 == b.address.0) (pointwise (λ (m n : Name). pointwise ◌==◌ m.0 n.0) a.names b.names) e in
@@ -51,3 +46,11 @@ ids_tell a b = (
 pub answer_tells : {A : Type 0} (eq : A → A → Bool) → Tells eq → (r : Bool) (x y : A) → r ≡ eq x y → (IsTrue r ↔ (x ≡ y))
 answer_tells eq tells true x y e = (λ _. (tells x y).0 (sym e), λ _. refl)
 answer_tells eq tells false x y e = (λ h. absurd (false≢true h), λ same. e ∙ (tells x y).1 same)
+
+-- the test of membership tells whether the list has the identifier
+pub has_tells : (r : Bool) (ids : List TypeId) (id : TypeId) → r ≡ has ids id → (IsTrue r ↔ Contains ids id)
+has_tells r ids id e =
+    (λ yes. let found = some_passes (λ other. same_id other id) ids (sym e ∙ yes) in
+      let same = (ids_tell found.0 id).0 found.2 in
+      rw same at found.1,
+     λ there. e ∙ passes_some (λ other. same_id other id) ids id there ((ids_tell id id).1 refl))

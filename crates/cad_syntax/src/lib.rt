@@ -21,5 +21,5 @@ pub use names::is_name;
 pub use num::Num;
 pub use text::{Name, Text};
 pub use token::{Keyword, Sign, Token, TokenKind};
-pub use type_id::{Pairs, TypeId, TypeIds, same_ids};
+pub use type_id::{Pairs, TypeId, TypeIds, contains, same_ids};
 pub use types::{Authorization, Basic, CadType, Types};

@@ -1,5 +1,5 @@
 // Identifiers of declared types.
-ghost use Rattle.std.specs.Prelude.{◌≡◌, ◌==◌, ◌↔◌, IsTrue, IfOk, MatchOption, map};
+ghost use Rattle.std.specs.Prelude.{◌≡◌, ◌==◌, ◌↔◌, IsTrue, IfOk, MatchOption, Contains, map};
 ghost use Rattle.std.specs.List.{list_all, slice_split};
 ghost use Rattle.cad_syntax.specs.declared.type_id.TypeId.{TypeId};
 ghost use Rattle.cad_syntax.specs.TypeIds as spec;
@@ -36,7 +36,8 @@ impl Clone for TypeId {
 impl TypeId {
     /// Whether the two are one identifier.
     pub fn same(&self, other: &TypeId) -> bool
-        ensures { IsTrue result ↔ (self.now ≡ other.now) }
+        ensures value { result ≡ spec.same_id self.now other.now }
+        ensures tells { IsTrue result ↔ (self.now ≡ other.now) }
     {
         self == other
     }
@@ -68,6 +69,20 @@ pub fn same_ids(a: &TypeIds, b: &TypeIds) -> bool
     ensures { IsTrue result ↔ (a.now ≡ b.now) }
 {
     a == b
+}
+
+/// Whether an identifier is one of a list.
+pub fn contains(ids: &[TypeId], id: &TypeId) -> bool
+    ensures value { result ≡ spec.has ids.now id.now }
+    ensures tells { IsTrue result ↔ Contains ids.now id.now }
+{
+    has(ids, id)
+}
+
+fn has(ids: &[TypeId], id: &TypeId) -> bool
+    ensures { result ≡ spec.has ids.now id.now }
+{
+    ids.iter().any(|other| other.same(id))
 }
 
 /// The parts between the dots of a text.

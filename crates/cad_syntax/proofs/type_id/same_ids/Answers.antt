@@ -1,5 +1,6 @@
 use Rattle.std.specs.Cmp.Lexicographic.{pointwise}
-use Rattle.cad_syntax.proofs.Same.{answer_tells, lists_tell, same_id, ids_tell}
+use Rattle.cad_syntax.proofs.Same.{answer_tells, lists_tell, ids_tell}
+use Rattle.cad_syntax.specs.TypeIds.{same_id}
 use Rattle.cad_syntax.proofs.type_id.same_ids.Goals as goal
 
 pub returns : goal.returns
