@@ -1,12 +1,11 @@
 -- What the tests of grants say.
-use Rattle.std.proofs.Common.{◌≡◌, Bool, true, false, ◌&&◌, ◌||◌, ◌↔◌, IsTrue, List, [], ◌∷◌, map, Contains, refl, ap, sym, ◌∙◌, subst, inl, inr}
-use Rattle.std.specs.List.{list_any, list_all}
-use Rattle.cad_syntax.specs.TypeIds.{same_id, has}
+use Rattle.std.proofs.Common.{◌≡◌, Bool, true, ◌↔◌, IsTrue, List, [], ◌∷◌, Contains, refl, sym, ◌∙◌, subst, inl, inr}
+use Rattle.cad_syntax.specs.TypeIds.{has}
 use Rattle.cad_syntax.specs.declared.type_id.TypeId.{TypeId}
 use Rattle.cad_syntax.specs.declared.types.Authorization.{Authorization}
 use Rattle.cad_syntax.specs.declared.types.Authorization.TheVariants.{Unauthorized, All, Any}
 use Rattle.cad_syntax.proofs.Members.{contains_nothing, contains_first, some_passes, passes_some, each_passes, passes_each, contains_map, map_contains, contains_cases}
-use Rattle.cad_syntax.proofs.Same.{has_tells, answer_tells}
+use Rattle.cad_syntax.proofs.Same.{has_tells}
 use Rattle.cad_auth.specs.Grants.{single, sets, Includes, Covers, Grants}
 use Rattle.cad_auth.specs.Tests.{includes, is_enough, grants}
 
@@ -29,10 +28,10 @@ Enough set those = (part : List TypeId) × Contains those part × Includes set p
 empty_enough : (set : List TypeId) → Enough set ([] ∷ [])
 empty_enough set = ([], contains_first [] [], λ e c. absurd (contains_nothing e c))
 
-only_one : {A : Type 0} (x y : A) → Contains (x ∷ []) y → x ≡ y
+pub only_one : {A : Type 0} (x y : A) → Contains (x ∷ []) y → x ≡ y
 only_one x y c = elim (contains_cases x [] y c) [ inl e ↦ e | inr n ↦ absurd (contains_nothing y n) ]
 
-only_first : (e x : TypeId) → Contains (single e) x → e ≡ x
+pub only_first : (e x : TypeId) → Contains (single e) x → e ≡ x
 only_first e x c = only_one e x c
 
 enough_to : (set : List TypeId) (need : Authorization) → is_enough set need ≡ true → Enough set (sets need)

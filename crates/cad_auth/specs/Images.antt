@@ -1,12 +1,12 @@
 -- The image of an authorization under a mapping of entitlements.
-use Rattle.std.specs.Prelude.{Bool, true, false, ◌&&◌, ◌||◌, ◌==◌, not, if◌then◌else◌, Option, Some, None, List, [], ◌∷◌, ◌++◌, length, map, filter, fold}
+use Rattle.std.specs.Prelude.{◌≡◌, Bool, true, false, ◌&&◌, ◌||◌, ◌==◌, not, if◌then◌else◌, Option, Some, None, List, [], ◌∷◌, ◌++◌, length, map, filter, fold}
 use Rattle.std.specs.List.{flat_map, list_all, list_any}
 use Rattle.cad_syntax.specs.TypeIds.{same_id, has}
 use Rattle.cad_syntax.specs.declared.type_id.TypeId.{TypeId}
 use Rattle.cad_syntax.specs.declared.types.Authorization.{Authorization}
 use Rattle.cad_syntax.specs.declared.types.Authorization.TheVariants.{Unauthorized, All, Any}
 use Rattle.cad_auth.specs.declared.mapping.Mapping.{Mapping}
-use Rattle.cad_auth.specs.Grants.{single, sets}
+use Rattle.cad_auth.specs.Grants.{single, sets, Grants}
 use Rattle.cad_auth.specs.Tests.{includes}
 
 -- the targets of an entitlement: itself where the mapping includes the identity, and then those of its pairs in their order
@@ -88,3 +88,7 @@ is_choice Unauthorized = false
 is_choice (All entitlements) = false
 is_choice (Any []) = false
 is_choice (Any (first ∷ others)) = true
+
+-- Law: the image of a stronger authorization is stronger.
+abbrev pub ImageStronger : Type 0
+ImageStronger = (mapping : Mapping) (weak strong x y : Authorization) → Grants strong weak → image mapping weak ≡ Some x → image mapping strong ≡ Some y → Grants y x

@@ -1,5 +1,5 @@
 -- The tests by which the code finds out.
-use Rattle.std.specs.Prelude.{Bool, true, ◌&&◌, ◌||◌, List, [], ◌∷◌}
+use Rattle.std.specs.Prelude.{Bool, true, List, [], ◌∷◌}
 use Rattle.std.specs.List.{list_all, list_any}
 use Rattle.cad_syntax.specs.TypeIds.{has}
 use Rattle.cad_syntax.specs.declared.type_id.TypeId.{TypeId}

@@ -43,9 +43,7 @@ fn may_serve(holder: &Authorization, need: &Authorization) -> bool
 fn each_is_enough(entitlements: &[TypeId], need: &Authorization) -> bool
     ensures { result ≡ list_all (λ entitlement. spec.is_enough (single entitlement) need.now) entitlements.now }
 {
-    entitlements
-        .iter()
-        .all(|entitlement| is_enough(slice::from_ref(entitlement), need))
+    entitlements.iter().all(|entitlement| is_enough(slice::from_ref(entitlement), need))
 }
 
 /// Whether a set of entitlements contains a set that is enough.

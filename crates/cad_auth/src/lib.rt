@@ -2,8 +2,10 @@
 #![tactic(auto)]
 
 mod grant;
-mod mapping;
 pub mod laws;
+mod mapping;
+#[cfg(test)]
+mod tests;
 
 pub use grant::{grants, weaker};
 pub use mapping::{Mapping, image};

@@ -19,7 +19,11 @@ pub struct Mapping {
 /// The image of an authorization: each of its sets is replaced by the targets of its members, one of several equal sets is
 /// kept, and each set that contains another of those kept is dropped. None exactly where more than one set is left and one
 /// of them hasn't one member.
-pub fn image(alloc: Global, map: &Mapping, a: &Authorization) -> Result<Option<Authorization>, AllocError>
+pub fn image(
+    alloc: Global,
+    map: &Mapping,
+    a: &Authorization,
+) -> Result<Option<Authorization>, AllocError>
     ensures { IfOk result (λ image. image ≡ spec.image map.now a.now) }
 {
     let order = replaced(alloc, map, members(a))?;
@@ -78,7 +82,11 @@ fn add_once(targets: &mut TypeIds, entitlement: &TypeId) -> Result<(), AllocErro
 }
 
 /// The sets that the mapping makes of those of an authorization, one of several equal ones.
-fn distinct_sets(alloc: Global, map: &Mapping, a: &Authorization) -> Result<Vec<TypeIds>, AllocError>
+fn distinct_sets(
+    alloc: Global,
+    map: &Mapping,
+    a: &Authorization,
+) -> Result<Vec<TypeIds>, AllocError>
     ensures { IfOk result (λ kept. kept.items ≡ spec.distinct (mapped (spec.replaced map.now) (sets a.now))) }
 {
     if is_choice(a) {
@@ -91,7 +99,11 @@ fn distinct_sets(alloc: Global, map: &Mapping, a: &Authorization) -> Result<Vec<
 }
 
 /// The sets of targets of each entitlement alone, one of several equal ones.
-fn sets_alone(alloc: Global, map: &Mapping, entitlements: &[TypeId]) -> Result<Vec<TypeIds>, AllocError>
+fn sets_alone(
+    alloc: Global,
+    map: &Mapping,
+    entitlements: &[TypeId],
+) -> Result<Vec<TypeIds>, AllocError>
     ensures { IfOk result (λ kept. kept.items ≡ spec.distinct (mapped (spec.alone map.now) entitlements.now)) }
 {
     let mut kept = Vec::new(alloc);
@@ -127,9 +139,7 @@ fn add_set(kept: &mut Vec<TypeIds>, set: TypeIds) -> Result<(), AllocError>
 fn has_same(these: &[TypeIds], set: &[TypeId]) -> bool
     ensures { result ≡ list_any (spec.same_set set.now) these.now }
 {
-    these
-        .iter()
-        .any(|other| includes(set, other.as_slice()) && includes(other.as_slice(), set))
+    these.iter().any(|other| includes(set, other.as_slice()) && includes(other.as_slice(), set))
 }
 
 /// The sets that contain no other of them.
@@ -149,13 +159,15 @@ fn least(alloc: Global, these: &[TypeIds]) -> Result<Vec<TypeIds>, AllocError>
 fn is_least(these: &[TypeIds], set: &[TypeId]) -> bool
     ensures { result ≡ spec.is_least these.now set.now }
 {
-    these
-        .iter()
-        .all(|other| !includes(set, other.as_slice()) || includes(other.as_slice(), set))
+    these.iter().all(|other| !includes(set, other.as_slice()) || includes(other.as_slice(), set))
 }
 
 /// Reads sets as an authorization, with their members in an order.
-fn read(alloc: Global, these: &[TypeIds], order: &[TypeId]) -> Result<Option<Authorization>, AllocError>
+fn read(
+    alloc: Global,
+    these: &[TypeIds],
+    order: &[TypeId],
+) -> Result<Option<Authorization>, AllocError>
     ensures { IfOk result (λ read. read ≡ spec.read these.now order.now) }
 {
     let chosen = among(alloc, these, order)?;
@@ -192,7 +204,9 @@ fn among(alloc: Global, these: &[TypeIds], order: &[TypeId]) -> Result<TypeIds, 
 fn some_has(these: &[TypeIds], entitlement: &TypeId) -> bool
     ensures { result ≡ spec.is_named these.now entitlement.now }
 {
-    these.iter().any(|set| contains(set.as_slice(), entitlement))
+    these
+        .iter()
+        .any(|set| contains(set.as_slice(), entitlement))
 }
 
 /// All of these entitlements.
