@@ -3,7 +3,7 @@ use Rattle.std.specs.Prelude.{◌≡◌, ℕ, ◌^◌, ◌<◌, Bool, true, ◌&
 use Rattle.std.specs.Char.{is_ascii_digit}
 use Rattle.std.specs.Int.{is_in_range}
 use Rattle.std.specs.Cmp.Lexicographic.{pointwise}
-use Rattle.std.specs.List.{flat_map, list_all}
+use Rattle.std.specs.List.{flat_map, list_all, list_any}
 use Rattle.cad_syntax.specs.Addresses.{hex_digits, hex_number}
 use Rattle.cad_syntax.specs.Names.{is_name_text}
 use Rattle.cad_syntax.specs.declared.text.Name.{Name}
@@ -16,6 +16,14 @@ dotted name = 46 ∷ name.0
 -- `A.`, the 16 digits of the address, and each name with `.` before it
 abbrev pub type_text : TypeId → List ℕ
 type_text id = codes "A." ++ hex_digits 16 id.address.0 ++ flat_map dotted id.names
+
+-- whether two identifiers are one
+abbrev pub same_id : TypeId → TypeId → Bool
+same_id a b = (a.address.0 == b.address.0) && pointwise (λ m n. pointwise ◌==◌ m.0 n.0) a.names b.names
+
+-- whether an identifier is one of a list
+abbrev pub has : List TypeId → TypeId → Bool
+has ids id = list_any (λ other. same_id other id) ids
 
 -- its names are names
 abbrev pub HasNames : TypeId → Type 0

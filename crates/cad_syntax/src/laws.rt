@@ -6,11 +6,9 @@ ghost use Rattle.cad_syntax.specs.TypeIds.{OneIdentifier};
 /// The text of an address writes that address.
 pub fn addresses_read_back()
     ensures { (address : ℕ) → address < 2 ^ 64 → address_of (address_text address) ≡ Some address }
-{
-}
+{}
 
 /// A text is that of one identifier at most.
 pub fn identifiers_read_back()
     ensures { OneIdentifier }
-{
-}
+{}

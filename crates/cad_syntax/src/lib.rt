@@ -7,6 +7,8 @@ mod kind;
 pub mod laws;
 mod names;
 mod num;
+#[cfg(test)]
+mod tests;
 mod text;
 mod token;
 mod type_id;
@@ -19,5 +21,5 @@ pub use names::is_name;
 pub use num::Num;
 pub use text::{Name, Text};
 pub use token::{Keyword, Sign, Token, TokenKind};
-pub use type_id::{Pairs, TypeId, TypeIds};
+pub use type_id::{Pairs, TypeId, TypeIds, contains, same_ids};
 pub use types::{Authorization, Basic, CadType, Types};

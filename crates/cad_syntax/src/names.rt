@@ -6,9 +6,43 @@ ghost use Rattle.cad_syntax.specs.Names as spec;
 
 /// The words of the language, which are no names.
 const KEYWORDS: [&str; 37] = [
-    "access", "as", "auth", "break", "case", "continue", "contract", "create", "default", "destroy", "else", "emit",
-    "enum", "event", "execute", "false", "for", "fun", "if", "import", "in", "init", "interface", "let", "nil", "post",
-    "pre", "prepare", "resource", "return", "self", "struct", "switch", "transaction", "true", "var", "while",
+    "access",
+    "as",
+    "auth",
+    "break",
+    "case",
+    "continue",
+    "contract",
+    "create",
+    "default",
+    "destroy",
+    "else",
+    "emit",
+    "enum",
+    "event",
+    "execute",
+    "false",
+    "for",
+    "fun",
+    "if",
+    "import",
+    "in",
+    "init",
+    "interface",
+    "let",
+    "nil",
+    "post",
+    "pre",
+    "prepare",
+    "resource",
+    "return",
+    "self",
+    "struct",
+    "switch",
+    "transaction",
+    "true",
+    "var",
+    "while",
 ];
 
 /// Whether a text is a name: an ASCII letter or `_`, then ASCII letters, digits and `_`, and no keyword.
@@ -31,7 +65,9 @@ fn is_word(bytes: &[u8]) -> bool
 fn are_parts(bytes: &[u8]) -> bool
     ensures { result ≡ list_all spec.is_part_of_name bytes.now }
 {
-    bytes.iter().all(|b| b.is_ascii_alphanumeric() || *b == b'_')
+    bytes
+        .iter()
+        .all(|b| b.is_ascii_alphanumeric() || *b == b'_')
 }
 
 /// Whether a text is one of these words.

@@ -1,5 +1,5 @@
 // Identifiers of declared types.
-ghost use Rattle.std.specs.Prelude.{◌≡◌, ◌==◌, IfOk, MatchOption, map};
+ghost use Rattle.std.specs.Prelude.{◌≡◌, ◌==◌, ◌↔◌, IsTrue, IfOk, MatchOption, Contains, map};
 ghost use Rattle.std.specs.List.{list_all, slice_split};
 ghost use Rattle.cad_syntax.specs.declared.type_id.TypeId.{TypeId};
 ghost use Rattle.cad_syntax.specs.TypeIds as spec;
@@ -34,6 +34,14 @@ impl Clone for TypeId {
 }
 
 impl TypeId {
+    /// Whether the two are one identifier.
+    pub fn same(&self, other: &TypeId) -> bool
+        ensures value { result ≡ spec.same_id self.now other.now }
+        ensures tells { IsTrue result ↔ (self.now ≡ other.now) }
+    {
+        self == other
+    }
+
     /// Writes `A.`, the address by 16 hexadecimal digits in lower case, and the names with a `.` before each.
     pub fn to_text(&self, alloc: Global) -> Result<Text, AllocError>
         ensures { IfOk result (λ text. text ≡ spec.type_text self.now) }
@@ -54,6 +62,27 @@ impl TypeId {
         let id = from_parts(alloc, parts.as_slice())?;
         Ok(id)
     }
+}
+
+/// Whether two lists of identifiers are one list.
+pub fn same_ids(a: &TypeIds, b: &TypeIds) -> bool
+    ensures { IsTrue result ↔ (a.now ≡ b.now) }
+{
+    a == b
+}
+
+/// Whether an identifier is one of a list.
+pub fn contains(ids: &[TypeId], id: &TypeId) -> bool
+    ensures value { result ≡ spec.has ids.now id.now }
+    ensures tells { IsTrue result ↔ Contains ids.now id.now }
+{
+    has(ids, id)
+}
+
+fn has(ids: &[TypeId], id: &TypeId) -> bool
+    ensures { result ≡ spec.has ids.now id.now }
+{
+    ids.iter().any(|other| other.same(id))
 }
 
 /// The parts between the dots of a text.
@@ -93,7 +122,9 @@ fn full_number(digits: &[u8]) -> Option<u64>
 fn are_lower_digits(digits: &[u8]) -> bool
     ensures { result ≡ list_all spec.is_lower_digit digits.now }
 {
-    digits.iter().all(|b| b.is_ascii_digit() || (b'a' <= *b && *b <= b'f'))
+    digits
+        .iter()
+        .all(|b| b.is_ascii_digit() || (b'a' <= *b && *b <= b'f'))
 }
 
 /// The names, if all of the texts are names.

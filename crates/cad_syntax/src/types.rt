@@ -1,10 +1,10 @@
 // Types.
-ghost use Rattle.std.specs.Prelude.{◌≡◌, ◌≤◌, IfOk, SomeIff};
+ghost use Rattle.std.specs.Prelude.{◌≡◌, ◌≤◌, ◌↔◌, IsTrue, IfOk, SomeIff};
 ghost use Rattle.cad_syntax.specs.Types as spec;
 
 use crate::items::Items;
 use crate::kind::Kind;
-use crate::type_id::{TypeId, TypeIds};
+use crate::type_id::{TypeId, TypeIds, same_ids};
 use std::alloc::{AllocError, Global};
 
 /// A type that has a name of its own in the language. `Meta` is the type of types.
@@ -47,6 +47,28 @@ impl Clone for Authorization {
             Authorization::Unauthorized => Ok(Authorization::Unauthorized),
             Authorization::All(ids) => Ok(Authorization::All(ids.clone()?)),
             Authorization::Any(ids) => Ok(Authorization::Any(ids.clone()?)),
+        }
+    }
+}
+
+impl Authorization {
+    /// Whether the two are one authorization.
+    pub fn same(&self, other: &Authorization) -> bool
+        ensures { IsTrue result ↔ (self.now ≡ other.now) }
+    {
+        match self {
+            Authorization::Unauthorized => match other {
+                Authorization::Unauthorized => true,
+                _ => false,
+            },
+            Authorization::All(a) => match other {
+                Authorization::All(b) => same_ids(a, b),
+                _ => false,
+            },
+            Authorization::Any(a) => match other {
+                Authorization::Any(b) => same_ids(a, b),
+                _ => false,
+            },
         }
     }
 }
@@ -110,6 +132,48 @@ fn boxed(t: CadType, like: &Box<CadType>) -> Result<Box<CadType>, AllocError>
 }
 
 impl CadType {
+    /// Whether the two are one type.
+    pub fn same(&self, other: &CadType) -> bool
+        ensures { IsTrue result ↔ (spec.pure_type self.now ≡ spec.pure_type other.now) }
+    {
+        match self {
+            CadType::Basic(a) => match other {
+                CadType::Basic(b) => a == b,
+                _ => false,
+            },
+            CadType::Optional(a) => match other {
+                CadType::Optional(b) => a.same(b),
+                _ => false,
+            },
+            CadType::Array(a) => match other {
+                CadType::Array(b) => a.same(b),
+                _ => false,
+            },
+            CadType::Dictionary(key, value) => match other {
+                CadType::Dictionary(other_key, other_value) => key.same(other_key)
+                    && value.same(other_value),
+                _ => false,
+            },
+            CadType::Intersection(a) => match other {
+                CadType::Intersection(b) => same_ids(a, b),
+                _ => false,
+            },
+            CadType::Declared(a) => match other {
+                CadType::Declared(b) => a.same(b),
+                _ => false,
+            },
+            CadType::Reference(a, target) => match other {
+                CadType::Reference(b, other_target) => a.same(b) && target.same(other_target),
+                _ => false,
+            },
+            CadType::Capability => matches!(other, CadType::Capability),
+            CadType::CapabilityOf(a) => match other {
+                CadType::CapabilityOf(b) => a.same(b),
+                _ => false,
+            },
+        }
+    }
+
     /// How deep the type nests: its optionals, arrays, dictionaries, references and capabilities, one inside the other.
     /// None exactly where that is more than `most`, and no more of them are looked into.
     pub fn nesting(&self, most: u32) -> Option<u32>

@@ -1,5 +1,5 @@
 use Rattle.std.proofs.Common.{arith, sym, ◌∙◌}
-use Rattle.cad_syntax.proofs.Parts.{names_stop, names_end}
+use Rattle.cad_syntax.proofs.DottedTexts.{names_stop, names_end}
 use Rattle.cad_syntax.proofs.type_id.names_from.Goals as goal
 
 pub returns-then-not-is_name : goal.returns-then-not-is_name

@@ -1,4 +1,4 @@
-use Rattle.std.proofs.Common.{◌≡◌, ℕ, true, List, map, take}
+use Rattle.std.proofs.Common.{◌≡◌, true, map, take}
 use Rattle.std.specs.List.{list_all}
 use Rattle.cad_syntax.specs.Names.{is_name_text}
 use Rattle.cad_syntax.proofs.type_id.names_from.Given as goal
