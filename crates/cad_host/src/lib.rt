@@ -1,6 +1,22 @@
 //! What comes from outside the program: an input, an output and three tapes, which one trace of events tells of.
 #![tactic(auto)]
 
+mod call;
+mod faults;
+mod file_host;
+mod folder;
 mod host;
+mod memory;
+mod record;
+mod replay;
+mod schedule;
+mod sure;
+mod tapes;
 
+pub use file_host::FileHost;
 pub use host::{Failed, Host, Tape};
+pub use memory::MemHost;
+pub use sure::SureHost;
+
+#[cfg(test)]
+mod tests;

@@ -1,0 +1,88 @@
+// Calls that change a host in memory, each with its entry in the record of calls. Room is made before anything changes.
+ghost use Rattle.std.specs.Prelude.{◌≡◌, ◌≤◌, ◌<◌, ◌^◌, ◌++◌, ◌∷◌, List, ℕ, length, OnOk, OnErr, if◌then◌else◌, vec_len, vec_capacity};
+ghost use Rattle.cad_host.specs.Disk.{overwritten, same_tape, wrote, synced, filled, put};
+ghost use Rattle.cad_host.specs.Record.{event_of, trace_of};
+ghost use Rattle.cad_host.specs.Tapes.{bytes_on};
+ghost use Rattle.cad_host.specs.declared.host.Tape.{Tape};
+
+use crate::Tape;
+use crate::call::Call;
+use crate::tapes::Tapes;
+use std::alloc::{AllocError, Global};
+
+/// Adds a call for which there is room.
+#[tactic(auto, using(crate::proofs::Recorded::trace_push))]
+fn push(calls: &mut Vec<Call>, call: Call) -> Result<(), AllocError>
+    ensures ok { OnOk result (trace_of calls.new.items ≡ event_of call ∷ trace_of calls.old.items) }
+    ensures err { OnErr result (trace_of calls.new.items ≡ trace_of calls.old.items) }
+    ensures full { OnErr result (vec_capacity calls.old ≤ vec_len calls.old) }
+{
+    Ok(calls.push(call)?)
+}
+
+/// Writes to a tape, and records it.
+pub fn write(
+    alloc: Global,
+    calls: &mut Vec<Call>,
+    tapes: &mut Tapes,
+    tape: Tape,
+    at: u64,
+    bytes: &[u8],
+) -> Result<(), AllocError>
+    requires { at ≤ length (bytes_on tapes.old tape) }
+    ensures trace { OnOk result (trace_of calls.new.items ≡ wrote tape at bytes.now ∷ trace_of calls.old.items) }
+    ensures tapes { OnOk result ((t : Tape) → bytes_on tapes.new t
+        ≡ (if same_tape tape t then overwritten (bytes_on tapes.old tape) at bytes.now else bytes_on tapes.old t)) }
+    ensures fits { length (bytes_on tapes.new tape) < 2 ^ 64 }
+    ensures err_trace { OnErr result (trace_of calls.new.items ≡ trace_of calls.old.items) }
+    ensures err_tapes { OnErr result ((t : Tape) → bytes_on tapes.new t ≡ bytes_on tapes.old t) }
+{
+    let call = Call::Wrote(tape, at, bytes.to_vec(alloc)?);
+    calls.reserve(1)?;
+    tapes.overwrite(tape, at as usize, bytes)?;
+    push(calls, call)
+}
+
+pub fn sync(calls: &mut Vec<Call>, tape: Tape) -> Result<(), AllocError>
+    ensures trace { OnOk result (trace_of calls.new.items ≡ synced tape ∷ trace_of calls.old.items) }
+    ensures err_trace { OnErr result (trace_of calls.new.items ≡ trace_of calls.old.items) }
+{
+    push(calls, Call::Synced(tape))
+}
+
+/// Sets what a tape reads, and records it.
+pub fn fill(
+    alloc: Global,
+    calls: &mut Vec<Call>,
+    tapes: &mut Tapes,
+    tape: Tape,
+    bytes: &[u8],
+) -> Result<(), AllocError>
+    ensures trace { OnOk result (trace_of calls.new.items ≡ filled tape bytes.now ∷ trace_of calls.old.items) }
+    ensures tapes { OnOk result ((t : Tape) → bytes_on tapes.new t ≡ (if same_tape tape t then bytes.now else bytes_on tapes.old t)) }
+    ensures err_trace { OnErr result (trace_of calls.new.items ≡ trace_of calls.old.items) }
+    ensures err_tapes { OnErr result ((t : Tape) → bytes_on tapes.new t ≡ bytes_on tapes.old t) }
+{
+    let held = bytes.to_vec(alloc)?;
+    push(calls, Call::Filled(tape, bytes.to_vec(alloc)?))?;
+    tapes.replace(tape, held);
+    Ok(())
+}
+
+/// Appends to the output, and records it.
+pub fn put(
+    alloc: Global,
+    calls: &mut Vec<Call>,
+    written: &mut Vec<u8>,
+    bytes: &[u8],
+) -> Result<(), AllocError>
+    ensures trace { OnOk result (trace_of calls.new.items ≡ put bytes.now ∷ trace_of calls.old.items) }
+    ensures written { OnOk result (written.new.items ≡ written.old.items ++ bytes.now) }
+    ensures err_trace { OnErr result (trace_of calls.new.items ≡ trace_of calls.old.items) }
+    ensures err_written { OnErr result (written.new.items ≡ written.old.items) }
+{
+    let call = Call::Put(bytes.to_vec(alloc)?);
+    calls.reserve(1)?;
+    written.extend_from_slice(bytes)?;
+    push(calls, call)
+}
