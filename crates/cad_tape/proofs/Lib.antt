@@ -1,0 +1,4 @@
+pub mod Read
+pub mod Four
+pub mod Steps
+pub mod Onto

@@ -1,0 +1,7 @@
+//! Records behind a gate on three tapes: written so that a crash at any moment leaves what was there or what is to be
+//! there, and read again.
+#![tactic(auto)]
+
+mod commit;
+
+pub use commit::{append, checkpoint};
