@@ -3,5 +3,11 @@
 #![tactic(auto)]
 
 mod commit;
+mod scanning;
+mod stop;
+mod window;
 
 pub use commit::{append, checkpoint};
+pub use scanning::{Records, scan};
+pub use stop::ScanStop;
+
