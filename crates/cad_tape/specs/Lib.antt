@@ -1,0 +1,4 @@
+pub mod Framing
+pub mod Reading
+pub mod Stops
+pub mod Scanning

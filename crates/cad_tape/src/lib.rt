@@ -1,0 +1,13 @@
+//! Records behind a gate on three tapes: written so that a crash at any moment leaves what was there or what is to be
+//! there, and read again.
+#![tactic(auto)]
+
+mod commit;
+mod scanning;
+mod stop;
+mod window;
+
+pub use commit::{append, checkpoint};
+pub use scanning::{Records, scan};
+pub use stop::ScanStop;
+

@@ -1,0 +1,6 @@
+//! Values.
+#![tactic(auto)]
+
+mod value;
+
+pub use value::Value;

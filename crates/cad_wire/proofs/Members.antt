@@ -1,0 +1,50 @@
+-- Reading entries one after the other, as a loop does.
+use Rattle.std.proofs.Common.{◌≡◌, ℕ, zero, suc, ◌-◌, ◌+◌, ◌≤◌, ◌<◌, true, List, [], ◌∷◌, ◌++◌, length, drop, Option, Some, None, Err, refl, sym, ap, ◌∙◌, append_assoc, arith}
+use Rattle.std.proofs.lemmas.List.{append-nil}
+use Rattle.cad_wire.specs.declared.entry.Entry.{Entry}
+use Rattle.cad_wire.specs.declared.error.DecodeError.{DecodeError}
+use Rattle.cad_wire.specs.declared.error.DecodeError.TheVariants.{Damaged, Memory}
+use Rattle.cad_wire.specs.Fields.{◌>>=◌}
+use Rattle.cad_wire.specs.Body.{are_ascending}
+use Rattle.cad_wire.specs.Reading.{entry_at, entries_at, Reads}
+
+-- what was read before, and what is still read
+abbrev pub with_front : List Entry → Option (List Entry × List ℕ) → Option (List Entry × List ℕ)
+with_front front read = read >>= λ x. Some (front ++ x.0, x.1)
+
+regroup : (front : List Entry) (e : Entry) (read : Option (List Entry × List ℕ)) → with_front front (read >>= λ x. Some (e ∷ x.0, x.1)) ≡ with_front (front ++ e ∷ []) read
+regroup front e (Some x) = ap (λ (es : List Entry). Some (es, x.1)) (simp append_assoc)
+regroup front e None = refl
+
+pub goes_on : (front : List Entry) (count i : ℕ) (bytes : List ℕ) (e : Entry) (after : List ℕ) (total : Option (List Entry × List ℕ)) → i < count → entry_at bytes ≡ Some (e, after)
+    → with_front front (entries_at (count - i) bytes) ≡ total → with_front (front ++ e ∷ []) (entries_at (count - (i + 1)) after) ≡ total
+unfolding entries_at
+goes_on front count i bytes e after total lt h so_far =
+    let k : count - i ≡ suc (count - (i + 1)) = omega arith in
+    let one : with_front front (entries_at (count - i) bytes) ≡ with_front (front ++ e ∷ []) (entries_at (count - (i + 1)) after) = rw (k, h) (regroup front e (entries_at (count - (i + 1)) after)) in
+    sym one ∙ so_far
+
+pub ends : (error : DecodeError) (front : List Entry) (count i : ℕ) (bytes rest new : List ℕ) (total : Option (List Entry × List ℕ)) → i < count → Reads (Err error) (entry_at bytes) rest
+    → with_front front (entries_at (count - i) bytes) ≡ total → Reads (Err error) total new
+unfolding entries_at
+ends Memory front count i bytes rest new total lt h so_far = tt
+ends Damaged front count i bytes rest new total lt h so_far =
+    let k : count - i ≡ suc (count - (i + 1)) = omega arith in
+    let one : with_front front (entries_at (count - i) bytes) ≡ None = rw (k, h) refl in
+    sym so_far ∙ one
+
+pub is_done : (front : List Entry) (count i : ℕ) (bytes : List ℕ) (total : Option (List Entry × List ℕ)) → count ≤ i → with_front front (entries_at (count - i) bytes) ≡ total → total ≡ Some (front, bytes)
+unfolding entries_at
+is_done front count i bytes total le so_far =
+    let k : count - i ≡ 0 = omega arith in
+    let one : with_front front (entries_at (count - i) bytes) ≡ Some (front, bytes) = rw k (ap (λ (es : List Entry). Some (es, bytes)) (append-nil front)) in
+    sym so_far ∙ one
+
+-- one entry or none is in order
+
+pub last_one : (entries : List Entry) (i : ℕ) → length entries ≤ i + 1 → are_ascending (drop i entries) ≡ true
+last_one [] zero le = refl
+last_one [] (suc i) le = refl
+last_one (x ∷ []) zero le = refl
+last_one (x ∷ y ∷ entries) zero le = absurd (omega arith)
+last_one (x ∷ entries) (suc i) le = last_one entries i (omega arith)
