@@ -1,0 +1,6 @@
+pub mod Holding
+pub mod Splits
+pub mod Says
+pub mod Runs
+pub mod Sums
+pub mod Asked
