@@ -5,4 +5,7 @@ mod lexer;
 mod literal;
 mod word;
 
-pub use lexer::{LexStop, lex};
+pub use lexer::{LexStop, lex, one_lexing};
+
+#[cfg(test)]
+mod tests;
