@@ -4,3 +4,6 @@ pub mod Says
 pub mod Runs
 pub mod Sums
 pub mod Asked
+pub mod Scripts
+pub mod Asks
+pub mod Replies

@@ -137,13 +137,13 @@ one_byte n (b ∷ buffer) small some held = ap (λ k. take k (b ∷ buffer)) (le
 -- all bytes up to the bound were taken, and one more
 pub bound_ends : (line : Line) (input base left left2 buffer o : List ℕ) (n bound : ℕ) → Going line input base left o → length input ≡ bound + length left → left ≡ take n buffer ++ left2 → n ≤ 1 → 0 < n → 0 < length buffer
     → (taken : List ℕ) × (byte : ℕ) × (length taken ≡ bound) × (input ≡ taken ++ byte ∷ left2) × Finished taken base o
-bound_ends line input base left left2 buffer o n bound g long is small some held =
-    ( g.taken
-    , get_or buffer 0 0
-    , omega (arith, long, ap length g.input_is, length-append g.taken left)
-    , g.input_is ∙ ap (λ l. g.taken ++ l) (is ∙ ap (λ l. l ++ left2) (one_byte n buffer small some held))
-    , record { whole = g.whole; unfinished = g.pending; lines_are = g.lines_are; served = g.served }
-    )
+bound_ends line input base left left2 buffer o n bound g long is small some held = (
+  g.taken,
+  get_or buffer 0 0,
+  omega (arith, long, ap length g.input_is, length-append g.taken left),
+  g.input_is ∙ ap (λ l. g.taken ++ l) (is ∙ ap (λ l. l ++ left2) (one_byte n buffer small some held)),
+  record { whole = g.whole; unfinished = g.pending; lines_are = g.lines_are; served = g.served },
+)
 
 finished_begun : (input taken rest base o : List ℕ) → input ≡ taken ++ rest → Finished taken base o → Begun (commands input) base o
 finished_begun input taken rest base o is f = begun_front input base o taken rest f.whole f.unfinished is f.lines_are (begun_all (commands_among f.whole) base o f.served)

@@ -327,7 +327,7 @@ shorter (k ∷ []) = shorter_last (joint_of k) 1
 shorter (k ∷ l ∷ kinds) = shorter_by (joint_of k) (literal_of l) kinds
 
 pub factor_shorter : (n : ℕ) (rest behind : List Token) → factor n (kinds_of behind) ≡ next_of (kinds_of rest) → length behind + 2 ≤ length rest
-factor_shorter n rest behind is = omega (arith, subst (λ x. Shorter x (length (kinds_of rest))) (sym is) (shorter (kinds_of rest)), length-map {f = λ (t : Token). t.kind} rest, length-map {f = λ (t : Token). t.kind} behind)
+factor_shorter n rest behind is = omega (arith, subst (λ x. Shorter x (length (kinds_of rest))) (sym is) (shorter (kinds_of rest)), length-map rest (λ (t : Token). t.kind), length-map behind (λ (t : Token). t.kind))
 
 pub term_shorter : (n : ℕ) (rest behind : List Token) → term n (kinds_of behind) ≡ next_of (kinds_of rest) → length behind + 2 ≤ length rest
-term_shorter n rest behind is = omega (arith, subst (λ x. Shorter x (length (kinds_of rest))) (sym is) (shorter (kinds_of rest)), length-map {f = λ (t : Token). t.kind} rest, length-map {f = λ (t : Token). t.kind} behind)
+term_shorter n rest behind is = omega (arith, subst (λ x. Shorter x (length (kinds_of rest))) (sym is) (shorter (kinds_of rest)), length-map rest (λ (t : Token). t.kind), length-map behind (λ (t : Token). t.kind))

@@ -10,3 +10,4 @@ pub mod Answer
 pub mod Served
 pub mod Progress
 pub mod Ending
+pub mod Statuses

@@ -33,10 +33,10 @@ fn is_sign(found: Sign, asked: Sign) -> bool
 }
 
 // Whether a token is the one that is asked for.
-fn is_asked(kind: &TokenKind, mark: Mark<'_>) -> bool
-    ensures { IsTrue result ↔ (kind.now ≡ kind_asked mark.entry) }
+fn is_asked(kind: &TokenKind, mark: &Mark<'_>) -> bool
+    ensures { IsTrue result ↔ (kind.now ≡ kind_asked mark.entry.now) }
 {
-    match mark {
+    match *mark {
         Mark::Keyword(asked) => match kind {
             TokenKind::Keyword(found) => is_keyword(*found, asked),
             _ => false,
@@ -62,7 +62,8 @@ pub fn behind<'a>(tokens: &'a [Token], marks: &[Mark<'_>]) -> Option<&'a [Token]
         if i >= tokens.len() {
             return None;
         }
-        if !is_asked(&tokens[i].kind, marks[i]) {
+        let mark = &marks[i];
+        if !is_asked(&tokens[i].kind, mark) {
             return None;
         }
     }

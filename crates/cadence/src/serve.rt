@@ -106,7 +106,13 @@ fn take_some<H: Host>(host: &mut H, buffer: &mut [u8], room: usize) -> Result<us
 }
 
 // Takes bytes of the input, at most as many as there is room for, and goes over them. 0 is the end of the input.
-fn turn<H: Host>(alloc: Global, host: &mut H, buffer: &mut [u8], line: &mut Line, room: usize) -> Result<usize, Status>
+fn turn<H: Host>(
+    alloc: Global,
+    host: &mut H,
+    buffer: &mut [u8],
+    line: &mut Line,
+    room: usize,
+) -> Result<usize, Status>
     requires some { 0 < room }
     requires fits { room ≤ length buffer.old }
     ensures count { IfOk result (λ n. n ≤ room) }
@@ -156,7 +162,11 @@ fn room_for(taken: u64, held: usize) -> usize
     ensures bound { taken + result ≤ input_bound }
 {
     let room = INPUT_BOUND - taken;
-    if room < held as u64 { room as usize } else { held }
+    if room < held as u64 {
+        room as usize
+    } else {
+        held
+    }
 }
 
 // One more byte after the bound on the input.

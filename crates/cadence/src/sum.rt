@@ -27,7 +27,11 @@ fn literal_of(kind: &TokenKind) -> Option<u128>
             if *hexadecimal {
                 return None;
             }
-            if *value <= i128::MAX as u128 { Some(*value) } else { None }
+            if *value <= i128::MAX as u128 {
+                Some(*value)
+            } else {
+                None
+            }
         }
         _ => None,
     }
@@ -72,7 +76,11 @@ fn begun(alloc: Global, literal: u128) -> Result<Vec<u128>, AllocError>
 
 // The products that begin with this literal.
 
-fn products_from(alloc: Global, first: u128, tokens: &[Token]) -> Result<Option<Vec<Vec<u128>>>, AllocError>
+fn products_from(
+    alloc: Global,
+    first: u128,
+    tokens: &[Token],
+) -> Result<Option<Vec<Vec<u128>>>, AllocError>
     ensures { IfOk result (λ o. option_map (λ v. products_of v.items) o ≡ reading.products_from (first ∷ []) (kinds_of tokens.now)) }
 {
     let mut products = Vec::new(alloc);

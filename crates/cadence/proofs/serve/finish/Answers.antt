@@ -4,11 +4,11 @@ use Rattle.cadence.proofs.Runs.{ends, ends_begun, stop_ends}
 use Rattle.cadence.proofs.serve.finish.Goals as goal
 
 pub returns-in-Ok-clause-ends : goal.returns-in-Ok-clause-ends
-returns-in-Ok-clause-ends g c tell input base bound empty going =
-    ( c.say.ensures.left tell ∙ empty
-    , bound
-    , ends c.args.line.now input base (output (g.H.Host.trace c.args.host.now)) (output (g.H.Host.trace c.say.new.host)) going (c.in-Ok.ensures.said tell)
-    )
+returns-in-Ok-clause-ends g c tell input base bound empty going = (
+  c.say.ensures.left tell ∙ empty,
+  bound,
+  ends c.args.line.now input base (output (g.H.Host.trace c.args.host.now)) (output (g.H.Host.trace c.say.new.host)) going (c.in-Ok.ensures.said tell),
+)
 
 pub returns-in-Err-clause-ends : goal.returns-in-Err-clause-ends
 returns-in-Err-clause-ends g c tell input base bound empty going =
