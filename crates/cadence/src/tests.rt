@@ -1,0 +1,130 @@
+// Runs over a host in memory.
+use crate::serve::serve;
+use crate::status::Status;
+use cad_host::{MemHost, SureHost};
+use cad_syntax::{Items, Text};
+use std::alloc::{AllocError, Global};
+use std::test::Fail;
+
+const SUM: &str =
+    "{\"kind\":\"script\",\"code\":\"access(all) fun main(): Int { return 1 + 2 * 3 }\"}";
+
+const SEVEN: &str = "{\"reply\":\"ok\",\"result\":{\"type\":\"Int\",\"value\":\"7\"}}\n";
+
+const TOO_LONG: &str = "{\"error\":\"27\",\"reply\":\"bad\"}\n";
+
+const NO_FORM: &str = "{\"error\":\"29\",\"reply\":\"bad\"}\n";
+
+const OVERFLOW: &str = "{\"error\":\"101\",\"reply\":\"failed\"}\n";
+
+fn words_of(alloc: Global, list: &[&str]) -> Result<Items<Text>, AllocError> {
+    let mut words = Items::new(alloc);
+    for word in list {
+        words.push(Text::from_str(alloc, word)?)?;
+    }
+    Ok(words)
+}
+
+fn script(alloc: Global, sum: &str) -> Result<String, AllocError> {
+    format!(in alloc;
+        "{{\"kind\":\"script\",\"code\":\"access(all) fun main(): Int {{ return {sum} }}\"}}"
+    )
+}
+
+#[test]
+fn replies_to_lines(rt: HostRuntime) -> Result<(), Fail> {
+    let alloc = rt.alloc();
+    let words = words_of(alloc, &["run", "accounts"])?;
+    let edge = script(alloc, "170141183460469231731687303715884105727 + 1")?;
+    let table = [
+        (SUM.to_string(alloc)?, SEVEN.to_string(alloc)?),
+        (
+            format!(in alloc; " \t\r\n\n{SUM}\n \t")?,
+            SEVEN.to_string(alloc)?,
+        ),
+        (
+            format!(in alloc; "{SUM}\n{SUM}\n")?,
+            format!(in alloc; "{SEVEN}{SEVEN}")?,
+        ),
+        (edge, OVERFLOW.to_string(alloc)?),
+        ("".to_string(alloc)?, "".to_string(alloc)?),
+        (
+            format!(in alloc; "hello\n{SUM}")?,
+            format!(in alloc; "{NO_FORM}{SEVEN}")?,
+        ),
+    ];
+    for (input, want) in table.iter() {
+        let mut host = SureHost::new(alloc, input.as_bytes())?;
+        let status = serve(alloc, words.as_slice(), &mut host);
+        assert_eq!(rt; status, Status::Done);
+        assert_eq!(rt; host.output(), want.as_bytes());
+    }
+    Ok(())
+}
+
+#[test]
+fn skips_the_rest_of_a_long_line(rt: HostRuntime) -> Result<(), Fail> {
+    let alloc = rt.alloc();
+    let words = words_of(alloc, &["run", "accounts"])?;
+    let mut input = vec![in alloc; b'x'; 2_000_000]?;
+    input.push(b'\n')?;
+    input.extend_from_slice(SUM.as_bytes())?;
+    let want = format!(in alloc; "{TOO_LONG}{SEVEN}")?;
+    let mut host = SureHost::new(alloc, input.as_slice())?;
+    assert_eq!(rt; serve(alloc, words.as_slice(), &mut host), Status::Done);
+    assert_eq!(rt; host.output(), want.as_bytes());
+    Ok(())
+}
+
+#[test]
+fn knows_one_form_of_words(rt: HostRuntime) -> Result<(), Fail> {
+    let alloc = rt.alloc();
+    let none: [&str; 0] = [];
+    let table = [
+        none.as_slice(),
+        ["run"].as_slice(),
+        ["run", ""].as_slice(),
+        ["", "accounts"].as_slice(),
+        ["run", "-x"].as_slice(),
+        ["--help", "accounts"].as_slice(),
+        ["ran", "accounts"].as_slice(),
+        ["run", "accounts", "more"].as_slice(),
+    ];
+    for list in table.iter() {
+        let words = words_of(alloc, list)?;
+        let mut host = SureHost::new(alloc, SUM.as_bytes())?;
+        assert_eq!(rt; serve(alloc, words.as_slice(), &mut host), Status::Usage);
+        assert_eq!(rt; host.output(), "".as_bytes());
+    }
+    Ok(())
+}
+
+#[test]
+fn ends_at_the_first_fault(rt: HostRuntime) -> Result<(), Fail> {
+    let alloc = rt.alloc();
+    let words = words_of(alloc, &["run", "accounts"])?;
+    let input = format!(in alloc; "{SUM}\n{SUM}\n")?;
+    let half = &SEVEN.as_bytes()[..SEVEN.len() / 2];
+    let mut first = MemHost::new(alloc, input.as_bytes(), &[0], &[], &[])?;
+    assert_eq!(rt;
+        serve(alloc, words.as_slice(), &mut first),
+        Status::ReadFault
+    );
+    assert_eq!(rt; first.output(), "".as_bytes());
+    let mut second = MemHost::new(alloc, input.as_bytes(), &[1], &[], &[])?;
+    assert_eq!(rt;
+        serve(alloc, words.as_slice(), &mut second),
+        Status::ReadFault
+    );
+    assert_eq!(rt;
+        second.output(),
+        format!(in alloc; "{SEVEN}{SEVEN}")?.as_bytes()
+    );
+    let mut third = MemHost::new(alloc, input.as_bytes(), &[], &[0], &[])?;
+    assert_eq!(rt;
+        serve(alloc, words.as_slice(), &mut third),
+        Status::WriteFault
+    );
+    assert_eq!(rt; third.output(), half);
+    Ok(())
+}
