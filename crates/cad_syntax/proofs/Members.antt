@@ -36,16 +36,16 @@ and_both false b e = absurd (false≢true e)
 pub some_passes : {A : Type 0} (test : A → Bool) (xs : List A) → list_any test xs ≡ true → (x : A) × Contains xs x × (test x ≡ true)
 some_passes test [] e = absurd (false≢true e)
 some_passes test (x ∷ xs) e = elim (or_cases (test x) (list_any test xs) e) [
-    inl p ↦ (x, contains_first x xs, p)
+  | inl p ↦ (x, contains_first x xs, p)
   | inr p ↦ let rest = some_passes test xs p in (rest.0, contains_later x xs rest.0 rest.1, rest.2)
-  ]
+]
 
 pub passes_some : {A : Type 0} (test : A → Bool) (xs : List A) (x : A) → Contains xs x → test x ≡ true → list_any test xs ≡ true
 passes_some test [] y c p = absurd (contains_nothing y c)
 passes_some test (x ∷ xs) y c p = elim (contains_cases x xs y c) [
-    inl e ↦ rw (e, p) refl
+  | inl e ↦ rw (e, p) refl
   | inr rest ↦ or_right (test x) (list_any test xs) (passes_some test xs y rest p)
-  ]
+]
 
 -- each member passes the test
 pub each_passes : {A : Type 0} (test : A → Bool) (xs : List A) → list_all test xs ≡ true → (x : A) → Contains xs x → test x ≡ true
@@ -53,8 +53,8 @@ each_passes test [] e y c = absurd (contains_nothing y c)
 each_passes test (x ∷ xs) e y c =
     let both = and_both (test x) (list_all test xs) e in
     elim (contains_cases x xs y c) [
-      inl same ↦ rw (← same) both.0
-    | inr rest ↦ each_passes test xs both.1 y rest
+      | inl same ↦ rw (← same) both.0
+      | inr rest ↦ each_passes test xs both.1 y rest
     ]
 
 pub passes_each : {A : Type 0} (test : A → Bool) (xs : List A) → ((x : A) → Contains xs x → test x ≡ true) → list_all test xs ≡ true
@@ -66,13 +66,13 @@ passes_each test (x ∷ xs) h =
 pub contains_map : {A B : Type 0} (f : A → B) (xs : List A) (x : A) → Contains xs x → Contains (map f xs) (f x)
 contains_map f [] x c = absurd (contains_nothing x c)
 contains_map f (y ∷ ys) x c = elim (contains_cases y ys x c) [
-    inl e ↦ rw (← e) (contains_first (f y) (map f ys))
+  | inl e ↦ rw (← e) (contains_first (f y) (map f ys))
   | inr rest ↦ contains_later (f y) (map f ys) (f x) (contains_map f ys x rest)
-  ]
+]
 
 pub map_contains : {A B : Type 0} (f : A → B) (xs : List A) (y : B) → Contains (map f xs) y → (x : A) × Contains xs x × (f x ≡ y)
 map_contains f [] y c = absurd (contains_nothing y c)
 map_contains f (x ∷ xs) y c = elim (contains_cases (f x) (map f xs) y c) [
-    inl e ↦ (x, contains_first x xs, e)
+  | inl e ↦ (x, contains_first x xs, e)
   | inr rest ↦ let r = map_contains f xs y rest in (r.0, contains_later x xs r.0 r.1, r.2)
-  ]
+]

@@ -49,8 +49,9 @@ answer_tells eq tells false x y e = (λ h. absurd (false≢true h), λ same. e �
 
 -- the test of membership tells whether the list has the identifier
 pub has_tells : (r : Bool) (ids : List TypeId) (id : TypeId) → r ≡ has ids id → (IsTrue r ↔ Contains ids id)
-has_tells r ids id e =
-    (λ yes. let found = some_passes (λ other. same_id other id) ids (sym e ∙ yes) in
+has_tells r ids id e = (
+  λ yes. let found = some_passes (λ other. same_id other id) ids (sym e ∙ yes) in
       let same = (ids_tell found.0 id).0 found.2 in
       rw same at found.1,
-     λ there. e ∙ passes_some (λ other. same_id other id) ids id there ((ids_tell id id).1 refl))
+  λ there. e ∙ passes_some (λ other. same_id other id) ids id there ((ids_tell id id).1 refl),
+)

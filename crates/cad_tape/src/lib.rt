@@ -10,4 +10,3 @@ mod window;
 pub use commit::{append, checkpoint};
 pub use scanning::{Records, scan};
 pub use stop::ScanStop;
-

@@ -40,7 +40,7 @@ returns-in_err-entries-clause-is g c = λ tell bytes is along.
     let body = take (9 + c.in-Some.length - 9) (drop 9 c.unread-3.result.now) in
     let body_is : body ≡ take c.in-Some.length (drop 9 more) = λ i. take (same i) (drop 9 (c.unread-3.ensures.value i)) in
     rw (p.1, p.2) (err_takes c.in_err-entries.field-0.0 bytes c.args.window.now.place c.fill-2.new.window.place (entries_of body) c.in_err-entries.ensures.exact
-      (λ none. subst (λ (k : ℕ). IsBad (drop k bytes)) c.fill.ensures.place (bad_record bytes w1.place w1.end unread more body c.in-Some.length are_bytes a1' header a2 enough body_is none)))
+    (λ none. subst (λ (k : ℕ). IsBad (drop k bytes)) c.fill.ensures.place (bad_record bytes w1.place w1.end unread more body c.in-Some.length are_bytes a1' header a2 enough body_is none)))
 
 pub returns-clause-is : goal.returns-clause-is
 returns-clause-is g c = λ tell bytes is along.
