@@ -6,7 +6,7 @@ use Rattle.serde_json.specs.Read.{read}
 use Rattle.cadence.specs.Sums.{IsSumScript}
 use Rattle.cadence.specs.Request.{IsSumRequest, AsksForSum}
 
-same_some : {A : Type 0} (a b : A) → Some a ≡ Some b → a ≡ b
+pub same_some : {A : Type 0} (a b : A) → Some a ≡ Some b → a ≡ b
 same_some a b e = cc e
 
 asks_means : {V : Type 0} (seen : V → List (List ℕ)) (line code : List ℕ) (request : Data) → IsUtf8 line → read line ≡ Some request → IsSumRequest request code → (o : Option V)

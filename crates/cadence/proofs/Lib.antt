@@ -7,3 +7,4 @@ pub mod Asked
 pub mod Scripts
 pub mod Asks
 pub mod Replies
+pub mod Uniques

@@ -5,7 +5,7 @@ use Rattle.cad_syntax.specs.declared.token.Token.{Token}
 use Rattle.cad_syntax.specs.Lexes.{Lexes}
 use Rattle.cadence.specs.Sums.{kinds_of, head_kinds, IsJoined, IsSum, IsScript, IsSumScript}
 
-same_rest : (tokens head rest head2 rest2 : List Token) → tokens ≡ head ++ rest → tokens ≡ head2 ++ rest2 → kinds_of head ≡ head_kinds → kinds_of head2 ≡ head_kinds → rest2 ≡ rest
+pub same_rest : (tokens head rest head2 rest2 : List Token) → tokens ≡ head ++ rest → tokens ≡ head2 ++ rest2 → kinds_of head ≡ head_kinds → kinds_of head2 ≡ head_kinds → rest2 ≡ rest
 same_rest tokens head rest head2 rest2 is is2 kinds kinds2 =
     let long : length head2 ≡ length head = omega (arith, ap length kinds, ap length kinds2, length-map head (λ (t : Token). t.kind), length-map head2 (λ (t : Token). t.kind)) in
     sym (drop_at head2 rest2 (length head) long) ∙ ap (drop (length head)) (sym is2 ∙ is) ∙ drop_at head rest (length head) refl

@@ -1,6 +1,7 @@
 //! Cadence on one machine: command lines come in, and one reply line goes out for each.
 #![tactic(auto)]
 
+mod laws;
 mod line;
 mod mark;
 mod reply;
