@@ -1,7 +1,7 @@
 -- The record at the front of the bytes that were read.
-use Rattle.std.proofs.Common.{◌≡◌, ◌⊎◌, inl, inr, ⊎_elim, ℕ, zero, suc, ◌+◌, ◌-◌, ◌==◌, ◌<◌, ◌≤◌, ◌^◌, Bool, true, false, Option, Some, None, Result, Err, List, [], ◌∷◌, ◌++◌, length, take, drop, refl, sym, ◌∙◌, ap, subst, arith, append_assoc, length-append, length-take, length-drop, take-append-drop, if◌then◌else◌, ltb}
+use Rattle.std.proofs.Common.{◌≡◌, ◌⊎◌, inl, inr, ⊎_elim, ℕ, zero, suc, ◌+◌, ◌-◌, ◌==◌, ◌<◌, ◌≤◌, ◌^◌, Bool, true, false, Option, Some, None, Result, Err, List, [], ◌∷◌, ◌++◌, length, take, drop, refl, sym, ◌∙◌, ap, subst, arith, append_assoc, length-take, length-drop, take-append-drop, if◌then◌else◌, ltb}
 use Rattle.std.proofs.lemmas.List.{drop-drop, drop-take, drop_all, take-take, append-nil}
-use Rattle.std.proofs.lemmas.Bool.{cases_eq, ltb-false, ltb-true, lt-ltb}
+use Rattle.std.proofs.lemmas.Bool.{ltb-true, lt-ltb}
 use Rattle.std.proofs.lemmas.Bool.Decides.{nat_tests}
 use Rattle.cad_wire.specs.declared.entry.Entry.{Entry}
 use Rattle.cad_wire.specs.Fields.{◌>>=◌, number_field, number_at, AreBytes}
@@ -15,7 +15,7 @@ use Rattle.cad_tape.specs.Scanning.{IsAlong, header_at, IsBad, IsClosed, Takes, 
 use Rattle.cad_tape.specs.declared.stop.ScanStop.{ScanStop}
 use Rattle.cad_tape.specs.declared.stop.ScanStop.TheVariants as stops
 use Rattle.cad_tape.specs.Stops.{stop_of}
-use Rattle.cad_tape.proofs.Read.{body_again, whole}
+use Rattle.cad_tape.proofs.Read.{whole}
 
 -- ---- bytes that aren't those of records
 

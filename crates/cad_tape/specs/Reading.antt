@@ -1,12 +1,12 @@
 -- What three tapes stand for.
-use Rattle.std.specs.Prelude.{◌≡◌, ◌⊎◌, ℕ, ◌+◌, ◌%◌, ◌<◌, ◌^◌, ◌==◌, false, List, [], ◌∷◌, ◌++◌, length, Option, Some, None, Result, Ok, Err, if◌then◌else◌}
+use Rattle.std.specs.Prelude.{◌≡◌, ◌⊎◌, ℕ, ◌%◌, ◌<◌, ◌^◌, ◌==◌, false, List, [], ◌∷◌, length, Option, Some, None, if◌then◌else◌}
 use Rattle.cad_host.specs.declared.host.Tape.{Tape}
 use Rattle.cad_host.specs.declared.host.Tape.TheVariants.{A, B, Pick}
 use Rattle.cad_host.specs.Disk.{same_tape, Event, wrote, synced, state, reads, IsClean, IsDisk, output}
 use Rattle.cad_wire.specs.declared.entry.Entry.{Entry}
 use Rattle.cad_wire.specs.Fields.{◌>>=◌}
 use Rattle.cad_wire.specs.Reading.{entries_of}
-use Rattle.cad_tape.specs.Framing.{framing, spelled, framed, Ends}
+use Rattle.cad_tape.specs.Framing.{framing, spelled, Ends}
 
 -- the entries of each body: None where one is no body
 unfoldable pub records_of : List (List ℕ) → Option (List (List Entry))

@@ -1,4 +1,4 @@
-use Rattle.std.proofs.Common.{◌≡◌, ◌≤◌, ◌-◌, ◌<◌, ◌^◌, List, ℕ, drop, length}
+use Rattle.std.proofs.Common.{◌≡◌, ◌≤◌, ◌-◌, drop}
 use Rattle.cad_host.specs.Disk.{reads}
 use Rattle.cad_tape.specs.Scanning.{IsAlong}
 use Rattle.cad_tape.proofs.Going.{Going}

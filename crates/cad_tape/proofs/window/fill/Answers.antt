@@ -1,4 +1,4 @@
-use Rattle.std.proofs.Common.{◌≡◌, ◌++◌, ◌≤◌, ◌+◌, ◌-◌, List, ℕ, length, vec_len, take, drop, subst, inl, inr, arith, ◌∙◌, ap, sym}
+use Rattle.std.proofs.Common.{◌≡◌, ◌++◌, ◌≤◌, ◌+◌, ◌-◌, List, ℕ, length, take, drop, subst, inl, inr, arith, ◌∙◌, ap, sym}
 use Rattle.std.proofs.lemmas.Bool.Decides.{nat_tests}
 use Rattle.cad_host.specs.Disk.{reads}
 use Rattle.cad_tape.specs.Scanning.{IsAlong}
