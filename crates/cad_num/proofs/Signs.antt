@@ -1,8 +1,8 @@
 -- Integers by sign and magnitude.
 use Rattle.std.specs.Bool.{beq}
-use Rattle.std.proofs.lemmas.Bool.{ne_eqb}
+use Rattle.std.proofs.lemmas.Bool.{ne_eqb, lt-ltb}
 use Rattle.std.proofs.Math.Nat.{mul-zero, zero-mul, div-zero, zero-div}
-use Rattle.std.proofs.Common.{eqb, zero, suc, ◌&&◌, ap, ◌∙◌, ◌≡◌, ℕ, ◌+◌, ◌-◌, ◌*◌, ◌/◌, ◌≤◌, Bool, true, false, not, pos, ◌+ℤ◌, ◌*ℤ◌, refl, arith}
+use Rattle.std.proofs.Common.{eqb, ltb, zero, suc, ◌&&◌, ap, ◌∙◌, ◌≡◌, ℕ, ◌+◌, ◌-◌, ◌*◌, ◌/◌, ◌≤◌, Bool, true, false, not, pos, ◌+ℤ◌, ◌*ℤ◌, refl, arith}
 use Rattle.std.proofs.lemmas.Int.{ints}
 use Rattle.std.specs.Prelude.{int_div}
 use Rattle.cad_syntax.specs.Kinds.{signed}
@@ -78,3 +78,8 @@ quotient_rescaled s m d e = ap (λ z. int_div z (pos e)) (product_unsigned s m d
 
 pub quotient_divided : (s t : Bool) (m d n : ℕ) → int_div (signed s m *ℤ pos d) (signed t n) ≡ signed (not (beq s t)) (m * d / n)
 quotient_divided s t m d n = ap (λ z. int_div z (signed t n)) (product_unsigned s m d) ∙ quotient s t (m * d) n
+
+pub signed-below_zero : (s : Bool) (m : ℕ) → signed (s && ltb 0 m) m ≡ signed s m
+signed-below_zero true zero = refl
+signed-below_zero true (suc m) = rw (lt-ltb 0 (suc m) (omega arith)) refl
+signed-below_zero false m = refl

@@ -1,5 +1,6 @@
 // From an exact integer to a number of a kind.
-ghost use Rattle.std.specs.Prelude.{◌≡◌, IfOk, ℤ, true, if◌then◌else◌};
+ghost use Rattle.std.specs.Prelude.{◌≡◌, IfOk, ℤ, true, if◌then◌else◌, ◌&&◌, nat_lt};
+ghost use Rattle.cad_syntax.specs.Kinds.{in_range};
 ghost use Rattle.cad_num.specs.Numbers as spec;
 ghost use Rattle.cad_num.specs.Numbers.{outcome, valued, value_of, least_of, greatest_of, IsExact};
 
@@ -26,7 +27,37 @@ fn wrap(kind: Kind, exact: Exact) -> Num
     }
 }
 
-/// What a kind makes of an integer.
+/// Whether the number with this sign and magnitude is in the kind's range.
+fn is_in_range(kind: Kind, negative: bool, magnitude: u128) -> bool
+    ensures { result ≡ in_range kind negative magnitude }
+{
+    if negative {
+        magnitude <= kind.depth()
+    } else {
+        magnitude <= kind.greatest()
+    }
+}
+
+/// The error of a number out of range, by its sign.
+fn out_of_range(negative: bool) -> NumError
+    ensures { result ≡ (if negative then NumError.Underflow else NumError.Overflow) }
+{
+    if negative {
+        NumError::Underflow
+    } else {
+        NumError::Overflow
+    }
+}
+
+/// Whether the integer with this sign and magnitude is below 0.
+fn is_below_zero(negative: bool, magnitude: u128) -> bool
+    ensures { result ≡ (negative && nat_lt 0 magnitude) }
+{
+    negative && magnitude > 0
+}
+
+/// What a kind makes of an integer. The number is built in place, which is faster than by `Num::new`.
+#[inline]
 pub(crate) fn fit(kind: Kind, exact: Exact) -> Result<Num, NumError>
     ensures value { (z : ℤ) → IsExact exact z → valued result ≡ outcome kind z }
     ensures kind { IfOk result (λ n. n.kind ≡ kind) }
@@ -34,18 +65,17 @@ pub(crate) fn fit(kind: Kind, exact: Exact) -> Result<Num, NumError>
     if is_word(kind) {
         return Ok(wrap(kind, exact));
     }
-    let error = if exact.negative {
-        NumError::Underflow
-    } else {
-        NumError::Overflow
-    };
     if exact.over {
-        return Err(error);
+        return Err(out_of_range(exact.negative));
     }
-    match Num::new(kind, exact.negative, exact.low) {
-        Some(n) => Ok(n),
-        None => Err(error),
+    if !is_in_range(kind, exact.negative, exact.low) {
+        return Err(out_of_range(exact.negative));
     }
+    Ok(Num {
+        kind,
+        negative: is_below_zero(exact.negative, exact.low),
+        magnitude: exact.low,
+    })
 }
 
 /// The least number of a kind.
