@@ -111,6 +111,7 @@ pub fn fill<H: Host>(
         return Ok(());
     }
     let mut bytes = Vec::from_slice(alloc, window.unread())?;
+    bytes.reserve(need.saturating_add(PIECE as usize))?;
     'pieces: while bytes.len() < need {
         let at = window.place + bytes.len() as u64;
         if at >= window.end {
