@@ -4,7 +4,7 @@ use Rattle.std.proofs.lemmas.List.{append-nil}
 use Rattle.cad_wire.specs.declared.entry.Entry.{Entry}
 use Rattle.cad_wire.specs.Fields.{◌>>=◌, number_field}
 use Rattle.cad_wire.specs.Reading.{entries_of}
-use Rattle.cad_tape.specs.Framing.{bodies_in, framing, spelled}
+use Rattle.cad_tape.specs.Framing.{bodies_in, framing, spelled, Ends}
 use Rattle.cad_tape.specs.Reading.{records_of, tape_reading, or_none, ending}
 use Rattle.cad_tape.specs.Scanning.{IsBad, IsClosed, TakesRecord}
 use Rattle.cad_tape.proofs.Read.{AreShort, short_push, whole, read_spelled, spelled-push}
@@ -67,6 +67,17 @@ closed_reads tape place records going closed = ap (λ o. o >>= records_of) (fram
 
 pub closed_ending : (tape : List ℕ) (place : ℕ) (records : List (List Entry)) → Going tape place records → IsClosed (drop place tape) → place ≡ ending tape
 closed_ending tape place records going closed = going.place_is ∙ ap (λ o. length (spelled (or_none o))) (sym (framed_to tape place records going closed))
+
+pub closed_ends : (tape : List ℕ) (place next : ℕ) (records : List (List Entry)) → Going tape place records → IsClosed (drop place tape) → next ≡ place → Ends tape (or_none (framing tape)) next
+closed_ends tape place next records going closed stays =
+    let bodies : going.bodies ≡ or_none (framing tape) = ap or_none (sym (framed_to tape place records going closed)) in
+    subst (λ bs. Ends tape bs next) bodies (record {
+      gate = closed.gate;
+      rest = closed.rest;
+      closed = closed.closed;
+      is = going.is ∙ ap (λ (l : List ℕ). spelled going.bodies ++ l) closed.is;
+      place = stays ∙ going.place_is;
+    })
 
 -- bytes that aren't those of records, behind some that are
 both_none : (b : List ℕ) (o : Option (List (List ℕ))) → (o >>= records_of) ≡ None → ((o >>= λ bs. Some (b ∷ bs)) >>= records_of) ≡ None

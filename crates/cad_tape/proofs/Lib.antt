@@ -5,3 +5,4 @@ pub mod Onto
 pub mod Along
 pub mod Going
 pub mod Taking
+pub mod Opened

@@ -7,6 +7,21 @@ ghost use Rattle.cad_tape.specs.Framing.{framed};
 ghost use Rattle.cad_tape.specs.Reading.{stored, IsReady, IsFree, pick_of, Leaves, four_calls};
 
 use cad_host::{Failed, Host, Tape};
+use cad_syntax::{Bytes, Items};
+use std::alloc::{AllocError, Global};
+
+/// A record with this body: the open gate, the length of the body, the body and a closed gate behind it. So a checkpoint
+/// has it whole, and an append all but its first byte.
+pub fn frame(alloc: Global, body: &[u8]) -> Result<Bytes, AllocError>
+    ensures { IfOk result (λ bytes. bytes ≡ 1 ∷ framed body.now) }
+{
+    let mut bytes = Vec::new(alloc);
+    bytes.push(1)?;
+    bytes.extend_from_slice(&(body.len() as u64).to_be_bytes())?;
+    bytes.extend_from_slice(body)?;
+    bytes.push(0)?;
+    Ok(Items::from_vec(bytes))
+}
 
 /// Adds a record behind the closed gate at `at` of the tape in use, and then opens the gate: four disk calls. The bytes are
 /// the length of the record's body, the body and a closed gate. Answers the place of that gate; one over 2^64-1 is taken as

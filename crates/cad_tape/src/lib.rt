@@ -3,10 +3,15 @@
 #![tactic(auto)]
 
 mod commit;
+mod laws;
 mod scanning;
 mod stop;
 mod window;
 
-pub use commit::{append, checkpoint};
+pub use commit::{append, checkpoint, frame};
+pub use laws::{opens, records_both_ways};
 pub use scanning::{Records, scan};
 pub use stop::ScanStop;
+
+#[cfg(test)]
+mod tests;

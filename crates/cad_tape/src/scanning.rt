@@ -1,8 +1,9 @@
 // Reading a tape.
-ghost use Rattle.std.specs.Prelude.{◌≡◌, ◌<◌, ◌≤◌, ◌-◌, ◌+◌, List, ℕ, Some, None, length, drop, vec_len, MatchResult, IfOk, IfSome};
+ghost use Rattle.std.specs.Prelude.{◌≡◌, ◌<◌, ◌≤◌, ◌-◌, ◌+◌, ◌^◌, List, ℕ, Some, None, length, drop, vec_len, MatchResult, IfOk, IfSome};
 ghost use Rattle.cad_host.specs.Disk.{reads};
 ghost use Rattle.cad_wire.specs.Fields.{AreBytes};
-ghost use Rattle.cad_tape.specs.Reading.{tape_reading, ending};
+ghost use Rattle.cad_tape.specs.Framing.{framing, Ends};
+ghost use Rattle.cad_tape.specs.Reading.{tape_reading, ending, or_none};
 ghost use Rattle.cad_tape.specs.Scanning.{IsAlong, header_at, Takes};
 ghost use Rattle.cad_tape.specs.Stops.{Blames};
 
@@ -80,6 +81,11 @@ fn next_record<H: Host>(
 pub fn scan<H: Host>(alloc: Global, host: &mut H, tape: Tape) -> Result<Records, ScanStop>
     ensures records { H.tells → IfOk result (λ r. tape_reading (reads (H.trace host.old) tape) ≡ Some r.records) }
     ensures ending { H.tells → IfOk result (λ r. r.ending ≡ ending (reads (H.trace host.old) tape)) }
+    // A run can begin behind them.
+    ensures ends { H.tells → IfOk result (λ r. 0 < length (reads (H.trace host.old) tape)
+        → Ends (reads (H.trace host.old) tape) (or_none (framing (reads (H.trace host.old) tape))) r.ending) }
+    ensures fits { H.tells → IfOk result (λ _. length (reads (H.trace host.old) tape) < 2 ^ 64) }
+
     ensures damaged { H.tells → result ≡ Err ScanStop.Damaged → tape_reading (reads (H.trace host.old) tape) ≡ None }
     ensures cause { Blames result (H.disk_faults host.old) (H.disk_faults host.new) }
     ensures story { H.tells → H.trace host.new ≡ H.trace host.old }

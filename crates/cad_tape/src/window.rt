@@ -113,6 +113,9 @@ pub fn fill<H: Host>(
     let mut bytes = Vec::from_slice(alloc, window.unread())?;
     'pieces: while bytes.len() < need {
         let at = window.place + bytes.len() as u64;
+        if at >= window.end {
+            break;
+        }
         let room = (window.end - at).min(PIECE) as usize;
         let piece = read_piece(alloc, host, window.tape, at, room)?;
         if piece.is_empty() {

@@ -12,16 +12,16 @@ use unicode_normalization::to_nfc;
 pub fn equal(alloc: Global, a: &str, b: &str) -> Result<bool, AllocError>
     ensures { IfOk result (λ same. IsTrue same ↔ (normal_form a.now ≡ normal_form b.now)) }
 {
-    let a = to_nfc(alloc, a)?;
-    let b = to_nfc(alloc, b)?;
-    Ok(a.as_str() == b.as_str())
+    let left = to_nfc(alloc, a)?;
+    let right = to_nfc(alloc, b)?;
+    Ok(left.as_str() == right.as_str())
 }
 
 /// The order of the bytes of two texts' NFC forms.
 pub fn compare(alloc: Global, a: &str, b: &str) -> Result<Ordering, AllocError>
     ensures { IfOk result (λ order. order ≡ slice_cmp nat_cmp (normal_form a.now) (normal_form b.now)) }
 {
-    let a = to_nfc(alloc, a)?;
-    let b = to_nfc(alloc, b)?;
-    Ok(a.as_str().cmp(b.as_str()))
+    let left = to_nfc(alloc, a)?;
+    let right = to_nfc(alloc, b)?;
+    Ok(left.as_str().cmp(right.as_str()))
 }

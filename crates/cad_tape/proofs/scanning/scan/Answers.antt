@@ -5,7 +5,7 @@ use Rattle.cad_tape.specs.Scanning.{IsAlong, Takes}
 use Rattle.cad_tape.proofs.Along.{along_begins}
 use Rattle.cad_tape.proofs.Taking.{bad_of, err_is}
 use Rattle.cad_tape.specs.declared.stop.ScanStop.TheVariants.{Damaged}
-use Rattle.cad_tape.proofs.Going.{Going, going_begins, going_on, closed_reads, closed_ending, bad_reads, none_read, none_ending}
+use Rattle.cad_tape.proofs.Going.{Going, going_begins, going_on, closed_reads, closed_ending, closed_ends, bad_reads, none_read, none_ending}
 use Rattle.cad_tape.proofs.scanning.scan.Goals as goal
 
 pub returns-then-end-eq0-clause-records : goal.returns-then-end-eq0-clause-records
@@ -78,3 +78,14 @@ returns-clause-ending g c = λ tell.
     let is : bytes ≡ reads (g.H.Host.trace c.records.host) c.records.window.tape = λ i. reads (sym (inv.story tell) i) (sym inv.tape i) in
     let taken = subst (λ o. Takes (Ok o) bytes c.records.window.place c.next_record.new.window.place) c.in_default.is (c.in_ok-entries.ensures.is tell bytes is (inv.along tell)) in
     taken.1 ∙ closed_ending bytes c.records.window.place c.records.records (inv.going tell) taken.0
+
+pub returns-clause-ends : goal.returns-clause-ends
+returns-clause-ends g c = λ tell some.
+    let bytes = reads (g.H.Host.trace c.args.host.now) c.args.tape in
+    let inv = c.records.invariant in
+    let is : bytes ≡ reads (g.H.Host.trace c.records.host) c.records.window.tape = λ i. reads (sym (inv.story tell) i) (sym inv.tape i) in
+    let taken = subst (λ o. Takes (Ok o) bytes c.records.window.place c.next_record.new.window.place) c.in_default.is (c.in_ok-entries.ensures.is tell bytes is (inv.along tell)) in
+    closed_ends bytes c.records.window.place c.next_record.new.window.place c.records.records (inv.going tell) taken.0 taken.1
+
+pub returns-then-end-eq0-clause-ends : goal.returns-then-end-eq0-clause-ends
+returns-then-end-eq0-clause-ends g c = λ tell some. absurd (omega (arith, some, c.in_ok-end.ensures.is tell, c.if-end-eq0.true))

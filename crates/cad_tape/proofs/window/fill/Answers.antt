@@ -4,7 +4,7 @@ use Rattle.cad_host.specs.Disk.{reads}
 use Rattle.cad_tape.specs.Scanning.{IsAlong}
 use Rattle.cad_tape.proofs.Along.{more, none_left}
 use Rattle.cad_tape.proofs.window.fill.Goals as goal
-use Rattle.cad_tape.proofs.window.fill.Goals.{else-pieces-test, then-pieces-test+in_ok-piece+then-is_empty}
+use Rattle.cad_tape.proofs.window.fill.Goals.{else-pieces-test, then-pieces-test+then-at-window, then-pieces-test+else-at-window+in_ok-piece+then-is_empty}
 
 pub pieces-preserved : goal.pieces-preserved
 pieces-preserved g c = record {
@@ -37,7 +37,8 @@ returns-clause-enough g c = λ tell bytes is along.
     let end = c.args.window.now.end in
     elim c.pieces-test.branch [
       | else-pieces-test w ↦ inl (omega (arith, w.pieces-test.false, c.len.ensures, c.pieces.bytes.ok.0))
-      | then-pieces-test+in_ok-piece+then-is_empty w ↦
+      | then-pieces-test+then-at-window w ↦ inr (omega (arith, a.end_is, w.if-at-window.true, w.len-in-pieces.ensures, c.pieces.bytes.ok.0))
+      | then-pieces-test+else-at-window+in_ok-piece+then-is_empty w ↦
           let room = w.min-room.result in
           let at = place + w.len-in-pieces.result in
           let at_is : at ≡ place + length items = omega (arith, w.len-in-pieces.ensures, c.pieces.bytes.ok.0) in

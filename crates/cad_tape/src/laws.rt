@@ -1,0 +1,34 @@
+// The laws of reading a tape, and where a run can begin.
+ghost use Rattle.std.specs.Prelude.{◌≡◌, ◌≢◌, ◌<◌, ◌^◌, ◌++◌, [], ◌∷◌, List, ℕ, false, length, map, All, Some};
+ghost use Rattle.cad_host.specs.declared.host.Tape.{Tape};
+ghost use Rattle.cad_host.specs.declared.host.Tape.TheVariants.{Pick};
+ghost use Rattle.cad_host.specs.Disk.{Event, state, reads, same_tape, IsClean};
+ghost use Rattle.cad_wire.specs.declared.entry.Entry.{Entry};
+ghost use Rattle.cad_wire.specs.Body.{body_bytes, IsRecord};
+ghost use Rattle.cad_wire.specs.Fields.{AreBytes};
+ghost use Rattle.cad_tape.specs.Framing.{spelled, Ends};
+ghost use Rattle.cad_tape.specs.Reading.{tape_reading, chosen, stored, IsReady, IsFree};
+
+/// Records are read back from their bytes, whatever follows the closed gate behind them, and from no other bytes.
+pub fn records_both_ways()
+    ensures again { (records : List (List Entry)) (gate : ℕ) (rest : List ℕ) → All IsRecord records
+        → length (spelled (map body_bytes records)) < 2 ^ 64 → gate ≢ 1
+        → tape_reading (spelled (map body_bytes records) ++ gate ∷ rest) ≡ Some records }
+    ensures found { (bytes : List ℕ) (records : List (List Entry)) → AreBytes bytes → 0 < length bytes
+        → tape_reading bytes ≡ Some records
+        → All IsRecord records × Ends bytes (map body_bytes records) (length (spelled (map body_bytes records))) }
+{}
+
+/// Where nothing is pending, a run can begin behind the records of the tape in use, or onto the other tape.
+pub fn opens()
+    ensures ready { (m : List Event) (at : ℕ) → Ends (reads m (chosen (reads m Pick))) (stored m) at
+        → length (reads m (chosen (reads m Pick))) < 2 ^ 64
+        → IsClean (state (chosen (reads m Pick)) m) → IsClean (state Pick m)
+        → IsReady m (chosen (reads m Pick)) at }
+    ensures free { (m : List Event) (onto : Tape) → length (reads m (chosen (reads m Pick))) ≡ 0
+        → same_tape onto (chosen (reads m Pick)) ≡ false → same_tape onto Pick ≡ false
+        → IsClean (state (chosen (reads m Pick)) m) → IsClean (state Pick m)
+        → IsFree m onto × (stored m ≡ []) }
+    ensures switches { (m : List Event) (tape onto : Tape) (at : ℕ) → IsReady m tape at
+        → same_tape onto tape ≡ false → same_tape onto Pick ≡ false → IsFree m onto }
+{}
