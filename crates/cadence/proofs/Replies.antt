@@ -1,10 +1,10 @@
 -- A reply is that of the line that is held.
-use Rattle.std.proofs.Common.{◌≡◌, ◌≢◌, ℕ, ◌≤◌, ◌<◌, Bool, true, false, ltb, List, length, take, Option, Some, None, Result, Ok, Err, IfOk, MatchOption, refl, sym, ◌∙◌, ap, subst, arith}
+use Rattle.std.proofs.Common.{◌≡◌, ℕ, ◌≤◌, ◌<◌, true, false, ltb, List, length, sym, ◌∙◌, subst, arith}
 use Rattle.std.specs.List.{AllByRecursion}
 use Rattle.std.proofs.lemmas.List.{take_all}
 use Rattle.std.proofs.lemmas.Bool.Decides.{nat_tests}
 use Rattle.cadence.specs.Held.{Holds, longest}
-use Rattle.cadence.specs.Answer.{Answer, bad, Answers, too_long, no_form, sum, Runs, answer_line}
+use Rattle.cadence.specs.Answer.{Answer, bad, Answers, too_long, sum, Runs, answer_line}
 use Rattle.cadence.specs.Request.{AsksForSum}
 use Rattle.cadence.specs.Sums.{IsProduct, sum_value}
 use Rattle.cadence.specs.Served.{IsReply}

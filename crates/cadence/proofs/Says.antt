@@ -1,12 +1,11 @@
 -- Answers to commands, one after another.
-use Rattle.std.proofs.Common.{◌≡◌, ℕ, ◌+◌, Bool, true, false, cond, not, inl, inr, if◌then◌else◌, List, [], ◌∷◌, ◌++◌, length, take, min, ◌≤◌, refl, sym, ◌∙◌, ap, subst, filter, arith, append_assoc, length-append, length-take}
-use Rattle.std.specs.List.{flat_map}
+use Rattle.std.proofs.Common.{◌≡◌, ℕ, ◌+◌, Bool, true, false, cond, not, inl, inr, List, [], ◌∷◌, ◌++◌, length, take, min, refl, sym, ◌∙◌, ap, subst, arith, append_assoc}
 use Rattle.std.proofs.lemmas.List.{append-nil, take-append-le, take_min}
 use Rattle.std.proofs.Math.Seq.{take-append-add, take-length}
-use Rattle.cadence.specs.Lines.{commands_among, is_command, commands, lines}
-use Rattle.cadence.specs.Answer.{Answer, Answers, answer_line}
+use Rattle.cadence.specs.Lines.{is_command}
+use Rattle.cadence.specs.Answer.{Answer, answer_line}
 use Rattle.cadence.specs.Served.{AnswersAll, answer_lines, Served, Begun, IsReply}
-use Rattle.cad_host.specs.Disk.{Event, put, output, BreaksPut}
+use Rattle.cad_host.specs.Disk.{Event, output, BreaksPut}
 use Rattle.cadence.specs.Held.{Holds}
 use Rattle.cadence.specs.declared.line.Line.{Line}
 

@@ -1,5 +1,5 @@
 -- Scripts are read exactly.
-use Rattle.std.proofs.Common.{◌≡◌, ℕ, List, ◌++◌, length, drop, Option, Some, None, Result, Ok, Err, IfOk, MatchOption, map, refl, sym, ◌∙◌, ap, subst, arith}
+use Rattle.std.proofs.Common.{◌≡◌, ℕ, List, ◌++◌, length, drop, Option, Some, None, Result, Ok, Err, IfOk, MatchOption, refl, sym, ◌∙◌, ap, subst, arith}
 use Rattle.std.proofs.lemmas.List.{length-map, drop_at}
 use Rattle.cad_syntax.specs.declared.token.Token.{Token}
 use Rattle.cad_syntax.specs.Lexes.{Lexes}

@@ -1,6 +1,6 @@
 -- The tokens of a sum are read exactly.
-use Rattle.std.proofs.Common.{◌≡◌, ◌≢◌, ℕ, suc, ◌+◌, ◌≤◌, length, Bool, true, false, leb, cond, List, [], ◌∷◌, ◌++◌, Option, Some, None, Result, Ok, Err, IfOk, MatchOption, option_map, option_and_then, refl, sym, ◌∙◌, ap, subst, append_assoc, arith, if◌then◌else◌}
-use Rattle.std.specs.List.{join_by, flat_map, AllByRecursion}
+use Rattle.std.proofs.Common.{◌≡◌, ◌≢◌, ℕ, suc, ◌+◌, ◌≤◌, length, Bool, true, false, leb, List, [], ◌∷◌, ◌++◌, Option, Some, None, Result, Ok, Err, IfOk, MatchOption, option_map, option_and_then, refl, sym, ◌∙◌, ap, subst, append_assoc, arith, if◌then◌else◌}
+use Rattle.std.specs.List.{flat_map, AllByRecursion}
 use Rattle.std.proofs.lemmas.List.{append-nil, length-map}
 use Rattle.std.proofs.lemmas.Bool.Decides.{nat_tests}
 use Rattle.cad_syntax.specs.declared.token.Sign.{Sign}

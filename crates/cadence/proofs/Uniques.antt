@@ -1,5 +1,5 @@
 -- A command has one answer at most.
-use Rattle.std.proofs.Common.{◌≡◌, ℕ, zero, suc, ◌<◌, ◌≤◌, Bool, true, false, ◌&&◌, ltb, leb, ℤ, pos, negsuc, neg_ℤ, List, [], ◌∷◌, ◌++◌, codes, if◌then◌else◌, Option, Some, None, Result, Ok, Err, refl, sym, ◌∙◌, ap, subst, arith}
+use Rattle.std.proofs.Common.{◌≡◌, ℕ, zero, suc, Bool, true, false, ℤ, List, [], ◌∷◌, ◌++◌, codes, if◌then◌else◌, Result, refl, sym, ◌∙◌, ap, subst, arith}
 use Rattle.cad_syntax.specs.declared.kind.Kind.{Kind}
 use Rattle.cad_syntax.specs.declared.num.Num.{Num}
 use Rattle.cad_syntax.specs.declared.token.Token.{Token}
@@ -8,10 +8,10 @@ use Rattle.cad_syntax.specs.Lexes.{Lexes}
 use Rattle.cad_num.specs.declared.error.NumError.{NumError}
 use Rattle.cad_num.specs.Numbers.{value_of}
 use Rattle.cad_num.specs.Decimal.{written, magnitude_text}
-use Rattle.cadence.specs.Sums.{kinds_of, head_kinds, sum_kinds, tail_kinds, IsSum, IsScript, IsSumScript, sum_value}
+use Rattle.cadence.specs.Sums.{IsSum, IsScript, IsSumScript, sum_value}
 use Rattle.cadence.specs.Reading.{sum_of}
 use Rattle.cadence.specs.Request.{AsksForSum, IsSumRequest}
-use Rattle.cadence.specs.Answer.{Answer, Answers, too_long, no_form, sum, Runs, done, fails, answer_line, failed, result, error_number}
+use Rattle.cadence.specs.Answer.{Answer, Answers, too_long, no_form, sum, Runs, done, fails, answer_line, failed, error_number}
 use Rattle.cadence.proofs.Sums.{sum_read}
 use Rattle.cadence.proofs.Scripts.{same_rest}
 use Rattle.cadence.proofs.Asks.{same_some}

@@ -1,5 +1,5 @@
 -- The tokens that a form of code asks for.
-use Rattle.std.specs.Prelude.{ℕ, List, map}
+use Rattle.std.specs.Prelude.{List, map}
 use Rattle.cad_syntax.specs.declared.token.TokenKind.{TokenKind}
 use Rattle.cad_syntax.specs.declared.token.TokenKind.TheVariants as kind
 use Rattle.cadence.specs.declared.mark.Mark.{Mark}

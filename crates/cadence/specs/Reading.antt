@@ -1,6 +1,5 @@
 -- How the tokens of a sum are read.
-use Rattle.std.specs.Prelude.{ℕ, false, List, [], ◌∷◌, ◌++◌, nat_le, Option, Some, None, option_map, option_and_then, if◌then◌else◌, map}
-use Rattle.cad_syntax.specs.declared.token.Keyword.{Keyword}
+use Rattle.std.specs.Prelude.{ℕ, List, [], ◌∷◌, ◌++◌, nat_le, Option, Some, None, option_map, option_and_then, if◌then◌else◌}
 use Rattle.cad_syntax.specs.declared.token.Sign.{Sign}
 use Rattle.cad_syntax.specs.declared.token.Sign.TheVariants as sign
 use Rattle.cad_syntax.specs.declared.token.TokenKind.{TokenKind}

@@ -2,7 +2,6 @@
 use Rattle.std.specs.Prelude.{◌≡◌, ℕ, List, map, Vec}
 use Rattle.cad_syntax.specs.declared.kind.Kind.TheVariants.{Int}
 use Rattle.std.specs.declared.alloc.Global.{Global}
-use Rattle.cad_syntax.specs.declared.token.Token.{Token}
 use Rattle.cadence.specs.Sums.{kinds_of}
 use Rattle.cadence.specs.Reading.{Next, factor, term, end, nothing}
 use Rattle.cadence.specs.Answer.{Answer, result, failed, bad}

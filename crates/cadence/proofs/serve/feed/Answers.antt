@@ -1,4 +1,4 @@
-use Rattle.std.proofs.Common.{◌∙◌, refl, arith, rules, length}
+use Rattle.std.proofs.Common.{◌∙◌, refl, arith}
 use Rattle.cad_host.specs.Disk.{output}
 use Rattle.cadence.proofs.Runs.{goes_more, goes_all, stops_more}
 use Rattle.cadence.proofs.serve.feed.Goals as goal

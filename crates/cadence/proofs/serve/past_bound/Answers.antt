@@ -1,4 +1,4 @@
-use Rattle.std.proofs.Common.{◌<◌, ◌≤◌, arith, rules, ap, sym}
+use Rattle.std.proofs.Common.{arith, ap, sym}
 use Rattle.cad_host.specs.Disk.{output}
 use Rattle.cadence.specs.Ending.{input_bound}
 use Rattle.cadence.proofs.Runs.{bound_ends, going_as}

@@ -1,4 +1,4 @@
-use Rattle.std.proofs.Common.{◌≡◌, ◌≤◌, ◌<◌, ◌+◌, ◌-◌, ◌^◌, length}
+use Rattle.std.proofs.Common.{◌≡◌, ◌≤◌, ◌<◌, ◌+◌, ◌-◌, length}
 use Rattle.cad_host.specs.Disk.{output}
 use Rattle.cadence.specs.Progress.{Going, KeepsTapes}
 use Rattle.cadence.specs.Ending.{input_bound}

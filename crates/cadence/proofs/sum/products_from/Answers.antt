@@ -1,8 +1,8 @@
-use Rattle.std.proofs.Common.{◌≡◌, ◌++◌, ◌∷◌, [], ◌∙◌, Some, ap, arith}
+use Rattle.std.proofs.Common.{◌∷◌, [], ◌∙◌, Some, ap, arith}
 use Rattle.std.proofs.lemmas.List.{map-append, length-map}
 use Rattle.cad_syntax.specs.declared.token.Token.{Token}
 use Rattle.cadence.specs.Sums.{kinds_of}
-use Rattle.cadence.specs.Reading.{factor, term, products_from}
+use Rattle.cadence.specs.Reading.{factor, term}
 use Rattle.cadence.specs.Views.{products_of}
 use Rattle.cadence.proofs.Sums.{turn_factor_as, turn_term_as, turn_end, turn_nothing, turn_out, factor_shorter, term_shorter}
 use Rattle.cadence.proofs.sum.products_from.Goals as goal

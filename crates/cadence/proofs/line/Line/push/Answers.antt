@@ -1,4 +1,4 @@
-use Rattle.std.proofs.Common.{◌≡◌, ◌∙◌, ap, ◌&&◌}
+use Rattle.std.proofs.Common.{◌∙◌, ap, ◌&&◌}
 use Rattle.cadence.specs.Lines.{is_blank_byte}
 use Rattle.cadence.proofs.Holding.{all_push}
 use Rattle.cadence.proofs.line.Line.push.Goals as goal
