@@ -19,6 +19,7 @@ def build(folder, libraries, name, uses, source, proofs, words):
     """The program `name` with this source and these proof files, over these crates, and the crates of the kit that it
     uses; it is run once with these words. Answers its path."""
     crates = folder / "crates"
+    crates.mkdir(parents=True)
     for library in libraries:
         shutil.copytree(ROOT / "crates" / library, crates / library, ignore=shutil.ignore_patterns("out", "must-fail", "tests.rt"))
         head = crates / library / "src" / "lib.rt"
