@@ -21,7 +21,7 @@ def build(folder, libraries, name, uses, source, proofs, words):
     crates = folder / "crates"
     crates.mkdir(parents=True)
     for library in libraries:
-        shutil.copytree(ROOT / "crates" / library, crates / library, ignore=shutil.ignore_patterns("out", "must-fail", "tests.rt"))
+        shutil.copytree(ROOT / "crates" / library, crates / library, ignore=shutil.ignore_patterns("out", "must-fail", "tests.rt", "tests"))
         head = crates / library / "src" / "lib.rt"
         head.write_text(head.read_text().replace(TESTS, ""))
     subprocess.run(["git", "init", "-q", "."], cwd=folder, check=True)

@@ -32,7 +32,7 @@ fn scan_folder(rt: &HostRuntime, folder: &str) -> Result<u64> {
 fn both_ways(rt: &HostRuntime, count: u64) -> Result<u64> {
     let mut same = 0u64;
     for i in 0..count {
-        let Some(n) = Num::new(Kind::Int, i % 2 == 1, i as u128 * 0x1_0000_0001_0000_0001) else {
+        let Some(n) = Num::new(Kind::Int, i % 2 == 1, (i as u128).wrapping_mul(0x1_0000_0001_0000_0001)) else {
             bail!("a number")
         };
         if n.kind == Kind::Address {
