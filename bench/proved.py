@@ -1,0 +1,39 @@
+"""Builds a small proved program over copies of the repository's crates, for a benchmark to time."""
+import pathlib, shutil, subprocess
+
+ROOT = pathlib.Path(__file__).resolve().parent.parent
+TESTS = "#[cfg(test)]\nmod tests;\n"
+
+
+def lines_of(names):
+    """The lines of crates.txt that these crates have in the repository."""
+    lines = {}
+    for line in (ROOT / "crates.txt").read_text().splitlines():
+        name, colon, _ = line.partition(":")
+        if colon:
+            lines[name] = line
+    return [lines[name] for name in names]
+
+
+def build(folder, libraries, name, uses, source, proofs, words):
+    """The program `name` with this source and these proof files, over these crates, and the crates of the kit that it
+    uses; it is run once with these words. Answers its path."""
+    crates = folder / "crates"
+    crates.mkdir(parents=True)
+    for library in libraries:
+        shutil.copytree(ROOT / "crates" / library, crates / library, ignore=shutil.ignore_patterns("out", "must-fail", "tests.rt", "tests"))
+        head = crates / library / "src" / "lib.rt"
+        head.write_text(head.read_text().replace(TESTS, ""))
+    subprocess.run(["git", "init", "-q", "."], cwd=folder, check=True)
+    lines = lines_of(libraries) + [f"{name}: {' '.join([*libraries, *uses])}"]
+    (folder / "crates.txt").write_text("\n".join(lines) + "\n")
+    (folder / "HANDLES").write_text((ROOT / "HANDLES").read_text())
+    program = crates / name
+    (program / "src").mkdir(parents=True)
+    (program / "src" / "main.rt").write_text(source)
+    for path, text in proofs.items():
+        file = program / "proofs" / path
+        file.parent.mkdir(parents=True, exist_ok=True)
+        file.write_text(text)
+    subprocess.run(["rt", "run", "--jobs", "2", "--", *words], cwd=program, check=True, capture_output=True)
+    return program / "out" / name
