@@ -9,13 +9,12 @@ usage: bench/arithmetic.py [TURNS]
 """
 
 import pathlib
-import shutil
 import subprocess
 import sys
 import tempfile
 import time
 
-ROOT = pathlib.Path(__file__).resolve().parent.parent
+import proved
 
 PROVED = r"""//! Adds or multiplies numbers many times.
 #![tactic(auto)]
@@ -170,36 +169,25 @@ def least_seconds(command):
 
 
 def build(folder):
-    crates = folder / "crates"
-    for name in ("cad_syntax", "cad_num"):
-        shutil.copytree(ROOT / "crates" / name, crates / name, ignore=shutil.ignore_patterns("out", "must-fail", "tests.rt"))
-        head = crates / name / "src" / "lib.rt"
-        head.write_text(head.read_text().replace("#[cfg(test)]\nmod tests;\n", ""))
-    subprocess.run(["git", "init", "-q", "."], cwd=folder, check=True)
-    (folder / "crates.txt").write_text("cad_syntax:\ncad_num: cad_syntax\narithmetic: cad_num cad_syntax anyhow\n")
-    (folder / "HANDLES").write_text((ROOT / "HANDLES").read_text())
-    source = crates / "arithmetic" / "src"
-    source.mkdir(parents=True)
-    (source / "main.rt").write_text(PROVED)
-    for name, second in (("sums", "step"), ("products", "factor")):
-        proofs = crates / "arithmetic" / "proofs" / name
-        proofs.mkdir(parents=True)
-        (proofs / "Invariants.antt").write_text(INVARIANT.format(name=name, second=second))
+    proofs = {
+        f"{name}/Invariants.antt": INVARIANT.format(name=name, second=second)
+        for name, second in (("sums", "step"), ("products", "factor"))
+    }
     words = ["add", "Int", "1", "1", "1"]
-    subprocess.run(["rt", "run", "--jobs", "2", "--", *words], cwd=source.parent, check=True, capture_output=True)
+    ours = proved.build(folder, ["cad_syntax", "cad_num"], "arithmetic", ["anyhow"], PROVED, proofs, words)
     plain = folder / "plain.rs"
     plain.write_text(PLAIN)
     subprocess.run(["rustc", "-O", "-o", str(folder / "plain"), str(plain)], check=True)
-    return source.parent / "out" / "arithmetic", folder / "plain"
+    return ours, folder / "plain"
 
 
 def main():
     turns = sys.argv[1] if len(sys.argv) > 1 else "10000000"
     with tempfile.TemporaryDirectory() as name:
-        proved, plain = build(pathlib.Path(name))
+        program, plain = build(pathlib.Path(name) / "repository")
         slow = False
         for loop in LOOPS:
-            ours, first = least_seconds([str(proved), *loop, turns])
+            ours, first = least_seconds([str(program), *loop, turns])
             theirs, second = least_seconds([str(plain), *loop, turns])
             same = "same result" if first == second else "OTHER RESULT"
             print(f"{loop[0]} {loop[1]}: {ours:.3f} s, plain Rust {theirs:.3f} s, {ours / theirs:.1f} times, {same}")
