@@ -1,0 +1,4 @@
+pub mod Order
+pub mod Turns
+pub mod Judging
+pub mod Closed

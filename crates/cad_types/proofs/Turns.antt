@@ -1,0 +1,78 @@
+-- The loops of judging.
+use Rattle.std.proofs.Common.{◌≡◌, ℕ, zero, suc, ◌+◌, ◌<◌, Bool, true, false, ◌&&◌, ◌||◌, List, [], ◌∷◌, ◌++◌, length, map, drop, get_or, refl, ap, sym, ◌∙◌, add-one, arith}
+use Rattle.std.proofs.lemmas.Bool.{false≢true}
+use mathlib.Core.Bool.{beq}
+use Rattle.std.specs.List.{list_any, AllZip}
+use Rattle.cad_syntax.specs.TypeIds.{same_id, has}
+use Rattle.cad_syntax.specs.Types.{pure_type}
+use Rattle.cad_syntax.specs.declared.types.CadType.{CadType}
+use Rattle.cad_syntax.proofs.Members.{and_both}
+use Rattle.cad_syntax.proofs.Same.{Tells}
+use Rattle.cad_syntax.specs.declared.type_id.TypeId.{TypeId}
+use Rattle.cad_types.specs.Declarations.{Declaration, declaration_of, interfaces_of}
+use Rattle.cad_types.specs.Below.{has_interface}
+use Rattle.cad_types.specs.Judged.{marked, unmarked, each_kept}
+use Rattle.cad_types.specs.declared.declared.Declared.{Declared}
+use Rattle.cad_types.specs.declared.marks.Marks.{Marks}
+
+marked_nothing : (ds : List Declaration) (id : TypeId) → marked ds [] id ≡ unmarked
+marked_nothing [] id = refl
+marked_nothing (d ∷ ds) id = refl
+
+-- past a declaration of another identifier
+marked_step : (ds : List Declared) (ms : List Marks) (id : TypeId) (i : ℕ) (default : Declared) → i < length ds → same_id (get_or ds i default).id id ≡ false → marked (map declaration_of (drop (suc i) ds)) (drop (suc i) ms) id ≡ marked (map declaration_of (drop i ds)) (drop i ms) id
+marked_step [] ms id i default below other = absurd (omega arith)
+marked_step (d ∷ ds) [] id zero default below other = marked_nothing (map declaration_of ds) id
+marked_step (d ∷ ds) [] id (suc i) default below other = marked_nothing (map declaration_of (drop (suc i) ds)) id ∙ sym (marked_nothing (map declaration_of (drop i ds)) id)
+marked_step (d ∷ ds) (m ∷ ms) id zero default below other = rw other refl
+marked_step (d ∷ ds) (m ∷ ms) id (suc i) default below other = marked_step ds ms id i default (omega arith) other
+
+pub marked_more : (ds : List Declared) (ms : List Marks) (id : TypeId) (i : ℕ) (default : Declared) → i < length ds → same_id (get_or ds i default).id id ≡ false → marked (map declaration_of (drop i ds)) (drop i ms) id ≡ marked (map declaration_of ds) ms id → marked (map declaration_of (drop (i + 1) ds)) (drop (i + 1) ms) id ≡ marked (map declaration_of ds) ms id
+marked_more ds ms id i default below other before = rw add-one (marked_step ds ms id i default below other ∙ before)
+
+-- the derived test of marks
+abbrev pub same_mark : Marks → Marks → Bool
+same_mark a b = beq a.storable b.storable && (beq a.importable b.importable && beq a.carried b.carried)
+
+flags_tell : (a b : Bool) → (beq a b ≡ true → a ≡ b) × (a ≡ b → beq a b ≡ true)
+flags_tell true true = (λ _. refl, λ _. refl)
+flags_tell true false = (λ e. absurd (false≢true e), λ e. absurd (false≢true (sym e)))
+flags_tell false true = (λ e. absurd (false≢true e), λ e. absurd (false≢true e))
+flags_tell false false = (λ _. refl, λ _. refl)
+
+pub marks_tell : Tells same_mark
+marks_tell a b = (
+  λ e. let first = and_both (beq a.storable b.storable) (beq a.importable b.importable && beq a.carried b.carried) e in
+      let second = and_both (beq a.importable b.importable) (beq a.carried b.carried) first.1 in
+      ap (λ x. record { storable = x; importable = a.importable; carried = a.carried }) ((flags_tell a.storable b.storable).0 first.0)
+      ∙ ap (λ x. record { storable = b.storable; importable = x; carried = a.carried }) ((flags_tell a.importable b.importable).0 second.0)
+      ∙ ap (λ x. record { storable = b.storable; importable = b.importable; carried = x }) ((flags_tell a.carried b.carried).0 second.1),
+  λ e. rw ((flags_tell a.storable b.storable).1 (ap (λ (m : Marks). m.storable) e), (flags_tell a.importable b.importable).1 (ap (λ (m : Marks). m.importable) e), (flags_tell a.carried b.carried).1 (ap (λ (m : Marks). m.carried) e)) refl,
+)
+
+or_true : (c : Bool) → (c || true) ≡ true
+or_true true = refl
+or_true false = refl
+
+or_of_two : (a b c d : Bool) → ((a || c) || (b || d)) ≡ ((a || b) || (c || d))
+or_of_two true b c d = refl
+or_of_two false true c true = or_true c
+or_of_two false true true false = refl
+or_of_two false true false false = refl
+or_of_two false false c d = refl
+
+-- some member passes one of two tests
+pub some_of_two : {A : Type 0} (p q : A → Bool) (xs : List A) → list_any (λ x. p x || q x) xs ≡ (list_any p xs || list_any q xs)
+some_of_two p q [] = refl
+some_of_two p q (x ∷ xs) = ap (λ r. (p x || q x) || r) (some_of_two p q xs) ∙ or_of_two (p x) (list_any p xs) (q x) (list_any q xs)
+
+-- an interface is had where it is there itself or one of those there has it
+pub interface_by : (k : List Declaration) (ids : List TypeId) (id : TypeId) → has_interface k ids id ≡ (has ids id || list_any (λ i. has (interfaces_of k i) id) ids)
+interface_by k ids id = some_of_two (λ i. same_id i id) (λ i. has (interfaces_of k i) id) ids
+
+-- copies of types are the same types
+pub clones_same : (types copies : List CadType) → AllZip (λ t copy. pure_type copy ≡ pure_type t) types copies → map pure_type copies ≡ map pure_type types
+clones_same [] [] h = refl
+clones_same [] (c ∷ cs) h = absurd h
+clones_same (t ∷ ts) [] h = absurd h
+clones_same (t ∷ ts) (c ∷ cs) h = ap (λ x. x ∷ map pure_type cs) h.0 ∙ ap (λ xs. pure_type t ∷ xs) (clones_same ts cs h.1)

@@ -1,0 +1,19 @@
+use Rattle.std.proofs.Common.{List, map, ap, ◌∙◌}
+use Rattle.cad_syntax.specs.Types.{pure_type}
+use Rattle.cad_types.specs.Declarations.{declaration_of}
+use Rattle.cad_types.specs.Judged.{importable_by}
+use Rattle.cad_types.specs.Views.{declarations}
+use Rattle.cad_types.specs.declared.declared.Declared.{Declared}
+use Rattle.cad_types.specs.declared.marks.Marks.{Marks}
+use Rattle.cad_types.proofs.Judging.{importable_tells}
+use Rattle.cad_types.proofs.kinds.Kinds.is_importable.Goals as goal
+
+pub returns : goal.returns
+returns c =
+    let kinds = c.args.self.now in
+    let t = pure_type c.args.t.now in
+    let answer =
+    c.is_importable_by.ensures
+    ∙ ap (λ (ds : List Declared). importable_by (map declaration_of ds) c.as_slice-2.result.now t) c.as_slice.ensures.value
+    ∙ ap (λ (ms : List Marks). importable_by (declarations kinds) ms t) c.as_slice-2.ensures.value in
+    importable_tells (declarations kinds) kinds.marks.items kinds.judged c.is_importable_by.result t answer

@@ -1,0 +1,33 @@
+// Which types can be stored, which arguments can have and which can be handed out.
+ghost use Rattle.std.specs.Prelude.{◌≤◌, ◌↔◌, IsTrue};
+ghost use Rattle.cad_syntax.specs.Types.{pure_type, nesting};
+ghost use Rattle.cad_types.specs.Classes.{Storable, Importable, Exportable};
+ghost use Rattle.cad_types.specs.Views.{declarations};
+
+use crate::kinds::Kinds;
+use cad_syntax::CadType;
+
+/// Whether a value of this type can be stored: no reference, Void, account or controller is in it. The type nests at most
+/// 512 deep.
+pub fn is_storable(kinds: &Kinds, t: &CadType) -> bool
+    requires { nesting (pure_type t.now) ≤ 512 }
+    ensures { IsTrue result ↔ Storable (declarations kinds.now) (pure_type t.now) }
+{
+    kinds.is_storable(t)
+}
+
+/// Whether an argument can have this type. It nests at most 512 deep.
+pub fn is_importable(kinds: &Kinds, t: &CadType) -> bool
+    requires { nesting (pure_type t.now) ≤ 512 }
+    ensures { IsTrue result ↔ Importable (declarations kinds.now) (pure_type t.now) }
+{
+    kinds.is_importable(t)
+}
+
+/// Whether a value of this type can be handed out. It nests at most 512 deep.
+pub fn is_exportable(kinds: &Kinds, t: &CadType) -> bool
+    requires { nesting (pure_type t.now) ≤ 512 }
+    ensures { IsTrue result ↔ Exportable (declarations kinds.now) (pure_type t.now) }
+{
+    kinds.is_exportable(t)
+}

@@ -1,0 +1,95 @@
+// The declared types that an order of types is judged by.
+ghost use Rattle.std.specs.Prelude.{◌≡◌, map};
+ghost use Rattle.cad_types.specs.Declarations.{IsClosed, declaration_of};
+ghost use Rattle.cad_types.specs.Declarations as spec;
+ghost use Rattle.cad_types.specs.Judged.{IsJudged};
+
+use crate::declared::{Declared, Sort, find, interfaces};
+use crate::marks::{Marks, is_exportable_by, is_importable_by, is_storable_by, judge};
+use cad_syntax::{CadType, TypeId};
+use std::alloc::{AllocError, Global};
+
+/// Declared types, judged for the classes. The interfaces of an interface that a type has are its own too.
+#[derive(Debug, Drop)]
+pub struct Kinds {
+    declared: Vec<Declared>,
+    marks: Vec<Marks>,
+    ghost closed: { IsClosed (map declaration_of declared.items) },
+    ghost judged: { IsJudged (map declaration_of declared.items) marks.items },
+}
+
+impl Kinds {
+    ghost use Rattle.std.specs.Prelude.{◌≡◌, ◌↔◌, map, option_map, IsTrue, IfOk, true};
+    ghost use Rattle.cad_syntax.specs.Types.{pure_type};
+    ghost use Rattle.cad_types.specs.Classes.{Storable, Importable, Exportable};
+    ghost use Rattle.cad_types.specs.Declarations.{IsClosed, all_nest, declaration_of, found, interfaces_of, is_resource_id};
+    ghost use Rattle.cad_types.specs.Views.{declarations};
+
+    /// The kinds of these declarations. No field's type nests more than 512 deep.
+    pub fn new(alloc: Global, declared: Vec<Declared>) -> Result<Kinds, AllocError>
+        requires closed { IsClosed (map declaration_of declared.items) }
+        requires nests { all_nest (map declaration_of declared.items) ≡ true }
+        ensures { IfOk result (λ kinds. declarations kinds ≡ map declaration_of declared.items) }
+    {
+        let marks = judge(alloc, declared.as_slice())?;
+        Ok(Kinds { declared, marks })
+    }
+
+    /// The declarations.
+    pub fn declared(&self) -> &[Declared]
+        ensures { map declaration_of result.now ≡ declarations self.now }
+    {
+        self.declared.as_slice()
+    }
+
+    /// The first declaration of an identifier.
+    pub fn find(&self, id: &TypeId) -> Option<&Declared>
+        ensures { option_map (λ d. declaration_of d.now) result ≡ found (declarations self.now) id.now }
+    {
+        find(self.declared.as_slice(), id)
+    }
+
+    /// The interfaces that a declared type has.
+    pub fn interfaces(&self, id: &TypeId) -> &[TypeId]
+        ensures { result.now ≡ interfaces_of (declarations self.now) id.now }
+    {
+        interfaces(self.declared.as_slice(), id)
+    }
+
+    /// Whether a type is storable.
+    pub(crate) fn is_storable(&self, t: &CadType) -> bool
+        ensures { IsTrue result ↔ Storable (declarations self.now) (pure_type t.now) }
+    {
+        is_storable_by(self.declared.as_slice(), self.marks.as_slice(), t)
+    }
+
+    /// Whether a type is importable.
+    pub(crate) fn is_importable(&self, t: &CadType) -> bool
+        ensures { IsTrue result ↔ Importable (declarations self.now) (pure_type t.now) }
+    {
+        is_importable_by(self.declared.as_slice(), self.marks.as_slice(), t)
+    }
+
+    /// Whether a type is exportable.
+    pub(crate) fn is_exportable(&self, t: &CadType) -> bool
+        ensures { IsTrue result ↔ Exportable (declarations self.now) (pure_type t.now) }
+    {
+        is_exportable_by(self.declared.as_slice(), self.marks.as_slice(), t)
+    }
+
+    /// Whether an identifier is that of a resource or of an interface of resources.
+    pub fn is_resource(&self, id: &TypeId) -> bool
+        ensures { result ≡ is_resource_id (declarations self.now) id.now }
+    {
+        match self.find(id) {
+            Some(declared) => is_resource_sort(declared.sort),
+            None => false,
+        }
+    }
+}
+
+fn is_resource_sort(sort: Sort) -> bool
+    ensures { result ≡ spec.is_resource_sort sort }
+{
+    matches!(sort, Sort::Resource | Sort::ResourceInterface)
+}

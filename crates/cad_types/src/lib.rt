@@ -1,0 +1,18 @@
+//! The order of types, and their classes.
+#![tactic(auto)]
+
+mod builtin;
+mod classes;
+mod declared;
+mod kinds;
+pub mod laws;
+mod marks;
+mod subtype;
+#[cfg(test)]
+mod tests;
+
+pub use builtin::Builtin;
+pub use classes::{is_exportable, is_importable, is_storable};
+pub use declared::{DEEPEST, Declared, Sort, all_nest, is_closed};
+pub use kinds::Kinds;
+pub use subtype::{is_resource, is_subtype};
