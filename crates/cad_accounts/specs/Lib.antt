@@ -1,0 +1,3 @@
+pub mod Registers
+pub mod Accounts
+pub mod Worlds

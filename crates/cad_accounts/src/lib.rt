@@ -1,0 +1,14 @@
+//! Accounts that are kept as registers.
+#![tactic(auto)]
+
+mod laws;
+mod registers;
+mod row;
+mod stops;
+mod world;
+
+pub use laws::{one_map, one_size, one_state};
+pub use registers::{MapRegisters, Registers};
+pub use row::Row;
+pub use stops::{AccountStop, ValueStop, WorldStop};
+pub use world::{Changes, World};
