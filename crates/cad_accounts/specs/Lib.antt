@@ -1,3 +1,4 @@
 pub mod Registers
+pub mod Layers
 pub mod Accounts
 pub mod Worlds
