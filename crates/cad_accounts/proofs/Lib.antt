@@ -1,0 +1,5 @@
+pub mod Maps
+pub mod Places
+pub mod KeyLaws
+pub mod States
+pub mod Rows
