@@ -3,3 +3,6 @@ pub mod Places
 pub mod KeyLaws
 pub mod States
 pub mod Rows
+pub mod Creating
+pub mod Storing
+pub mod Access

@@ -60,3 +60,9 @@ applied_after key v (e ∷ es) m free = ap (applied es) (changed_swap e.key.0 ke
 pub applied_free : (key : List ℕ) (es : List Entry) (m : Map) → Free key es → applied es m key ≡ m key
 applied_free key [] m free = refl
 applied_free key (e ∷ es) m free = applied_free key es (changed e.key.0 e.value m) free.1 ∙ changed_else e.key.0 e.value m key free.0
+
+pub some_key : {A : Type 0} (b : Bool) (x y : A) → b ≡ true → cond b x y ≡ x
+some_key b x y e = rw e refl
+
+pub other_key : {A : Type 0} (b : Bool) (x y : A) → b ≡ false → cond b x y ≡ y
+other_key b x y e = rw e refl

@@ -1,7 +1,7 @@
 // Accounts over registers.
 ghost use Rattle.std.specs.Prelude.{◌≡◌, ◌≢◌, ◌+◌, ◌<◌, ◌≤◌, List, ℕ, ◌↔◌, IfOk, OnOk, IfSome, IfErr, OnErr, Some, None, Err, option_map, IsTrue};
 ghost use Rattle.cad_wire.specs.Fields.{number_at};
-ghost use Rattle.cad_accounts.specs.Registers.{Leads};
+ghost use Rattle.cad_accounts.specs.Registers.{Leads, changed};
 ghost use Rattle.cad_accounts.specs.Layers.{original, current, with_account};
 ghost use Rattle.cad_accounts.specs.Accounts.{Accounts, StandsFor, IsInt, created, stored_at, stored_as, most_accounts};
 ghost use Rattle.cad_accounts.specs.Worlds.{AreSound, HasAccount, IsRefused};
@@ -107,11 +107,10 @@ impl<'a, R: Registers> World<'a, R> {
         let Ok(bytes) = encode(self.alloc, &value) else {
             return Err(ValueStop::Memory(value));
         };
-        if self.overlay.reserve(1).is_err() {
-            return Err(ValueStop::Memory(value));
+        match self.change(key, Some(bytes)) {
+            Ok(()) => Ok(()),
+            Err(_) => Err(ValueStop::Memory(value)),
         }
-        put(&mut self.overlay, key, Some(bytes));
-        Ok(())
     }
 
     /// Takes the value that is stored, None exactly where nothing is.
@@ -133,11 +132,10 @@ impl<'a, R: Registers> World<'a, R> {
                 Err(_) => return Err(WorldStop::Memory),
             },
         };
-        if self.overlay.reserve(1).is_err() {
-            return Err(WorldStop::Memory);
+        match self.change(key, None) {
+            Ok(()) => Ok(Some(value)),
+            Err(_) => Err(WorldStop::Memory),
         }
-        put(&mut self.overlay, key, None);
-        Ok(Some(value))
     }
 
     /// What was changed. It takes no memory.
@@ -161,6 +159,17 @@ impl<'a, R: Registers> World<'a, R> {
             None => self.registers.get(key),
             Some(entry) => bytes_of(&entry.value),
         }
+    }
+
+    /// One register is changed.
+    fn change(&mut self, key: Key, value: Option<Bytes>) -> Result<(), AllocError>
+        ensures ok { OnOk result (current self.new ≡ changed key.0 value (current self.old)) }
+        ensures stays { OnErr result (current self.new ≡ current self.old) }
+        ensures below { self.new.rows ≡ self.old.rows }
+    {
+        self.overlay.reserve(1)?;
+        put(&mut self.overlay, key, value);
+        Ok(())
     }
 
     /// The registers of one account more, of which there are `count` then.
