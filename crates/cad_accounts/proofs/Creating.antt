@@ -65,12 +65,12 @@ module _ (w : Accounts) where
   controllers_then m s lt address fits =
       elim (cases_eq address next) [
         | inl e ↦
-          let here : changed (controller_key next) (Some (number_field 1)) m (controller_key address) ≡ Some (number_field 1) = some_key (same_key (controller_key address) (controller_key next)) (Some (number_field 1)) (m (controller_key address)) (subst (λ (k : ℕ). same_key (controller_key address) (controller_key k) ≡ true) e (same_key-self (controller_key address))) in
-          here ∙ sym (ap (option_map (λ (a : Account). number_field a.next_controller)) (account_next address e))
+            let here : changed (controller_key next) (Some (number_field 1)) m (controller_key address) ≡ Some (number_field 1) = some_key (same_key (controller_key address) (controller_key next)) (Some (number_field 1)) (m (controller_key address)) (subst (λ (k : ℕ). same_key (controller_key address) (controller_key k) ≡ true) e (same_key-self (controller_key address))) in
+            here ∙ sym (ap (option_map (λ (a : Account). number_field a.next_controller)) (account_next address e))
         | inr n ↦
-          let bits : next < 2 ^ 64 = omega arith in
-          let here : changed (controller_key next) (Some (number_field 1)) m (controller_key address) ≡ m (controller_key address) = other_key (same_key (controller_key address) (controller_key next)) (Some (number_field 1)) (m (controller_key address)) (controller_apart address next fits bits n) in
-          here ∙ s.are.controllers address fits ∙ sym (ap (option_map (λ (a : Account). number_field a.next_controller)) (account_else address n))
+            let bits : next < 2 ^ 64 = omega arith in
+            let here : changed (controller_key next) (Some (number_field 1)) m (controller_key address) ≡ m (controller_key address) = other_key (same_key (controller_key address) (controller_key next)) (Some (number_field 1)) (m (controller_key address)) (controller_apart address next fits bits n) in
+            here ∙ s.are.controllers address fits ∙ sym (ap (option_map (λ (a : Account). number_field a.next_controller)) (account_else address n))
       ]
 
   abbrev of_account : List ℕ → Option Account → Option (List ℕ)
@@ -80,8 +80,8 @@ module _ (w : Accounts) where
   stored_then m s address identifier fits =
       s.are.stored address identifier fits ∙ elim (cases_eq address next) [
         | inl e ↦
-          let before : w.account address ≡ None = ap w.account e ∙ not_yet s.sound in
-          ap (of_account identifier) before ∙ sym (ap (of_account identifier) (account_next address e))
+            let before : w.account address ≡ None = ap w.account e ∙ not_yet s.sound in
+            ap (of_account identifier) before ∙ sym (ap (of_account identifier) (account_next address e))
         | inr n ↦ sym (ap (of_account identifier) (account_else address n))
       ]
 

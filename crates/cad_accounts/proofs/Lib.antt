@@ -6,3 +6,4 @@ pub mod Rows
 pub mod Creating
 pub mod Storing
 pub mod Access
+pub mod Changes

@@ -79,7 +79,7 @@ account_of : (m : Map) (v w : Accounts) → StandsFor m v → StandsFor m w → 
 account_of m v w a b address =
     elim (cases_lt address (2 ^ 64)) [
       | inl lt ↦ some_or_none (v.account address) (w.account address) (a.sound.sound address) (b.sound.sound address) (sym (a.are.controllers address lt) ∙ b.are.controllers address lt)
-        (λ i. sym (a.are.stored address i lt) ∙ b.are.stored address i lt)
+          (λ i. sym (a.are.stored address i lt) ∙ b.are.stored address i lt)
       | inr le ↦ beyond v a.sound address le ∙ sym (beyond w b.sound address le)
     ]
 

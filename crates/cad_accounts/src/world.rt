@@ -1,7 +1,7 @@
 // Accounts over registers.
 ghost use Rattle.std.specs.Prelude.{◌≡◌, ◌≢◌, ◌+◌, ◌<◌, ◌≤◌, List, ℕ, ◌↔◌, IfOk, OnOk, IfSome, IfErr, OnErr, Some, None, Err, option_map, IsTrue};
 ghost use Rattle.cad_wire.specs.Fields.{number_at};
-ghost use Rattle.cad_accounts.specs.Registers.{Leads, changed};
+ghost use Rattle.cad_accounts.specs.Registers.{Leads, at, changed};
 ghost use Rattle.cad_accounts.specs.Layers.{original, current, with_account};
 ghost use Rattle.cad_accounts.specs.Accounts.{Accounts, StandsFor, IsInt, created, stored_at, stored_as, most_accounts};
 ghost use Rattle.cad_accounts.specs.Worlds.{AreSound, HasAccount, IsRefused};
@@ -147,7 +147,11 @@ impl<'a, R: Registers> World<'a, R> {
             mut overlay,
             alloc: _,
         } = self;
-        overlay.retain(|e| differs(registers.get(&e.key), &e.value));
+        overlay.retain(
+            |entry: &Entry| -> bool
+                ensures { IsTrue result ↔ (at (R.rows registers.entry.now) entry.now.key.0 ≢ entry.now.value) }
+            { differs(registers.get(&entry.key), &entry.value) },
+        );
         Items::from_vec(overlay)
     }
 
