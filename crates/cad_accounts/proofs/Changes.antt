@@ -8,7 +8,7 @@ use Rattle.cad_wire.specs.declared.entry.Entry.{Entry}
 use Rattle.cad_wire.specs.Body.{are_ascending}
 use Rattle.cad_accounts.specs.Registers.{Map, same_key, changed, applied, Leads}
 use Rattle.cad_accounts.proofs.Maps.{same_key-self, keys_same, some_key, other_key, changed_kept, Free, applied_after}
-use Rattle.cad_accounts.proofs.Places.{compared, Under, Under-Free, Rising, rising, ascending}
+use Rattle.cad_accounts.proofs.EntryPlaces.{compared, Under, Under-Free, Rising, rising, ascending}
 
 -- ---- a test whether bytes differ
 

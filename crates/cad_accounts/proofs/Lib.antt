@@ -1,8 +1,8 @@
 pub mod Maps
-pub mod Places
+pub mod EntryPlaces
 pub mod KeyLaws
 pub mod States
-pub mod Rows
+pub mod OneSize
 pub mod Creating
 pub mod Storing
 pub mod Access

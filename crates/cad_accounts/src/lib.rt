@@ -1,11 +1,11 @@
 //! Accounts that are kept as registers.
 #![tactic(auto)]
 
-mod keys;
 mod laws;
 mod overlay;
 mod registers;
 mod row;
+mod spelling;
 mod stops;
 mod world;
 

@@ -6,7 +6,7 @@ ghost use Rattle.cad_accounts.specs.Layers.{original, current, with_account};
 ghost use Rattle.cad_accounts.specs.Accounts.{Accounts, StandsFor, IsInt, created, stored_at, stored_as, most_accounts};
 ghost use Rattle.cad_accounts.specs.Worlds.{AreSound, HasAccount, IsRefused};
 
-use crate::keys::{make_controller_key, make_head, make_head_key, make_number, make_stored_key};
+use crate::spelling::{make_controller_key, make_head, make_head_key, make_number, make_stored_key};
 use crate::overlay::{find, put};
 use crate::registers::Registers;
 use crate::stops::{AccountStop, ValueStop, WorldStop};

@@ -1,4 +1,4 @@
-use Rattle.cad_accounts.proofs.Rows.{one_size_lem}
+use Rattle.cad_accounts.proofs.OneSize.{one_size_lem}
 use Rattle.cad_accounts.proofs.laws.one_size.Goals as goal
 
 pub returns : goal.returns

@@ -2,7 +2,7 @@ use Rattle.std.proofs.Common.{◌≡◌, List, ℕ, sym, ap, subst, ◌∙◌, a
 use Rattle.cad_wire.specs.declared.entry.Entry.{Entry}
 use Rattle.cad_accounts.specs.Places.{HasKey, Belongs}
 use Rattle.cad_accounts.proofs.Maps.{applied_free}
-use Rattle.cad_accounts.proofs.Places.{rising, value_there, belongs_free}
+use Rattle.cad_accounts.proofs.EntryPlaces.{rising, value_there, belongs_free}
 use Rattle.cad_accounts.proofs.overlay.find.Goals as goal
 
 pub bounds-entries-i : goal.bounds-entries-i

@@ -1,6 +1,6 @@
 use Rattle.std.proofs.Common.{rules}
 use Rattle.std.proofs.lemmas.Fn.{always_returns_same}
-use Rattle.cad_accounts.proofs.Places.{compared, found_place}
+use Rattle.cad_accounts.proofs.EntryPlaces.{compared, found_place}
 use Rattle.cad_accounts.proofs.overlay.place.Goals as goal
 
 pub returns : goal.returns

@@ -1,7 +1,7 @@
 use Rattle.std.proofs.Common.{◌≡◌, List, ℕ, sym, ap, subst, ◌∙◌, arith}
 use Rattle.cad_wire.specs.declared.entry.Entry.{Entry}
 use Rattle.cad_accounts.specs.Places.{HasKey, Belongs}
-use Rattle.cad_accounts.proofs.Places.{put_there, put_more}
+use Rattle.cad_accounts.proofs.EntryPlaces.{put_there, put_more}
 use Rattle.cad_accounts.proofs.overlay.put.Goals as goal
 
 pub index_mut-requires : goal.index_mut-requires

@@ -10,7 +10,7 @@ use Rattle.cad_accounts.specs.declared.row.Row.{Row}
 use Rattle.cad_accounts.specs.Registers.{same_key, at, are_rising, size_of}
 use Rattle.cad_accounts.specs.Accounts.{Accounts, HasSize}
 use Rattle.cad_accounts.proofs.Maps.{same_key-self, same_key-comm, keys_same}
-use Rattle.cad_accounts.proofs.Places.{compared, less-trans, less-differ, greater-less}
+use Rattle.cad_accounts.proofs.EntryPlaces.{compared, less-trans, less-differ, greater-less}
 use Rattle.cad_accounts.proofs.States.{one_map_lem}
 
 -- this key is less than each of these
