@@ -105,7 +105,7 @@ returns-in_err-sync-clause-says g c = λ tell. sync_output c.args.onto (g.H.Host
     ∙ ap output (c.in_ok-write.ensures.story tell)
 
 pub returns-in_err-write-2-clause-says : goal.returns-in_err-write-2-clause-says
-returns-in_err-write-2-clause-says g c = λ tell. write_output Pick _ _ (g.H.Host.trace c.sync.new.self) (g.H.Host.trace c.write-2.new.self) (inr (c.in_err-write-2.ensures.story tell))
+returns-in_err-write-2-clause-says g c = λ tell. write_output Pick 0 (c.pick_byte.result ∷ []) (g.H.Host.trace c.sync.new.self) (g.H.Host.trace c.write-2.new.self) (inr (c.in_err-write-2.ensures.story tell))
     ∙ ap output (c.in_ok-sync.ensures.story tell) ∙ ap output (c.in_ok-write.ensures.story tell)
 
 pub returns-in_err-sync-2-clause-says : goal.returns-in_err-sync-2-clause-says
