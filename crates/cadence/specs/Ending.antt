@@ -6,6 +6,8 @@ use Rattle.cad_accounts.specs.Accounts.{Accounts}
 use Rattle.cadence.specs.Lines.{commands}
 use Rattle.cadence.specs.Served.{Served, ServedSome, Broken, Finished}
 use Rattle.cadence.specs.Crashes.{DiskStands, Survives}
+use Rattle.cad_store.specs.declared.stops.OpenStop.{OpenStop}
+use Rattle.cad_store.specs.declared.stops.OpenStop.TheVariants as stop
 use Rattle.cadence.specs.declared.status.Status.{Status}
 use Rattle.cadence.specs.declared.status.Status.TheVariants.{Done, Usage, ReadFault, WriteFault, DiskFault, Memory, BadStore, InputBound}
 
@@ -42,3 +44,41 @@ HasCause DiskFault i j o p d e = Rose d e
 HasCause Memory i j o p d e = Unit {0}
 HasCause BadStore i j o p d e = ⊥
 HasCause InputBound i j o p d e = Unit {0}
+
+-- why answering stopped
+abbrev pub StopCause : Status → (output_old output_new disk_old disk_new : ℕ) → Type 0
+StopCause Done o p d e = ⊥
+StopCause Usage o p d e = ⊥
+StopCause ReadFault o p d e = ⊥
+StopCause WriteFault o p d e = Rose o p
+StopCause DiskFault o p d e = Rose d e
+StopCause Memory o p d e = Unit {0}
+StopCause BadStore o p d e = ⊥
+StopCause InputBound o p d e = ⊥
+
+-- a fault rose where the status, whatever it is, is one
+abbrev pub IsCausedBy : Status → (input_old input_new output_old output_new disk_old disk_new : ℕ) → Type 0
+IsCausedBy Done i j o p d e = Unit {0}
+IsCausedBy Usage i j o p d e = Unit {0}
+IsCausedBy ReadFault i j o p d e = Rose i j
+IsCausedBy WriteFault i j o p d e = Rose o p
+IsCausedBy DiskFault i j o p d e = Rose d e
+IsCausedBy Memory i j o p d e = Unit {0}
+IsCausedBy BadStore i j o p d e = Unit {0}
+IsCausedBy InputBound i j o p d e = Unit {0}
+
+-- the statuses of a run whose store was opened
+abbrev pub HasRun : Status → Type 0
+HasRun Done = Unit {0}
+HasRun Usage = ⊥
+HasRun ReadFault = Unit {0}
+HasRun WriteFault = Unit {0}
+HasRun DiskFault = ⊥
+HasRun Memory = ⊥
+HasRun BadStore = ⊥
+HasRun InputBound = Unit {0}
+
+abbrev pub status_of : OpenStop → Status
+status_of stop.Failed = DiskFault
+status_of stop.BadStore = BadStore
+status_of stop.Memory = Memory
