@@ -1,3 +1,5 @@
 pub mod Registers
 pub mod Accounts
 pub mod Worlds
+pub mod Rows
+pub mod Memory
