@@ -2,9 +2,9 @@
 use Rattle.std.specs.Prelude.{List, map}
 use Rattle.cad_syntax.specs.declared.token.TokenKind.{TokenKind}
 use Rattle.cad_syntax.specs.declared.token.TokenKind.TheVariants as kind
-use Rattle.cadence.specs.declared.mark.Mark.{Mark}
-use Rattle.cadence.specs.declared.mark.Mark.TheVariants as mark
-use Rattle.cadence.specs.Sums.{name}
+use Rattle.cad_forms.specs.declared.mark.Mark.{Mark}
+use Rattle.cad_forms.specs.declared.mark.Mark.TheVariants as mark
+use Rattle.cad_forms.specs.Sums.{name}
 
 abbrev pub kind_asked : Mark → TokenKind
 kind_asked (mark.Keyword keyword) = kind.Keyword keyword

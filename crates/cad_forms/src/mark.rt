@@ -1,10 +1,12 @@
 // Tokens that a form of code asks for one after another.
-ghost use Rattle.std.specs.Prelude.{◌≡◌, ◌↔◌, ◌++◌, List, ℕ, map, MatchOption, IsTrue, length, take, drop};
+ghost use Rattle.std.specs.Prelude.{◌≡◌, ◌↔◌, ◌∷◌, ◌++◌, List, ℕ, map, IfOk, MatchOption, IsTrue, length, take, drop};
 ghost use Rattle.cad_syntax.specs.declared.token.Token.{Token};
-ghost use Rattle.cadence.specs.Sums.{kinds_of};
-ghost use Rattle.cadence.specs.Marks.{kinds_asked, kind_asked};
+ghost use Rattle.cad_syntax.specs.declared.token.TokenKind.{TokenKind};
+ghost use Rattle.cad_forms.specs.Sums.{kinds_of, name};
+ghost use Rattle.cad_forms.specs.Marks.{kinds_asked, kind_asked};
 
-use cad_syntax::{Keyword, Sign, Token, TokenKind};
+use cad_syntax::{Keyword, Name, Sign, Token, TokenKind};
+use std::alloc::{AllocError, Global};
 
 /// A token that a form of code asks for.
 #[derive(Clone, Copy)]
@@ -32,8 +34,8 @@ fn is_sign(found: Sign, asked: Sign) -> bool
     found == asked
 }
 
-// Whether a token is the one that is asked for.
-fn is_asked(kind: &TokenKind, mark: &Mark<'_>) -> bool
+/// Whether a token is the one that is asked for.
+pub fn is_asked(kind: &TokenKind, mark: &Mark<'_>) -> bool
     ensures { IsTrue result ↔ (kind.now ≡ kind_asked mark.entry.now) }
 {
     match *mark {
@@ -68,4 +70,30 @@ pub fn behind<'a>(tokens: &'a [Token], marks: &[Mark<'_>]) -> Option<&'a [Token]
         }
     }
     Some(&tokens[marks.len()..])
+}
+
+/// The name between tokens that are asked for, and the tokens behind all these, where they come first.
+pub fn name_between<'a>(
+    alloc: Global,
+    tokens: &'a [Token],
+    before: &[Mark<'_>],
+    after: &[Mark<'_>],
+) -> Result<Option<(Name, &'a [Token])>, AllocError>
+    ensures { IfOk result (λ o. MatchOption o
+        ((bytes : List ℕ) (rest : List TokenKind) → kinds_of tokens.entry.now ≡ kinds_asked before.now ++ name bytes ∷ (kinds_asked after.now ++ rest) → ⊥)
+        (λ found. kinds_of tokens.entry.now ≡ kinds_asked before.now ++ name found.0.0 ∷ (kinds_asked after.now ++ kinds_of found.1.now))) }
+{
+    let Some(rest) = behind(tokens, before) else {
+        return Ok(None);
+    };
+    let [first, rest @ ..] = rest else {
+        return Ok(None);
+    };
+    let TokenKind::Name(name) = &first.kind else {
+        return Ok(None);
+    };
+    let Some(rest) = behind(rest, after) else {
+        return Ok(None);
+    };
+    Ok(Some((name.clone()?, rest)))
 }

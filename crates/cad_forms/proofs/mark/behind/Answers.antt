@@ -1,9 +1,9 @@
 use Rattle.std.proofs.Common.{◌∙◌, sym, arith}
 use Rattle.std.proofs.lemmas.Bool.{false≢true}
 use Rattle.cad_syntax.specs.declared.token.Keyword.TheVariants.{Access}
-use Rattle.cadence.specs.declared.mark.Mark.TheVariants.{Keyword}
-use Rattle.cadence.proofs.Asked.{asked_other}
-use Rattle.cadence.proofs.mark.behind.Goals as goal
+use Rattle.cad_forms.specs.declared.mark.Mark.TheVariants.{Keyword}
+use Rattle.cad_forms.proofs.Marked.{asked_other}
+use Rattle.cad_forms.proofs.mark.behind.Goals as goal
 
 pub returns-then-not-is_asked : goal.returns-then-not-is_asked
 returns-then-not-is_asked c =

@@ -1,11 +1,11 @@
 // Scripts of sums.
 ghost use Rattle.std.specs.Prelude.{◌≡◌, List, ℕ, IfOk, MatchOption, IsTrue, ◌↔◌};
 ghost use Rattle.cad_syntax.specs.declared.token.Token.{Token};
-ghost use Rattle.cadence.specs.Sums.{IsJoined, IsScript, IsSumScript};
-ghost use Rattle.cadence.specs.Views.{products_of};
+ghost use Rattle.cad_forms.specs.Sums.{kinds_of, tail_kinds, IsJoined, IsSum, IsScript, IsSumScript};
+ghost use Rattle.cad_forms.specs.Views.{products_of};
 
-use crate::mark::{Mark, behind};
-use crate::sum::sum_of;
+use crate::mark::{Mark, behind, is_asked};
+use crate::sum::{begun, factors, literal_of, terms};
 use cad_lex::{LexStop, lex, one_lexing};
 use cad_syntax::{Keyword, Sign, Token};
 use std::alloc::{AllocError, Global};
@@ -17,6 +17,37 @@ fn is_joined(tokens: &[Token]) -> bool
     match tokens {
         [] => true,
         [first, ..] => !first.after_break,
+    }
+}
+
+// Whether the tokens are `}` alone.
+fn is_end(tokens: &[Token]) -> bool
+    ensures { IsTrue result ↔ (kinds_of tokens.now ≡ tail_kinds) }
+{
+    match tokens {
+        [only] => is_asked(&only.kind, &Mark::Sign(Sign::CloseBrace)),
+        _ => false,
+    }
+}
+
+// The products of a sum, where the tokens are a sum and then `}`.
+fn sum_of(alloc: Global, tokens: &[Token]) -> Result<Option<Vec<Vec<u128>>>, AllocError>
+    ensures { IfOk result (λ o. MatchOption o ((sum : List (List ℕ)) → IsSum tokens.now sum → ⊥) (λ v. IsSum tokens.now (products_of v.items))) }
+{
+    let [first, rest @ ..] = tokens else {
+        return Ok(None);
+    };
+    let Some(value) = literal_of(&first.kind) else {
+        return Ok(None);
+    };
+    let (product, rest) = factors(begun(alloc, value)?, rest)?;
+    let mut products = Vec::new(alloc);
+    products.push(product)?;
+    let (products, rest) = terms(alloc, products, rest)?;
+    if is_end(rest) {
+        Ok(Some(products))
+    } else {
+        Ok(None)
     }
 }
 
