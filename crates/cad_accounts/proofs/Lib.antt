@@ -7,3 +7,6 @@ pub mod Creating
 pub mod Storing
 pub mod Access
 pub mod Changes
+mod Keys
+mod RowLaws
+mod Places

@@ -3,3 +3,5 @@ pub mod Places
 pub mod Layers
 pub mod Accounts
 pub mod Worlds
+pub mod Rows
+pub mod Memory
