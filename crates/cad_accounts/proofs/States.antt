@@ -10,8 +10,8 @@ use Rattle.cad_values.specs.declared.value.Value.TheVariants.{Number, Other}
 use Rattle.cad_codec.specs.Spelling.{value_bytes, HasBytes}
 use Rattle.cad_codec.proofs.Decoded.{one}
 use Rattle.cad_wire.specs.Fields.{number_field}
-use Rattle.cad_accounts.specs.Registers.{Map}
-use Rattle.cad_accounts.specs.Accounts.{Account, Accounts, AreRegisters, StandsFor, IsSound, IsSoundAccount, IsInt, Has, IsKey, head, controller, stored, head_key, controller_key, stored_key, head_bytes, controller_bytes, stored_bytes, stored_at, most_accounts}
+use Rattle.cad_accounts.specs.Registers.{Map, no_registers}
+use Rattle.cad_accounts.specs.Accounts.{Account, Accounts, no_accounts, AreRegisters, StandsFor, IsSound, IsSoundAccount, IsInt, Has, IsKey, head, controller, stored, head_key, controller_key, stored_key, head_bytes, controller_bytes, stored_bytes, stored_at, most_accounts}
 use Rattle.cad_accounts.proofs.KeyLaws.{same_number, number_front}
 
 -- ---- one map
@@ -99,3 +99,22 @@ one_state_lem m v w a b =
     let counts : v.count ≡ w.count = one_count v.count w.count v.next_identity w.next_identity (omega arith) (omega arith) (sym a.are.head ∙ b.are.head) in
     let identities : v.next_identity ≡ w.next_identity = a.sound.next_identity ∙ sym b.sound.next_identity in
     λ i. record { count = counts i; next_identity = identities i; account = λ address. account_of m v w a b address i }
+
+-- ---- none yet
+
+pub none_at_first_lem : StandsFor no_registers no_accounts
+none_at_first_lem = record {
+  are = record {
+    head = refl;
+    controllers = λ address fits. refl;
+    stored = λ address identifier fits. refl;
+    only = λ key there. absurd (there refl);
+  };
+  sound = record {
+    few = omega arith;
+    next_identity = refl;
+    there = λ address has. let lo = has.0 in let hi = has.1 in absurd (omega arith);
+    only = λ address there. absurd (there refl);
+    sound = λ address. tt;
+  };
+}

@@ -9,7 +9,7 @@ mod spelling;
 mod stops;
 mod world;
 
-pub use laws::{one_map, one_size, one_state};
+pub use laws::{none_at_first, one_map, one_size, one_state};
 pub use registers::{MapRegisters, Registers};
 pub use row::Row;
 pub use stops::{AccountStop, ValueStop, WorldStop};

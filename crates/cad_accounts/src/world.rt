@@ -54,6 +54,7 @@ impl<'a, R: Registers> World<'a, R> {
             alloc,
         }
     }
+
     /// How many accounts there are.
     pub fn accounts(&self) -> Result<u64, AllocError>
         requires { AreSound (current self.now) }
@@ -71,6 +72,8 @@ impl<'a, R: Registers> World<'a, R> {
         requires { AreSound (current self.old) }
         ensures made { IfOk result (λ a. (w : Accounts) → StandsFor (current self.old) w
             → (a.0 ≡ w.count + 1) × (w.count < most_accounts) × StandsFor (current self.new) (created w)) }
+        ensures there { IfOk result (λ a. HasAccount (current self.new) a.0) }
+        ensures sound { AreSound (current self.new) }
         ensures spent { result ≡ Err AccountStop.Spent → (w : Accounts) → StandsFor (current self.old) w → w.count ≡ most_accounts }
         ensures stays { OnErr result (current self.new ≡ current self.old) }
         ensures below { self.new.rows ≡ self.old.rows }
@@ -94,6 +97,7 @@ impl<'a, R: Registers> World<'a, R> {
         requires int { IsInt value }
         ensures saved { OnOk result ((w : Accounts) → StandsFor (current self.old) w
             → (stored_at w address.0 at.now.0 ≡ None) × StandsFor (current self.new) (stored_as address.0 at.now.0 (Some value) w)) }
+        ensures there { HasAccount (current self.new) address.0 }
         ensures refused { IfErr result (λ stop. IsRefused stop value (current self.old) address.0 at.now.0) }
         ensures stays { OnErr result (current self.new ≡ current self.old) }
         ensures below { self.new.rows ≡ self.old.rows }
@@ -118,6 +122,7 @@ impl<'a, R: Registers> World<'a, R> {
         requires { HasAccount (current self.old) address.0 }
         ensures loaded { IfOk result (λ o. (w : Accounts) → StandsFor (current self.old) w
             → (o ≡ stored_at w address.0 at.now.0) × StandsFor (current self.new) (stored_as address.0 at.now.0 None w)) }
+        ensures there { HasAccount (current self.new) address.0 }
         ensures int { IfOk result (λ o. IfSome o IsInt) }
         ensures stays { OnErr result (current self.new ≡ current self.old) }
         ensures below { self.new.rows ≡ self.old.rows }
