@@ -6,9 +6,11 @@ ghost use Rattle.cad_accounts.specs.Layers.{original, current, with_account};
 ghost use Rattle.cad_accounts.specs.Accounts.{Accounts, StandsFor, IsInt, created, stored_at, stored_as, most_accounts};
 ghost use Rattle.cad_accounts.specs.Worlds.{AreSound, HasAccount, IsRefused};
 
-use crate::spelling::{make_controller_key, make_head, make_head_key, make_number, make_stored_key};
 use crate::overlay::{find, put};
 use crate::registers::Registers;
+use crate::spelling::{
+    make_controller_key, make_head, make_head_key, make_number, make_stored_key,
+};
 use crate::stops::{AccountStop, ValueStop, WorldStop};
 use cad_codec::{decode, encode};
 use cad_syntax::{Address, Bytes, Items, Name};
@@ -55,7 +57,7 @@ impl<'a, R: Registers> World<'a, R> {
         }
     }
 
-    /// How many accounts there are.
+    /// How many accounts there are. AllocError where memory runs out, as it builds a key.
     pub fn accounts(&self) -> Result<u64, AllocError>
         requires { AreSound (current self.now) }
         ensures { IfOk result (λ n. (w : Accounts) → StandsFor (current self.now) w → n ≡ w.count) }
@@ -67,7 +69,8 @@ impl<'a, R: Registers> World<'a, R> {
         }
     }
 
-    /// Makes the next account, which stores nothing, and gives its address. Spent exactly where there are 1,000,000.
+    /// Makes the next account, which stores nothing, and gives its address. Spent exactly where there are 1,000,000; Memory
+    /// where memory runs out. At both all is as it was.
     pub fn create_account(&mut self) -> Result<Address, AccountStop>
         requires { AreSound (current self.old) }
         ensures made { IfOk result (λ a. (w : Accounts) → StandsFor (current self.old) w
@@ -117,7 +120,7 @@ impl<'a, R: Registers> World<'a, R> {
         }
     }
 
-    /// Takes the value that is stored, None exactly where nothing is.
+    /// Takes the value that is stored, None exactly where nothing is. Memory where memory runs out: all is as it was.
     pub fn load_value(&mut self, address: Address, at: &Name) -> Result<Option<Value>, WorldStop>
         requires { HasAccount (current self.old) address.0 }
         ensures loaded { IfOk result (λ o. (w : Accounts) → StandsFor (current self.old) w
