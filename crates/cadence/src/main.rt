@@ -2,14 +2,16 @@
 #![tactic(auto)]
 
 mod laws;
+mod laws;
 mod line;
-mod mark;
+mod outcome;
+mod prepare;
+
 mod reply;
-mod request;
-mod script;
+
 mod serve;
 mod status;
-mod sum;
+
 #[cfg(test)]
 mod tests;
 mod words;
