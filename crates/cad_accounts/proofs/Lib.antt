@@ -4,4 +4,6 @@ mod Places
 mod Spelled
 mod Following
 mod KeyOrder
+mod FromRows
+mod ToRows
 mod SoundRows
