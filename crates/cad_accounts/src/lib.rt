@@ -14,3 +14,6 @@ pub use row::Row;
 pub use sound::is_sound;
 pub use stops::{AccountStop, ValueStop, WorldStop};
 pub use world::{Changes, World};
+
+#[cfg(test)]
+mod tests;
