@@ -1,1 +1,6 @@
 pub mod Marked
+pub mod Parts
+pub mod Scripts
+pub mod Saving
+pub mod Meaning
+pub mod Uniques

@@ -76,8 +76,11 @@ fn target(alloc: Global, tokens: &[Token]) -> Result<Option<Name>, AllocError>
         Mark::Sign(Sign::CloseBrace),
         Mark::Sign(Sign::CloseBrace),
     ];
-    match name_between(alloc, tokens, &before, &after)? {
-        Some((path, [])) => Ok(Some(path)),
+    let Some((path, rest)) = name_between(alloc, tokens, &before, &after)? else {
+        return Ok(None);
+    };
+    match rest {
+        [] => Ok(Some(path)),
         _ => Ok(None),
     }
 }
