@@ -14,46 +14,6 @@ use Rattle.cad_forms.specs.Parts.{Lacks, Multiplies, Adds}
 abbrev pub AreLiterals : List ℕ → Type 0
 AreLiterals = AllByRecursion (λ n. n ≤ greatest)
 
--- what is read leaves fewer tokens
-pub pair_shorter : (a b : TokenKind) (rest behind : List Token) → kinds_of rest ≡ a ∷ b ∷ kinds_of behind → length behind < length rest
-pair_shorter a b rest behind e = omega (arith, ap length e, length-map rest (λ (t : Token). t.kind), length-map behind (λ (t : Token). t.kind))
-
-all_push : {A : Type 0} (P : A → Type 0) (xs : List A) (x : A) → AllByRecursion P xs → P x → AllByRecursion P (xs ++ x ∷ [])
-all_push P [] x h p = (p, tt)
-all_push P (y ∷ ys) x h p = (h.0, all_push P ys x h.1 p)
-
-flat_push : {A B : Type 0} (f : A → List B) (xs : List A) (x : A) → flat_map f (xs ++ x ∷ []) ≡ flat_map f xs ++ f x
-flat_push f [] x = append-nil (f x)
-flat_push f (y ∷ ys) x = ap (λ l. f y ++ l) (flat_push f ys x) ∙ sym (append_assoc (f y) (flat_map f ys) (f x))
-
-pub multiplies_none : (product : List ℕ) (kinds : List TokenKind) → Multiplies product kinds product kinds
-multiplies_none product kinds = record { more = []; product_is = sym (append-nil product); kinds_are = refl; literals = tt }
-
-pub multiplies_more : {old new : List ℕ} {kinds rest : List TokenKind} → Multiplies old kinds new rest → (n : ℕ) (new2 : List ℕ) (behind : List TokenKind) → n ≤ greatest → rest ≡ kind.Sign sign.Star ∷ literal n ∷ behind → new2 ≡ new ++ n ∷ [] → Multiplies old kinds new2 behind
-multiplies_more {old} m n new2 behind bound is pushed = record {
-  more = m.more ++ n ∷ [];
-  product_is = pushed ∙ ap (λ l. l ++ n ∷ []) m.product_is ∙ append_assoc old m.more (n ∷ []);
-  kinds_are = m.kinds_are ∙ ap (λ l. factor_kinds m.more ++ l) is ∙ sym (append_assoc (factor_kinds m.more) (kind.Sign sign.Star ∷ literal n ∷ []) behind)
-      ∙ ap (λ l. l ++ behind) (sym (flat_push (λ k. kind.Sign sign.Star ∷ literal k ∷ []) m.more n));
-  literals = all_push (λ k. k ≤ greatest) m.more n m.literals bound;
-}
-
-pub adds_none : (products : List (List ℕ)) (kinds : List TokenKind) → Adds products kinds products kinds
-adds_none products kinds = record { more = []; products_are = sym (append-nil products); kinds_are = refl; products = tt; no_factor = λ h. h }
-
-pub adds_more : {old new : List (List ℕ)} {kinds rest : List TokenKind} → Adds old kinds new rest → (n : ℕ) (behind : List TokenKind) (product : List ℕ) (behind2 : List TokenKind) (new2 : List (List ℕ)) → n ≤ greatest → rest ≡ kind.Sign sign.Plus ∷ literal n ∷ behind
-    → Multiplies (n ∷ []) behind product behind2 → Lacks sign.Star behind2 → new2 ≡ new ++ product ∷ [] → Adds old kinds new2 behind2
-adds_more {old} {rest} m n behind product behind2 new2 bound is f lacks pushed =
-    let e : rest ≡ (kind.Sign sign.Plus ∷ product_kinds product) ++ behind2 = is ∙ ap (λ l. kind.Sign sign.Plus ∷ literal n ∷ l) f.kinds_are ∙ ap (λ p. (kind.Sign sign.Plus ∷ product_kinds p) ++ behind2) (sym f.product_is) in
-    record {
-      more = m.more ++ product ∷ [];
-      products_are = pushed ∙ ap (λ l. l ++ product ∷ []) m.products_are ∙ append_assoc old m.more (product ∷ []);
-      kinds_are = m.kinds_are ∙ ap (λ l. term_kinds m.more ++ l) e ∙ sym (append_assoc (term_kinds m.more) (kind.Sign sign.Plus ∷ product_kinds product) behind2)
-          ∙ ap (λ l. l ++ behind2) (sym (flat_push (λ p. kind.Sign sign.Plus ∷ product_kinds p) m.more product));
-      products = all_push IsProduct m.more product m.products (subst IsProduct (sym f.product_is) ((λ e. cc e), (bound, f.literals)));
-      no_factor = λ h. lacks;
-    }
-
 -- one reading
 
 same_pair : (a b c d : TokenKind) (xs ys : List TokenKind) → a ∷ b ∷ xs ≡ c ∷ d ∷ ys → (b ≡ d) × (xs ≡ ys)
