@@ -4,3 +4,4 @@ pub mod Scripts
 pub mod Saving
 pub mod Meaning
 pub mod Uniques
+pub mod Ranges

@@ -14,7 +14,7 @@ use cad_syntax::{Keyword, Name, Sign, Token};
 use std::alloc::{AllocError, Global};
 
 /// What a transaction saves: a sum of products, and where.
-#[derive(Debug, Drop)]
+#[derive(Debug, Drop, PartialEq, Eq)]
 pub struct Save {
     /// The identifier of the path that the first factor is loaded from, if it is no literal.
     pub load: Option<Name>,
