@@ -1,5 +1,6 @@
 -- How rows are kept in memory.
-use Rattle.std.specs.Prelude.{◌≡◌, ℕ, suc, ◌+◌, ◌<◌, ◌≤◌, ◌^◌, Bool, true, ◌&&◌, nat_lt, List, [], ◌∷◌, ◌++◌, length, take, drop, slice_index_or, Result, Ok, Err}
+use Rattle.std.specs.Prelude.{◌≡◌, ℕ, ◌+◌, ◌<◌, ◌≤◌, ◌^◌, Bool, true, ◌&&◌, nat_lt, List, [], ◌∷◌, length, take, drop, Result, Ok, Err}
+use Rattle.std.specs.List.{HoldsAt}
 use Rattle.std.specs.Ordering.{nat_cmp, is_lt}
 use Rattle.std.specs.Cmp.Lexicographic.{slice_cmp}
 use Rattle.cad_accounts.specs.declared.row.Row.{Row}
@@ -32,9 +33,7 @@ AllBehind key (row ∷ rows) = (before key row.key.0 ≡ true) × AllBehind key 
 -- a row of this key stands there
 pub record StandsAt (key : List ℕ) (rows : List Row) (i : ℕ) : Type 0 where
   pub within : i < length rows
-  pub row : Row
-  pub is : rows ≡ take i rows ++ row ∷ drop (suc i) rows
-  pub key_is : row.key.0 ≡ key
+  pub key_is : HoldsAt (λ row. row.key.0 ≡ key) rows i
 
 -- a row of this key isn't there, and belongs there
 pub record BelongsAt (key : List ℕ) (rows : List Row) (i : ℕ) : Type 0 where

@@ -1,7 +1,9 @@
 //! Accounts that are kept as registers.
 #![tactic(auto)]
 
+mod keys;
 mod laws;
+mod overlay;
 mod registers;
 mod row;
 mod stops;

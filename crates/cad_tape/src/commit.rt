@@ -1,7 +1,7 @@
 // Writing a record.
 ghost use Rattle.std.specs.Prelude.{◌≡◌, ◌+◌, ◌-◌, ◌^◌, ◌++◌, [], ◌∷◌, List, ℕ, min, length, OnOk, IfOk};
 ghost use Rattle.cad_host.specs.declared.host.Tape.TheVariants.{Pick};
-ghost use Rattle.cad_host.specs.Disk.{Ran};
+ghost use Rattle.cad_host.specs.Disk.{output, Ran};
 ghost use Rattle.cad_host.specs.Faults.{IsCaused};
 ghost use Rattle.cad_tape.specs.Framing.{framed};
 ghost use Rattle.cad_tape.specs.Reading.{stored, IsPlaced, IsFree, IsQuiet, pick_of, Leaves, four_calls};
@@ -43,6 +43,7 @@ pub fn append<H: Host>(host: &mut H, tape: Tape, at: u64, bytes: &[u8]) -> Resul
         H.trace host.new ≡ four_calls tape (at + 1) bytes.now tape at (1 ∷ []) (H.trace host.old)) }
     ensures next { IfOk result (λ next. next ≡ min (at + length bytes.now) (2 ^ 64 - 1)) }
 
+    ensures says { H.tells → output (H.trace host.new) ≡ output (H.trace host.old) }
     ensures cause { IsCaused result (H.disk_faults host.old) (H.disk_faults host.new) }
     ensures stays { H.tells → H.left host.new ≡ H.left host.old }
     ensures input { H.input_faults host.new ≡ H.input_faults host.old }
@@ -84,6 +85,7 @@ pub fn checkpoint<H: Host>(host: &mut H, onto: Tape, bytes: &[u8]) -> Result<u64
         H.trace host.new ≡ four_calls onto 0 bytes.now Pick 0 (pick_of onto ∷ []) (H.trace host.old)) }
     ensures next { IfOk result (λ next. next + 1 ≡ length bytes.now) }
 
+    ensures says { H.tells → output (H.trace host.new) ≡ output (H.trace host.old) }
     ensures cause { IsCaused result (H.disk_faults host.old) (H.disk_faults host.new) }
     ensures stays { H.tells → H.left host.new ≡ H.left host.old }
     ensures input { H.input_faults host.new ≡ H.input_faults host.old }

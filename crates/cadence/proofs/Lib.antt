@@ -2,9 +2,5 @@ pub mod Holding
 pub mod Splits
 pub mod Says
 pub mod Runs
-pub mod Sums
-pub mod Asked
-pub mod Scripts
-pub mod Asks
 pub mod Replies
 pub mod Uniques

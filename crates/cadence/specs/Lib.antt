@@ -1,11 +1,7 @@
 pub mod Lines
 pub mod Words
 pub mod Held
-pub mod Sums
-pub mod Reading
 pub mod Views
-pub mod Marks
-pub mod Request
 pub mod Answer
 pub mod Served
 pub mod Progress

@@ -1,5 +1,6 @@
-use Rattle.std.proofs.Common.{◌≡◌, ◌+◌, [], ◌∷◌, ◌++◌, ◌∙◌, ap, arith}
-use Rattle.cad_host.specs.Disk.{wrote, synced}
+use Rattle.std.proofs.Common.{◌≡◌, ◌+◌, [], ◌∷◌, ◌++◌, ◌∙◌, inr, ap, arith}
+use Rattle.cad_host.specs.Disk.{wrote, synced, output}
+use Rattle.cad_host.proofs.Kept.{write_output, sync_output}
 use Rattle.cad_tape.specs.Framing.{framed}
 use Rattle.cad_tape.specs.Reading.{stored}
 use Rattle.cad_tape.proofs.Four.{is1, end1, end2, end3, end4, done}
@@ -93,3 +94,23 @@ returns-clause-quiet g c =
     let e3 = c.in_ok-write-2.ensures.story tell ∙ ap (λ m. wrote c.args.tape c.args.at (1 ∷ []) ∷ m) e2 in
     let e4 = c.in_ok-sync-2.ensures.story tell ∙ ap (λ m. synced c.args.tape ∷ m) e3 in
     quiet_at m0 c.args.tape c.args.at body placed short quiet (g.H.Host.trace c.sync-2.new.self) e4
+
+-- no call puts anything
+pub returns-in_err-write-clause-says : goal.returns-in_err-write-clause-says
+returns-in_err-write-clause-says g c = λ tell. write_output c.args.tape _ _ (g.H.Host.trace c.args.host.now) (g.H.Host.trace c.write.new.self) (inr (c.in_err-write.ensures.story tell))
+
+pub returns-in_err-sync-clause-says : goal.returns-in_err-sync-clause-says
+returns-in_err-sync-clause-says g c = λ tell. sync_output c.args.tape (g.H.Host.trace c.write.new.self) (g.H.Host.trace c.sync.new.self) (inr (c.in_err-sync.ensures.story tell))
+    ∙ ap output (c.in_ok-write.ensures.story tell)
+
+pub returns-in_err-write-2-clause-says : goal.returns-in_err-write-2-clause-says
+returns-in_err-write-2-clause-says g c = λ tell. write_output c.args.tape _ _ (g.H.Host.trace c.sync.new.self) (g.H.Host.trace c.write-2.new.self) (inr (c.in_err-write-2.ensures.story tell))
+    ∙ ap output (c.in_ok-sync.ensures.story tell) ∙ ap output (c.in_ok-write.ensures.story tell)
+
+pub returns-in_err-sync-2-clause-says : goal.returns-in_err-sync-2-clause-says
+returns-in_err-sync-2-clause-says g c = λ tell. sync_output c.args.tape (g.H.Host.trace c.write-2.new.self) (g.H.Host.trace c.sync-2.new.self) (inr (c.in_err-sync-2.ensures.story tell))
+    ∙ ap output (c.in_ok-write-2.ensures.story tell) ∙ ap output (c.in_ok-sync.ensures.story tell) ∙ ap output (c.in_ok-write.ensures.story tell)
+
+pub returns-clause-says : goal.returns-clause-says
+returns-clause-says g c = λ tell. ap output (c.in_ok-sync-2.ensures.story tell)
+    ∙ ap output (c.in_ok-write-2.ensures.story tell) ∙ ap output (c.in_ok-sync.ensures.story tell) ∙ ap output (c.in_ok-write.ensures.story tell)

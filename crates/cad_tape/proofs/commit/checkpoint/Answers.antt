@@ -1,6 +1,7 @@
-use Rattle.std.proofs.Common.{◌≡◌, [], ◌∷◌, refl, ◌∙◌, ap, subst, arith}
+use Rattle.std.proofs.Common.{◌≡◌, [], ◌∷◌, refl, ◌∙◌, inr, ap, subst, arith}
 use Rattle.cad_host.specs.declared.host.Tape.TheVariants.{Pick}
-use Rattle.cad_host.specs.Disk.{wrote, synced, BreaksWrite}
+use Rattle.cad_host.specs.Disk.{wrote, synced, output, BreaksWrite}
+use Rattle.cad_host.proofs.Kept.{write_output, sync_output}
 use Rattle.cad_tape.specs.Framing.{framed}
 use Rattle.cad_tape.specs.Reading.{stored, pick_of}
 use Rattle.cad_tape.proofs.Four.{is1, end1, end2, end3, end4, done}
@@ -94,3 +95,23 @@ returns-clause-quiet g c =
     let e3 = c.in_ok-write-2.ensures.story tell ∙ (λ i. wrote Pick 0 (c.pick_byte.ensures i ∷ []) ∷ e2 i) in
     let e4 = c.in_ok-sync-2.ensures.story tell ∙ ap (λ m. synced Pick ∷ m) e3 in
     quiet_at m0 c.args.onto body free short (g.H.Host.trace c.sync-2.new.self) e4
+
+-- no call puts anything
+pub returns-in_err-write-clause-says : goal.returns-in_err-write-clause-says
+returns-in_err-write-clause-says g c = λ tell. write_output c.args.onto _ _ (g.H.Host.trace c.args.host.now) (g.H.Host.trace c.write.new.self) (inr (c.in_err-write.ensures.story tell))
+
+pub returns-in_err-sync-clause-says : goal.returns-in_err-sync-clause-says
+returns-in_err-sync-clause-says g c = λ tell. sync_output c.args.onto (g.H.Host.trace c.write.new.self) (g.H.Host.trace c.sync.new.self) (inr (c.in_err-sync.ensures.story tell))
+    ∙ ap output (c.in_ok-write.ensures.story tell)
+
+pub returns-in_err-write-2-clause-says : goal.returns-in_err-write-2-clause-says
+returns-in_err-write-2-clause-says g c = λ tell. write_output Pick 0 (c.pick_byte.result ∷ []) (g.H.Host.trace c.sync.new.self) (g.H.Host.trace c.write-2.new.self) (inr (c.in_err-write-2.ensures.story tell))
+    ∙ ap output (c.in_ok-sync.ensures.story tell) ∙ ap output (c.in_ok-write.ensures.story tell)
+
+pub returns-in_err-sync-2-clause-says : goal.returns-in_err-sync-2-clause-says
+returns-in_err-sync-2-clause-says g c = λ tell. sync_output Pick (g.H.Host.trace c.write-2.new.self) (g.H.Host.trace c.sync-2.new.self) (inr (c.in_err-sync-2.ensures.story tell))
+    ∙ ap output (c.in_ok-write-2.ensures.story tell) ∙ ap output (c.in_ok-sync.ensures.story tell) ∙ ap output (c.in_ok-write.ensures.story tell)
+
+pub returns-clause-says : goal.returns-clause-says
+returns-clause-says g c = λ tell. ap output (c.in_ok-sync-2.ensures.story tell)
+    ∙ ap output (c.in_ok-write-2.ensures.story tell) ∙ ap output (c.in_ok-sync.ensures.story tell) ∙ ap output (c.in_ok-write.ensures.story tell)
