@@ -5,3 +5,4 @@ pub mod Feeds
 pub mod Lines_of
 pub mod Prefixes
 pub mod Saids
+pub mod Comings

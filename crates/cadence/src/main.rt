@@ -2,7 +2,6 @@
 #![tactic(auto)]
 
 mod laws;
-mod laws;
 mod line;
 mod outcome;
 mod prepare;
