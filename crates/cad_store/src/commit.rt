@@ -1,6 +1,6 @@
 // Writing a commit to the tapes.
 ghost use Rattle.std.specs.Prelude.{◌≡◌, ◌-◌, ◌≤◌, ◌++◌, [], ◌∷◌, List, ℕ, length, All, OnOk, OnErr, IfOk};
-ghost use Rattle.cad_host.specs.Disk.{Ran};
+ghost use Rattle.cad_host.specs.Disk.{Ran, output};
 ghost use Rattle.cad_host.specs.Faults.{IsCaused};
 ghost use Rattle.cad_wire.specs.declared.entry.Entry.{Entry};
 ghost use Rattle.cad_wire.specs.Body.{body_bytes, Fits};
@@ -28,6 +28,7 @@ fn write_record<H: Host>(host: &mut H, place: Place, bytes: &[u8]) -> Result<Pla
     ensures quiet { OnOk result (H.tells → IsQuiet (H.trace host.old) → IsQuiet (H.trace host.new)) }
     ensures order { OnOk result (H.tells → (body : List ℕ) → bytes.now ≡ 1 ∷ framed body →
         H.trace host.new ≡ recorded body (H.trace host.old)) }
+    ensures says { H.tells → output (H.trace host.new) ≡ output (H.trace host.old) }
     ensures cause { IsCaused result (H.disk_faults host.old) (H.disk_faults host.new) }
     ensures stays { H.tells → H.left host.new ≡ H.left host.old }
     ensures input { H.input_faults host.new ≡ H.input_faults host.old }
@@ -76,6 +77,7 @@ impl Store {
         ensures order { OnOk result (H.tells → (changes : List Entry) → IsOut self.old commit changes →
             H.trace host.new ≡ recorded (body_bytes changes) (H.trace host.old)) }
 
+        ensures says { H.tells → output (H.trace host.new) ≡ output (H.trace host.old) }
         ensures err { OnErr result (self.new ≡ self.old) }
         ensures room { room_of self.new ≡ room_of self.old }
         ensures cause { IsCaused result (H.disk_faults host.old) (H.disk_faults host.new) }

@@ -122,3 +122,14 @@ begun_broken w v xs o p h = record {
   output = h.output ∙ ap (λ l. o ++ l) (ap (λ l. answer_lines h.answers ++ take h.bytes l) (sym (append-nil (answer_line h.next)))
       ∙ sym (take-append-add (answer_lines h.answers) (answer_lines (h.next ∷ [])) h.bytes) ∙ ap (take (length (answer_lines h.answers) + h.bytes)) (sym (lines_append h.answers (h.next ∷ []))));
 }
+
+-- whatever commands follow
+pub begun_more : (w : Accounts) (xs ys : List (List ℕ)) (o p : List ℕ) → Begun w xs o p → Begun w (xs ++ ys) o p
+begun_more w xs ys o p h = record {
+  count = min h.count (length xs);
+  answers = h.answers;
+  accounts = h.accounts;
+  bytes = h.bytes;
+  are = subst (λ l. AnswersAll w l h.answers h.accounts) (sym (take-append-le (min h.count (length xs)) xs ys (omega arith) ∙ take_min h.count xs)) h.are;
+  output = h.output;
+}

@@ -6,3 +6,7 @@ pub mod Lines_of
 pub mod Prefixes
 pub mod Saids
 pub mod Comings
+pub mod Readies
+pub mod Tellings
+pub mod Runs
+pub mod Openings

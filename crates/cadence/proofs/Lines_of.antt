@@ -68,13 +68,17 @@ unfolding hex_digits
 hex_none zero n = refl
 hex_none (suc k) n = both_none (hex_digits k (n / 16)) (digit_char (n % 16) ∷ []) (hex_none k (n / 16)) (ap (λ c. more c 0) (hex_char (n % 16)))
 
--- a text without line feeds between two others
-wrapped : (head middle tail : List ℕ) → line_feeds head ≡ 0 → line_feeds middle ≡ 0 → line_feeds tail ≡ 1 → line_feeds (head ++ (middle ++ tail)) ≡ 1
-wrapped head middle tail h m t = feeds_append head (middle ++ tail) ∙ omega (arith, h, feeds_append middle tail, m, t)
+-- texts without line feeds, and one at their end
+wrapped : (head middle tail : List ℕ) → line_feeds head ≡ 0 → line_feeds middle ≡ 0 → line_feeds tail ≡ 0 → line_feeds (head ++ middle ++ tail ++ 10 ∷ []) ≡ 1
+wrapped head middle tail h m t =
+    feeds_append (head ++ middle ++ tail) (10 ∷ []) ∙ omega (arith, feeds_append (head ++ middle) tail, feeds_append head middle, h, m, t)
+
+alone : (text : List ℕ) → line_feeds text ≡ 0 → line_feeds (text ++ 10 ∷ []) ≡ 1
+alone text h = feeds_append text (10 ∷ []) ∙ omega (arith, h)
 
 pub one_feed : (a : Answer) → line_feeds (answer_line a) ≡ 1
-one_feed (result n) = wrapped (codes "{\"reply\":\"ok\",\"result\":{\"type\":\"Int\",\"value\":\"") (written n) (codes "\"}}" ++ 10 ∷ []) refl (written_none n) refl
-one_feed (address n) = wrapped (codes "{\"address\":\"") (address_text n) (codes "\",\"reply\":\"ok\"}" ++ 10 ∷ []) refl (both_none (codes "0x") (hex_digits 16 n) refl (hex_none 16 n)) refl
-one_feed done = refl
-one_feed (failed n) = wrapped (codes "{\"error\":\"") (decimal n) (codes "\",\"reply\":\"failed\"}" ++ 10 ∷ []) refl (decimal_none n) refl
-one_feed (bad n) = wrapped (codes "{\"error\":\"") (decimal n) (codes "\",\"reply\":\"bad\"}" ++ 10 ∷ []) refl (decimal_none n) refl
+one_feed (result n) = wrapped (codes "{\"reply\":\"ok\",\"result\":{\"type\":\"Int\",\"value\":\"") (written n) (codes "\"}}") refl (written_none n) refl
+one_feed (address n) = wrapped (codes "{\"address\":\"") (address_text n) (codes "\",\"reply\":\"ok\"}") refl (both_none (codes "0x") (hex_digits 16 n) refl (hex_none 16 n)) refl
+one_feed done = alone (codes "{\"destroyed\":[],\"events\":[],\"made\":[],\"reply\":\"ok\"}") refl
+one_feed (failed n) = wrapped (codes "{\"error\":\"") (decimal n) (codes "\",\"reply\":\"failed\"}") refl (decimal_none n) refl
+one_feed (bad n) = wrapped (codes "{\"error\":\"") (decimal n) (codes "\",\"reply\":\"bad\"}") refl (decimal_none n) refl

@@ -10,7 +10,7 @@ use Rattle.cad_host.proofs.Ran.{ran_as, ran_on, ran_none}
 use Rattle.cad_tape.specs.Reading.{IsQuiet, chosen, tape_reading}
 use Rattle.cad_accounts.specs.Registers.{Map}
 use Rattle.cad_accounts.specs.Accounts.{Accounts, StandsFor}
-use Rattle.cad_store.specs.Stores.{DiskHolds}
+use Rattle.cad_store.proofs.Holding.{quiet as quiet_image}
 use Rattle.cadence.specs.Answer.{Answer, answer_line}
 use Rattle.cadence.specs.Served.{AnswersAll, answer_lines, Served}
 use Rattle.cadence.specs.Crashes.{DiskStands, HasPrefix, IsPrefix, Survives, line_feeds, acknowledged}
@@ -19,18 +19,8 @@ use Rattle.cadence.proofs.Feeds.{feeds_append, feeds_lines}
 use Rattle.cadence.proofs.Lines_of.{one_feed}
 
 -- with nothing pending an image is what reads
-quiet_holds : (m : List Event) (disk : Tape → List ℕ) (map : Map) → IsQuiet m → IsDisk m disk → DiskHolds (reads m) map → DiskHolds disk map
-quiet_holds m disk map quiet image h =
-    let pick = clean_only (state Pick m) (disk Pick) quiet.clean_pick (image Pick) in
-    let used = clean_only (state (chosen (reads m Pick)) m) (disk (chosen (reads m Pick))) quiet.clean (image (chosen (reads m Pick))) in
-    record {
-      records = h.records;
-      reading = ap (λ p. tape_reading (disk (chosen p))) pick ∙ ap tape_reading used ∙ h.reading;
-      is = h.is;
-    }
-
 pub quiet_stands : (m : List Event) (disk : Tape → List ℕ) (w : Accounts) → IsQuiet m → IsDisk m disk → DiskStands (reads m) w → DiskStands disk w
-quiet_stands m disk w quiet image h = record { map = h.map; holds = quiet_holds m disk h.map quiet image h.holds; stands = h.stands }
+quiet_stands m disk w quiet image h = record { map = h.map; holds = quiet_image m disk h.map quiet image h.holds; stands = h.stands }
 
 -- before the first command
 pub prefix_none : (w : Accounts) (commands : List (List ℕ)) (m : List Event) → ((disk : Tape → List ℕ) → IsDisk m disk → DiskStands disk w) → IsPrefix w commands m m

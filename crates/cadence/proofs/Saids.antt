@@ -1,9 +1,9 @@
 -- One command, and commands in turn: what is said, and what a crash leaves.
-use Rattle.std.proofs.Common.{◌≡◌, ◌⊎◌, inl, inr, ℕ, suc, ◌+◌, ◌≤◌, List, [], ◌∷◌, ◌++◌, length, take, refl, sym, ◌∙◌, ap, subst, arith, length-append}
+use Rattle.std.proofs.Common.{◌≡◌, ◌⊎◌, inl, inr, ℕ, suc, ◌+◌, ◌≤◌, List, [], ◌∷◌, ◌++◌, length, take, Result, Ok, Err, OnOk, refl, sym, ◌∙◌, ap, subst, arith, length-append}
 use Rattle.std.proofs.lemmas.List.{append-nil}
 use Rattle.std.proofs.Math.Seq.{take-length}
 use Rattle.cad_host.specs.declared.host.Tape.{Tape}
-use Rattle.cad_host.specs.Disk.{Event, put, output, reads, IsDisk, Ran, BreaksPut}
+use Rattle.cad_host.specs.Disk.{Event, put, output, reads, IsDisk, Ran, Puts, BreaksPut}
 use Rattle.cad_host.proofs.Ran.{ran_as, ran_on, ran_none, ran_same, ran_one, ran_end}
 use Rattle.cad_tape.specs.Reading.{IsQuiet}
 use Rattle.cad_accounts.specs.Registers.{Map}
@@ -198,3 +198,8 @@ module _ (w v : Accounts) (c : List ℕ) (a : Answer) (answers : Answers w c a v
   pub commit_told : (before : Map) (mid new : List Event) (text : List ℕ) (store : Store) → output mid ≡ output old → StandsFor before w → StandsFor (held store) v → (IsQuiet old → Ran old mid (Keeps old before (held store)))
       → (IsQuiet old → IsQuiet mid) → IsOn mid store → text ≡ answer_line a → BreaksPut text mid new → Halted WriteFault w (c ∷ []) old new
   commit_told before mid new text store same is_w is_v ran stays on is made = put_broke mid same (λ quiet. commit_ran before (held store) mid is_w is_v (ran quiet)) stays (on_stands mid store v on is_v) text new is made
+
+-- the store is still on its tapes
+pub on_told : {T E Tells : Type 0} (r : Result T E) (text : List ℕ) (store : Store) (mid new : List Event) → (Tells → Puts text r mid new) → (Tells → IsOn mid store) → OnOk r (Tells → IsOn new store)
+on_told (Ok t) text store mid new puts on = λ tell. subst (λ m. IsOn m store) (sym (puts tell)) (on_put text mid store (on tell))
+on_told (Err e) text store mid new puts on = tt

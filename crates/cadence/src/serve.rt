@@ -69,10 +69,10 @@ fn write_and_tell<H: Host>(
     ensures left { H.tells → H.left host.new ≡ H.left host.old }
     ensures input { H.input_faults host.new ≡ H.input_faults host.old }
 {
-    if store.commit(host, commit).is_err() {
-        return Err(Status::DiskFault);
+    match store.commit(host, commit) {
+        Ok(()) => tell(host, text),
+        Err(_) => Err(Status::DiskFault),
     }
-    tell(host, text)
 }
 
 // Answers the line that has ended, which is a command: what it changes is written before its reply is put.

@@ -1,0 +1,102 @@
+-- What is ready in answer to a line.
+use Rattle.std.proofs.Common.{◌≡◌, ℕ, ◌≤◌, ◌<◌, Bool, true, false, ltb, List, [], ◌∷◌, length, Result, Ok, Err, IfOk, refl, sym, ◌∙◌, ap, subst}
+use Rattle.std.proofs.lemmas.List.{take_all}
+use Rattle.std.proofs.lemmas.Bool.Decides.{nat_tests}
+use Rattle.std.proofs.Common.{arith, take}
+use Rattle.cad_wire.specs.declared.entry.Entry.{Entry}
+use Rattle.cad_accounts.specs.declared.row.Row.{Row}
+use Rattle.cad_accounts.specs.Registers.{Map, at, applied, are_rising, size_of, Leads}
+use Rattle.cad_accounts.specs.Accounts.{Accounts, StandsFor, AreRegisters, HasSize}
+use Rattle.cad_accounts.proofs.Existing.{rows_exist}
+use Rattle.cad_forms.specs.Request.{Request, Asks}
+use Rattle.cad_store.specs.declared.store.Store.{Store}
+use Rattle.cad_store.specs.Stores.{rows_in, held}
+use Rattle.cadence.specs.Answer as answer
+use Rattle.cadence.specs.Answer.{Answer, Answers, too_long, no_form, asks, Does, Commits, unchanged, fits, full, most_bytes, bad, answer_line}
+use Rattle.cadence.specs.Held.{Holds, longest}
+use Rattle.cadence.specs.Outcomes.{Comes, IsReady}
+use Rattle.cadence.specs.Views.{answer_of}
+use Rattle.cadence.specs.declared.line.Line.{Line}
+use Rattle.cadence.specs.declared.reply.Reply as own
+use Rattle.cadence.specs.declared.outcome.Outcome.{Outcome}
+use Rattle.cadence.specs.declared.outcome.Outcome.TheVariants.{Stays, Leads as Leading}
+use Rattle.cadence.specs.declared.prepare.Prepared.{Prepared}
+use Rattle.cadence.specs.declared.prepare.Prepared.TheVariants.{Reply, Commit}
+
+-- what leads to a map gives it
+leads_to : (old new : Map) (changes : List Entry) → Leads old new changes → new ≡ applied changes old
+leads_to old new changes h = λ i key. h.is key i
+
+sized : (v : Accounts) (old new : Map) (changes : List Entry) (rows : List Row) → Leads old new changes → StandsFor new v → are_rising rows ≡ true → ((key : List ℕ) → at rows key ≡ applied changes old key) → HasSize v (size_of rows)
+sized v old new changes rows h stands rises same = record {
+  rows = rows;
+  rising = rises;
+  are = subst (AreRegisters v) (leads_to old new changes h ∙ (λ i key. sym (same key) i)) stands.are;
+  is = refl;
+}
+
+module _ (w v : Accounts) (a : Answer) (changes : List Entry) (new : Map) (before : List Row) (rises : are_rising before ≡ true) (h : Leads (at before) new changes) (stands : StandsFor new v) (room : ℕ) (is : room ≡ most_bytes) where
+  pub commits_fit : ((rows : List Row) → are_rising rows ≡ true → ((key : List ℕ) → at rows key ≡ applied changes (at before) key) → size_of rows ≤ room) → Commits w (answer.leads a v) a v
+  commits_fit small =
+      let r = rows_exist before changes rises in
+      fits (sized v (at before) new changes r.0 h stands r.1 r.2) (subst (λ n. size_of r.0 ≤ n) is (small r.0 r.1 r.2))
+
+  pub commits_full : ((rows : List Row) → are_rising rows ≡ true → ((key : List ℕ) → at rows key ≡ applied changes (at before) key) → room < size_of rows) → Commits w (answer.leads a v) (answer.failed 130) w
+  commits_full large =
+      let r = rows_exist before changes rises in
+      full (sized v (at before) new changes r.0 h stands r.1 r.2) (subst (λ n. n < size_of r.0) is (large r.0 r.1 r.2))
+
+  pub stands_applied : StandsFor (applied changes (at before)) v
+  stands_applied = subst (λ m. StandsFor m v) (leads_to (at before) new changes h) stands
+
+-- no change leaves the map
+pub stands_unchanged : (v : Accounts) (old new : Map) (changes : List Entry) → changes ≡ [] → Leads old new changes → StandsFor new v → StandsFor old v
+stands_unchanged v old new changes none h stands = subst (λ es. StandsFor (applied es old) v) none (subst (λ m. StandsFor m v) (leads_to old new changes h) stands)
+
+-- what is ready may be allowed by more
+pub ready_as : {P Q : Answer → Accounts → Type 0} (p : Prepared) (store : Store) → ((a : Answer) (v : Accounts) → P a v → Q a v) → IsReady p store P → IsReady p store Q
+ready_as (Reply text) store f h = (h.0, h.1, f h.0 h.1 h.2, h.3, h.4)
+ready_as (Commit commit text) store f h = (h.0, h.1, h.2, f h.0 h.1 h.3, h.4, h.5, h.6)
+
+pub ready_ok : {E : Type 0} {P Q : Answer → Accounts → Type 0} (r : Result Prepared E) (store : Store) → ((a : Answer) (v : Accounts) → P a v → Q a v) → IfOk r (λ p. IsReady p store P) → IfOk r (λ p. IsReady p store Q)
+ready_ok (Ok p) store f h = ready_as p store f h
+ready_ok (Err e) store f h = tt
+
+-- a line that is held
+test_long : (n m : ℕ) → ltb n m ≡ true → n < m
+test_long n m e = grind (arith, nat_tests)
+
+test_short : (n m : ℕ) → ltb n m ≡ false → m ≤ n
+test_short n m e = grind (arith, nat_tests)
+
+pub long_line : (w : Accounts) (line : Line) (pending : List ℕ) → line.long ≡ true → Holds line pending → Answers w pending (bad 27) w
+long_line w line pending long h = too_long (test_long longest (length pending) (sym h.long ∙ long))
+
+pub short_line : (line : Line) (pending : List ℕ) → line.long ≡ false → Holds line pending → length pending ≤ longest
+short_line line pending short h = test_short longest (length pending) (sym h.long ∙ short)
+
+pub held_line : (line : Line) (pending : List ℕ) → line.long ≡ false → Holds line pending → line.held.items ≡ pending
+held_line line pending short h = h.held ∙ take_all longest pending (short_line line pending short h)
+
+pub no_request : (w : Accounts) (line : Line) (pending : List ℕ) → line.long ≡ false → ((request : Request) → Asks line.held.items request → ⊥) → Holds line pending → Answers w pending (bad 29) w
+no_request w line pending short lacks h = no_form (short_line line pending short h) (subst (λ l. (request : Request) → Asks l request → ⊥) (held_line line pending short h) lacks)
+
+pub with_request : (w : Accounts) (line : Line) (request : Request) (a : Answer) (v : Accounts) → line.long ≡ false → Asks line.held.items request → (o : answer.Outcome) × Does w request o × Commits w o a v
+    → (pending : List ℕ) → Holds line pending → Answers w pending a v
+with_request w line request a v short is done pending h = asks (short_line line pending short h) (subst (λ l. Asks l request) (held_line line pending short h) is) done.1 done.2
+
+pub ready_leads : {E : Type 0} (r : Result Prepared E) (old : Map) (store : Store) (outcome : Outcome) (reply : own.Reply) (changes : List Entry) → outcome ≡ Leading reply changes
+    → IfOk r (λ p. (w v : Accounts) (new : Map) → StandsFor old w → Leads old new changes → StandsFor new v → IsReady p store (Commits w (answer.leads (answer_of reply) v)))
+    → IfOk r (λ p. (w : Accounts) (request : Request) → StandsFor old w → Comes outcome old w request → IsReady p store (λ a v. (o : answer.Outcome) × Does w request o × Commits w o a v))
+ready_leads (Ok p) old store outcome reply changes is f = λ w request is_w comes.
+    let h = subst (λ o. Comes o old w request) is comes in
+    ready_as p store (λ a u c. (answer.leads (answer_of reply) h.0, h.2, c)) (f w h.0 h.1 is_w h.3 h.4)
+ready_leads (Err e) old store outcome reply changes is f = tt
+
+pub ready_request : {E : Type 0} (r : Result Prepared E) (old : Map) (store : Store) (line : Line) (outcome : Outcome) (request : Request) → line.long ≡ false → Asks line.held.items request
+    → ((w : Accounts) → StandsFor old w → Comes outcome old w request)
+    → IfOk r (λ p. (w : Accounts) (request : Request) → StandsFor old w → Comes outcome old w request → IsReady p store (λ a v. (o : answer.Outcome) × Does w request o × Commits w o a v))
+    → IfOk r (λ p. (w : Accounts) → StandsFor old w → IsReady p store (λ a v. (pending : List ℕ) → Holds line pending → Answers w pending a v))
+ready_request (Ok p) old store line outcome request short asked comes f = λ w is_w.
+    ready_as p store (λ a v done pending h. with_request w line request a v short asked done pending h) (f w request is_w (comes w is_w))
+ready_request (Err e) old store line outcome request short asked comes f = tt

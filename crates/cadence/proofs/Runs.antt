@@ -1,0 +1,222 @@
+-- A run goes on, byte by byte.
+use Rattle.std.proofs.Common.{◌≡◌, ◌⊎◌, inl, inr, ℕ, ◌+◌, ◌^◌, ◌<◌, ◌≤◌, ◌==◌, true, false, List, [], ◌∷◌, ◌++◌, length, take, drop, get_or, Result, Ok, Err, OnOk, IfErr, refl, sym, ◌∙◌, ap, subst, append_assoc, arith, length-append}
+use Rattle.std.proofs.lemmas.List.{append-nil, take_more, take_all, drop_more, take-append-drop}
+use Rattle.std.proofs.lemmas.Bool.Decides.{eqb_tells}
+use Rattle.std.proofs.lemmas.List.Elements.{filter-append}
+use Rattle.cad_host.specs.Disk.{Event, output, reads}
+use Rattle.cad_host.specs.Faults.{Rose}
+use Rattle.cad_accounts.specs.Accounts.{Accounts, StandsFor}
+use Rattle.cad_store.specs.declared.store.Store.{Store}
+use Rattle.cad_store.specs.Stores.{held, IsOn}
+use Rattle.cadence.specs.Lines.{commands_among, is_command, commands, lines}
+use Rattle.cadence.specs.Held.{Holds}
+use Rattle.cadence.specs.Served.{Served, Begun, Finished}
+use Rattle.cadence.specs.Crashes.{DiskStands, Survives}
+use Rattle.cadence.specs.Progress.{Said, Halts, Halted, Going, Goes, Stops}
+use Rattle.cadence.specs.declared.line.Line.{Line}
+use Rattle.cadence.specs.declared.status.Status.{Status}
+use Rattle.cadence.specs.declared.status.Status.TheVariants.{Done, Usage, ReadFault, WriteFault, DiskFault, Memory, BadStore, InputBound}
+use Rattle.cadence.specs.Ending.{Leaves, Ends, HasCause, StopCause}
+use Rattle.cadence.proofs.Splits.{lines_byte, lines_feed, onto, lines_onto}
+use Rattle.cadence.proofs.Batches.{begun_all, begun_some, begun_broken, begun_more}
+use Rattle.cadence.proofs.Prefixes.{survives_more}
+use Rattle.cadence.proofs.Saids.{on_stands, said_none, said_then, halted_then, halted_more, memory_here}
+
+among : (xs ys : List (List ℕ)) → commands_among (xs ++ ys) ≡ commands_among xs ++ commands_among ys
+among xs ys = filter-append is_command xs ys
+
+-- nothing is taken yet
+pub going_none : (line : Line) (store : Store) (w : Accounts) (input : List ℕ) (m : List Event) → Holds line [] → StandsFor (held store) w → IsOn m store → Going line store w input m input m
+going_none line store w input m h stands on = record { taken = []; whole = []; pending = []; input_is = refl; lines_are = refl; holds = h; said = said_none w m store stands on }
+
+pub goes_none : (line : Line) (store : Store) (m : List Event) → Goes line store line store [] m m
+goes_none line store m w input base left g = g
+
+pub goes_then : (a b c : Line) (r s t : Store) (xs ys : List ℕ) (o p q : List Event) → Goes a r b s xs o p → Goes b s c t ys p q → Goes a r c t (xs ++ ys) o q
+goes_then a b c r s t xs ys o p q h k w input base left g =
+    k w input base left (h w input base (ys ++ left) (subst (λ l. Going a r w input base l o) (append_assoc xs ys left) g))
+
+pub goes_stops : (status : Status) (a b : Line) (r s : Store) (xs ys : List ℕ) (o p q : List Event) → Goes a r b s xs o p → Stops status b s ys p q → Stops status a r (xs ++ ys) o q
+goes_stops status a b r s xs ys o p q h k w input base left g =
+    k w input base left (h w input base (ys ++ left) (subst (λ l. Going a r w input base l o) (append_assoc xs ys left) g))
+
+-- a byte that is no line feed goes to the line that is held
+pub goes_byte : (a b : Line) (store : Store) (byte : ℕ) (m : List Event) → (byte == 10) ≡ false → ((pending : List ℕ) → Holds a pending → Holds b (pending ++ byte ∷ [])) → Goes a store b store (byte ∷ []) m m
+goes_byte a b store byte m other step w input base left g = record {
+  taken = g.taken ++ byte ∷ [];
+  whole = g.whole;
+  pending = g.pending ++ byte ∷ [];
+  input_is = g.input_is ∙ sym (append_assoc g.taken (byte ∷ []) left);
+  lines_are = lines_byte byte other g.taken g.whole g.pending g.lines_are;
+  holds = step g.pending g.holds;
+  said = g.said;
+}
+
+-- a line feed ends it
+pub goes_feed : (a b : Line) (r s : Store) (byte : ℕ) (o p : List Event) → (byte == 10) ≡ true → Holds b []
+    → ((pending : List ℕ) → Holds a pending → (w : Accounts) → StandsFor (held r) w → Said w (commands_among (pending ∷ [])) o p s) → Goes a r b s (byte ∷ []) o p
+goes_feed a b r s byte o p feed fresh says w input base left g = record {
+  taken = g.taken ++ byte ∷ [];
+  whole = g.whole ++ g.pending ∷ [];
+  pending = [];
+  input_is = g.input_is ∙ sym (append_assoc g.taken (byte ∷ []) left);
+  lines_are = lines_feed byte feed g.taken ∙ ap (λ ls. ls ++ [] ∷ []) g.lines_are;
+  holds = fresh;
+  said = subst (λ cs. Said w cs base p s) (sym (among g.whole (g.pending ∷ [])))
+      (said_then w (commands_among g.whole) (commands_among (g.pending ∷ [])) base o p r s g.said (says g.pending g.holds g.said.accounts g.said.stands));
+}
+
+-- what was answered is the front of all commands
+front_of : (xs ys : List ℕ) (whole : List (List ℕ)) (last : List ℕ) → lines xs ≡ whole ++ last ∷ [] → commands (xs ++ ys) ≡ commands_among whole ++ commands_among (onto last ys)
+front_of xs ys whole last is = ap commands_among (lines_onto ys xs whole last is) ∙ among whole (onto last ys)
+
+commands_of : (input xs ys : List ℕ) (whole : List (List ℕ)) (last : List ℕ) → input ≡ xs ++ ys → lines xs ≡ whole ++ last ∷ [] → commands input ≡ commands_among whole ++ commands_among (onto last ys)
+commands_of input xs ys whole last is lines_are = ap commands is ∙ front_of xs ys whole last lines_are
+
+halted_front : (status : Status) (w : Accounts) (input xs ys : List ℕ) (base m : List Event) (whole : List (List ℕ)) (last : List ℕ) → input ≡ xs ++ ys → lines xs ≡ whole ++ last ∷ []
+    → Halted status w (commands_among whole) base m → Halted status w (commands input) base m
+halted_front status w input xs ys base m whole last is lines_are h =
+    subst (λ cs. Halted status w cs base m) (sym (commands_of input xs ys whole last is lines_are)) (halted_more status w (commands_among whole) (commands_among (onto last ys)) base m h)
+
+survives_front : (w : Accounts) (input xs ys : List ℕ) (base m : List Event) (whole : List (List ℕ)) (last : List ℕ) → input ≡ xs ++ ys → lines xs ≡ whole ++ last ∷ []
+    → Survives w (commands_among whole) base m → Survives w (commands input) base m
+survives_front w input xs ys base m whole last is lines_are h =
+    subst (λ cs. Survives w cs base m) (sym (commands_of input xs ys whole last is lines_are)) (survives_more w (commands_among whole) (commands_among (onto last ys)) base m h)
+
+-- memory ran out between commands
+pub memory_stops : (line : Line) (store : Store) (xs : List ℕ) (m : List Event) → Stops Memory line store xs m m
+memory_stops line store xs m w input base left g =
+    halted_front Memory w input g.taken (xs ++ left) base m g.whole g.pending g.input_is g.lines_are
+    (subst (λ cs. Halted Memory w cs base m) (append-nil (commands_among g.whole)) (halted_then Memory w (commands_among g.whole) [] base m m store g.said (memory_here g.said.accounts [] m store g.said.on g.said.stands)))
+
+both : (status : Status) (w : Accounts) (base o p : List Event) (whole : List (List ℕ)) (pending : List ℕ) (store : Store) (g : Said w (commands_among whole) base o store)
+    → Halted status g.accounts (commands_among (pending ∷ [])) o p → Halted status w (commands_among (whole ++ pending ∷ [])) base p
+both status w base o p whole pending store g h =
+    subst (λ cs. Halted status w cs base p) (sym (among whole (pending ∷ []))) (halted_then status w (commands_among whole) (commands_among (pending ∷ [])) base o p store g h)
+
+pub stops_feed : (status : Status) (a : Line) (r : Store) (byte : ℕ) (xs : List ℕ) (o p : List Event) → (byte == 10) ≡ true
+    → ((pending : List ℕ) → Holds a pending → (w : Accounts) → StandsFor (held r) w → Halted status w (commands_among (pending ∷ [])) o p) → Stops status a r (byte ∷ xs) o p
+stops_feed status a r byte xs o p feed says w input base left g =
+    halted_front status w input (g.taken ++ byte ∷ []) (xs ++ left) base p (g.whole ++ g.pending ∷ []) []
+    (g.input_is ∙ sym (append_assoc g.taken (byte ∷ []) (xs ++ left)))
+    (lines_feed byte feed g.taken ∙ ap (λ ls. ls ++ [] ∷ []) g.lines_are)
+    (both status w base o p g.whole g.pending r g.said (says g.pending g.holds g.said.accounts g.said.stands))
+
+all_commands : (input taken : List ℕ) (whole : List (List ℕ)) (pending : List ℕ) → input ≡ taken ++ [] → lines taken ≡ whole ++ pending ∷ [] → commands input ≡ commands_among (whole ++ pending ∷ [])
+all_commands input taken whole pending is lines_are = ap commands (is ∙ append-nil taken) ∙ ap commands_among lines_are
+
+-- the input ends, and with it the last line
+pub ends_done : (a : Line) (r s : Store) (w : Accounts) (input left : List ℕ) (base o p : List Event) → Going a r w input base [] o → left ≡ [] → length input ≤ 2 ^ 40
+    → ((pending : List ℕ) → Holds a pending → (u : Accounts) → StandsFor (held r) u → Said u (commands_among (pending ∷ [])) o p s) → Ends Done w input left base p
+ends_done a r s w input left base o p g empty bound says =
+    let same = all_commands input g.taken g.whole g.pending g.input_is g.lines_are ∙ among g.whole (g.pending ∷ []) in
+    let all = said_then w (commands_among g.whole) (commands_among (g.pending ∷ [])) base o p r s g.said (says g.pending g.holds g.said.accounts g.said.stands) in
+    record {
+      leaves = (all.accounts, empty, bound, subst (λ cs. Served w cs (output base) (output p) all.accounts) (sym same) all.served, on_stands p s all.accounts all.on all.stands);
+      survives = subst (λ cs. Survives w cs base p) (sym same) all.survives;
+    }
+
+halted_leaves : (status : Status) (w : Accounts) (input left : List ℕ) (base p : List Event) → Halts status w (commands input) base p → Leaves status w input left base p
+halted_leaves Done w input left base p h = absurd h
+halted_leaves Usage w input left base p h = absurd h
+halted_leaves ReadFault w input left base p h = absurd h
+halted_leaves WriteFault w input left base p h = h
+halted_leaves DiskFault w input left base p h = h
+halted_leaves Memory w input left base p h = h
+halted_leaves BadStore w input left base p h = absurd h
+halted_leaves InputBound w input left base p h = absurd h
+
+pub halted_ends : (status : Status) (w : Accounts) (input left : List ℕ) (base p : List Event) → Halted status w (commands input) base p → Ends status w input left base p
+halted_ends status w input left base p h = record { leaves = halted_leaves status w input left base p h.halts; survives = h.survives }
+
+pub ends_halted : (status : Status) (a : Line) (r : Store) (w : Accounts) (input left : List ℕ) (base o p : List Event) → Going a r w input base [] o
+    → ((pending : List ℕ) → Holds a pending → (u : Accounts) → StandsFor (held r) u → Halted status u (commands_among (pending ∷ [])) o p) → Ends status w input left base p
+ends_halted status a r w input left base o p g says = halted_ends status w input left base p
+    (subst (λ cs. Halted status w cs base p) (sym (all_commands input g.taken g.whole g.pending g.input_is g.lines_are)) (both status w base o p g.whole g.pending r g.said (says g.pending g.holds g.said.accounts g.said.stands)))
+
+going_survives : (a : Line) (r : Store) (w : Accounts) (input left : List ℕ) (base o : List Event) → Going a r w input base left o → Survives w (commands input) base o
+going_survives a r w input left base o g = survives_front w input g.taken left base o g.whole g.pending g.input_is g.lines_are g.said.survives
+
+-- the input failed
+pub ends_read : (a : Line) (r : Store) (w : Accounts) (input left : List ℕ) (base o : List Event) → Going a r w input base left o → Ends ReadFault w input left base o
+ends_read a r w input left base o g = record {
+  leaves = (g.said.accounts, g.taken, g.input_is, record { whole = g.whole; unfinished = g.pending; lines_are = g.lines_are; served = g.said.served }, on_stands o r g.said.accounts g.said.on g.said.stands);
+  survives = going_survives a r w input left base o g;
+}
+
+-- memory ran out before anything was taken
+pub ends_memory : (store : Store) (w : Accounts) (input left : List ℕ) (m : List Event) → StandsFor (held store) w → IsOn m store → Ends Memory w input left m m
+ends_memory store w input left m stands on = halted_ends Memory w input left m m (memory_here w (commands input) m store on stands)
+
+pub other_byte : (a b : ℕ) → (a ≡ b → ⊥) → (a == b) ≡ false
+other_byte a b apart = by_tells (eqb_tells a b)
+  where
+    by_tells : ((a == b) ≡ true) × (a ≡ b) ⊎ ((a == b) ≡ false) × (a ≡ b → ⊥) → (a == b) ≡ false
+    by_tells (inl same) = absurd (apart same.1)
+    by_tells (inr other) = other.0
+
+-- the bytes before a place, the byte there and the bytes behind it
+pub split_at : (bytes : List ℕ) (i : ℕ) → i < length bytes → take i bytes ++ (get_or bytes i 0 ∷ drop (i + 1) bytes) ≡ bytes
+split_at bytes i inside = ap (λ (l : List ℕ). take i bytes ++ l) (sym (drop_more bytes i 0 inside)) ∙ take-append-drop i bytes
+
+-- one turn of the loop over bytes
+pub goes_more : (a b c : Line) (r s t : Store) (bytes : List ℕ) (i byte : ℕ) (o p q : List Event) → i < length bytes → byte ≡ get_or bytes i 0 → Goes a r b s (take i bytes) o p → Goes b s c t (byte ∷ []) p q → Goes a r c t (take (i + 1) bytes) o q
+goes_more a b c r s t bytes i byte o p q inside is h k =
+    subst (λ l. Goes a r c t l o q) (ap (λ x. take i bytes ++ x ∷ []) is ∙ sym (take_more bytes i 0 inside)) (goes_then a b c r s t (take i bytes) (byte ∷ []) o p q h k)
+
+pub goes_all : (a b : Line) (r s : Store) (bytes : List ℕ) (i : ℕ) (o p : List Event) → length bytes ≤ i → Goes a r b s (take i bytes) o p → Goes a r b s bytes o p
+goes_all a b r s bytes i o p over h = subst (λ l. Goes a r b s l o p) (take_all i bytes over) h
+
+pub stops_more : (status : Status) (a b : Line) (r s : Store) (bytes : List ℕ) (i byte : ℕ) (o p q : List Event) → i < length bytes → byte ≡ get_or bytes i 0 → Goes a r b s (take i bytes) o p
+    → ((more : List ℕ) → Stops status b s (byte ∷ more) p q) → Stops status a r bytes o q
+stops_more status a b r s bytes i byte o p q inside is h k =
+    subst (λ l. Stops status a r l o q) (ap (λ x. take i bytes ++ (x ∷ drop (i + 1) bytes)) is ∙ split_at bytes i inside) (goes_stops status a b r s (take i bytes) (byte ∷ drop (i + 1) bytes) o p q h (k (drop (i + 1) bytes)))
+
+pub going_as : (line : Line) (store : Store) (w : Accounts) (input left left2 : List ℕ) (base m m2 : List Event) → left ≡ left2 → m ≡ m2 → Going line store w input base left m → Going line store w input base left2 m2
+going_as line store w input left left2 base m m2 is same g = subst (λ l. Going line store w input base l m2) is (subst (λ p. Going line store w input base left p) same g)
+
+one_byte : (n : ℕ) (buffer : List ℕ) → n ≤ 1 → 0 < n → 0 < length buffer → take n buffer ≡ get_or buffer 0 0 ∷ []
+one_byte n [] small some held = absurd (omega arith)
+one_byte n (b ∷ buffer) small some held = ap (λ k. take k (b ∷ buffer)) (let is : n ≡ 1 = omega arith in is)
+
+-- all bytes up to the bound were taken, and one more
+pub bound_ends : (line : Line) (store : Store) (w : Accounts) (input left left2 buffer : List ℕ) (base o : List Event) (n : ℕ) → Going line store w input base left o → length input ≡ 2 ^ 40 + length left → left ≡ take n buffer ++ left2
+    → n ≤ 1 → 0 < n → 0 < length buffer → Ends InputBound w input left2 base o
+bound_ends line store w input left left2 buffer base o n g long is small some held = record {
+  leaves = (
+    g.said.accounts,
+    g.taken,
+    get_or buffer 0 0,
+    omega (arith, long, ap length g.input_is, length-append g.taken left),
+    g.input_is ∙ ap (λ l. g.taken ++ l) (is ∙ ap (λ l. l ++ left2) (one_byte n buffer small some held)),
+    record { whole = g.whole; unfinished = g.pending; lines_are = g.lines_are; served = g.said.served },
+    on_stands o store g.said.accounts g.said.on g.said.stands,
+  );
+  survives = going_survives line store w input left base o g;
+}
+
+finished_begun : (w v : Accounts) (input taken rest base o : List ℕ) → input ≡ taken ++ rest → Finished w taken base o v → Begun w (commands input) base o
+finished_begun w v input taken rest base o is f =
+    subst (λ cs. Begun w cs base o) (sym (commands_of input taken rest f.whole f.unfinished is f.lines_are)) (begun_more w (commands_among f.whole) (commands_among (onto f.unfinished rest)) base o (begun_all w v (commands_among f.whole) base o f.served))
+
+-- under every status the run has begun
+pub ends_begin : (s : Status) (w : Accounts) (input left : List ℕ) (base o : List Event) → Leaves s w input left base o → Begun w (commands input) (output base) (output o)
+ends_begin Done w input left base o e = begun_all w e.0 (commands input) (output base) (output o) e.3
+ends_begin Usage w input left base o e = absurd e
+ends_begin ReadFault w input left base o e = finished_begun w e.0 input e.1 left (output base) (output o) e.2 e.3
+ends_begin WriteFault w input left base o e = begun_broken w e.0 (commands input) (output base) (output o) e.1
+ends_begin DiskFault w input left base o e = begun_some w e.0 (commands input) (output base) (output o) e.1
+ends_begin Memory w input left base o e = begun_some w e.0 (commands input) (output base) (output o) e.1
+ends_begin BadStore w input left base o e = absurd e
+ends_begin InputBound w input left base o e = finished_begun w e.0 input e.1 (e.2 ∷ left) (output base) (output o) e.4 e.5
+
+-- the cause of a stop is that of the status
+pub stop_cause : (s : Status) (i j o p d e : ℕ) → StopCause s o p d e → HasCause s i j o p d e
+stop_cause Done i j o p d e h = absurd h
+stop_cause Usage i j o p d e h = absurd h
+stop_cause ReadFault i j o p d e h = absurd h
+stop_cause WriteFault i j o p d e h = h
+stop_cause DiskFault i j o p d e h = h
+stop_cause Memory i j o p d e h = h
+stop_cause BadStore i j o p d e h = absurd h
+stop_cause InputBound i j o p d e h = absurd h
