@@ -7,3 +7,4 @@ mod KeyOrder
 mod FromRows
 mod ToRows
 mod SoundRows
+mod OneByOne

@@ -1,6 +1,7 @@
 //! Accounts that are kept as registers.
 #![tactic(auto)]
 
+mod folding;
 mod laws;
 mod registers;
 mod row;
@@ -8,6 +9,7 @@ mod sound;
 mod stops;
 mod world;
 
+pub use folding::fold_records;
 pub use laws::{one_map, one_size, one_state};
 pub use registers::{MapRegisters, Registers};
 pub use row::Row;
