@@ -1,4 +1,6 @@
 pub mod Registers
+pub mod Places
+pub mod Layers
 pub mod Accounts
 pub mod Worlds
 pub mod Rows

@@ -3,14 +3,16 @@
 
 mod folding;
 mod laws;
+mod overlay;
 mod registers;
 mod row;
 mod sound;
+mod spelling;
 mod stops;
 mod world;
 
 pub use folding::fold_records;
-pub use laws::{one_map, one_size, one_state};
+pub use laws::{none_at_first, one_map, one_size, one_state};
 pub use registers::{MapRegisters, Registers};
 pub use row::Row;
 pub use sound::is_sound;

@@ -5,7 +5,7 @@ use Rattle.cad_host.specs.declared.host.Tape.TheVariants.{A, B, Pick}
 use Rattle.cad_host.specs.Disk.{Event, wrote, synced, state, reads, same_tape, IsImage, IsDisk, IsClean}
 use Rattle.cad_wire.specs.Fields.{number_field}
 use Rattle.cad_tape.specs.Framing.{framing, spelled, framed}
-use Rattle.cad_tape.specs.Reading.{chosen, reading, stored, or_none, IsReady, IsFree, pick_of, Leaves}
+use Rattle.cad_tape.specs.Reading.{chosen, reading, stored, or_none, IsPlaced, IsFree, IsQuiet, pick_of, Leaves}
 use Rattle.cad_tape.proofs.Read.{read_spelled, chosen_other}
 use Rattle.cad_tape.proofs.Four.{Steps}
 use Rattle.cad_host.proofs.Images.{clean_only, state_wrote, state_synced, other_wrote, other_synced, clean_synced}
@@ -109,49 +109,23 @@ module _ (m0 : List Event) (onto : Tape) (body : List ℕ) (free : IsFree m0 ont
   onto4 : state onto m4 ≡ state onto m2
   onto4 = other_synced onto Pick m3 pick_onto ∙ onto3
 
-  -- what is read of a disk where the tape in use is as it was
-  of_used : (m : List Event) (disk : Tape → List ℕ) → state used m ≡ state used m0 → IsDisk m disk → framing (disk used) ≡ Some bodies
-  of_used m disk same left = ap framing (clean_only (state used m0) (disk used) free.clean (subst (λ s. IsImage s (disk used)) same (left used))) ∙ free.whole
-
   of_onto : (m : List Event) (disk : Tape → List ℕ) → state onto m ≡ state onto m2 → IsDisk m disk → framing (disk onto) ≡ Some (body ∷ [])
   of_onto m disk same left = ap framing (clean_only (state onto m2) (disk onto) (clean_synced onto m1) (subst (λ s. IsImage s (disk onto)) same (left onto)) ∙ onto2) ∙ reads_new
 
-  before_pick : (m : List Event) (disk : Tape → List ℕ) → state Pick m ≡ state Pick m0 → state used m ≡ state used m0 → IsDisk m disk → reading disk ≡ Some bodies
-  before_pick m disk pick same left =
-      let is : disk Pick ≡ reads m0 Pick = clean_only (state Pick m0) (disk Pick) free.clean_pick (subst (λ s. IsImage s (disk Pick)) pick (left Pick)) in
-      ap (λ (l : List ℕ). framing (disk (chosen l))) is ∙ of_used m disk same left
-
-  pub steps : Steps m0 bodies (body ∷ []) onto 0 bytes Pick 0 (pick_of onto ∷ [])
-  steps = record {
-    s0 = record { output = refl; disk = λ disk left. inl (before_pick m0 disk refl refl left) };
-    s1 = record { output = refl; disk = λ disk left. inl (before_pick m1 disk pick1 used1 left) };
-    s2 = record { output = refl; disk = λ disk left. inl (before_pick m2 disk pick2 used2 left) };
-    s3 = record {
-      output = refl;
-      disk = λ disk left. ⊎_elim
-          (λ is. inl (ap (λ t. framing (disk t)) is ∙ of_used m3 disk used3 left))
-          (λ is. inr (ap (λ t. framing (disk t)) is ∙ of_onto m3 disk onto3 left))
-          (either (chosen (disk Pick)) used onto used_pick free.not_pick free.not_used (chosen_other (disk Pick)));
-    };
-    s4 = record {
-      output = refl;
-      disk = λ disk left.
-          let is : disk Pick ≡ reads m4 Pick = clean_only (state Pick m4) (disk Pick) (clean_synced Pick m3) (left Pick) in
-          inr (ap (λ (l : List ℕ). framing (disk (chosen l))) is ∙ ap (λ t. framing (disk t)) (pick_chooses onto (drop (0 + 1) (reads m2 Pick)) free.not_pick) ∙ of_onto m4 disk onto4 left);
-    };
-  }
+  used4 : chosen (reads m4 Pick) ≡ onto
+  used4 = pick_chooses onto (drop (0 + 1) (reads m2 Pick)) free.not_pick
 
   stored4 : stored m4 ≡ body ∷ []
-  stored4 = ap or_none (ap (λ t. framing (reads m4 t)) (pick_chooses onto (drop (0 + 1) (reads m2 Pick)) free.not_pick) ∙ ap framing (ap (λ s. s.reads) onto4 ∙ onto2) ∙ reads_new)
+  stored4 = ap or_none (ap (λ t. framing (reads m4 t)) used4 ∙ ap framing (ap (λ s. s.reads) onto4 ∙ onto2) ∙ reads_new)
 
-  pub ready_at : (next : ℕ) (bytes1 : List ℕ) (t new : List Event) → next ≡ length bytes1 - 1 → bytes1 ≡ bytes → t ≡ m1 → new ≡ m4 → length (reads t onto) < 2 ^ 64
-      → IsReady new onto next × (stored new ≡ body ∷ [])
-  ready_at next bytes1 t new is form is1 is4 fits =
+  pub placed_at : (next : ℕ) (bytes1 : List ℕ) (t new : List Event) → next ≡ length bytes1 - 1 → bytes1 ≡ bytes → t ≡ m1 → new ≡ m4 → length (reads t onto) < 2 ^ 64
+      → IsPlaced new onto next × (stored new ≡ body ∷ [])
+  placed_at next bytes1 t new is form is1 is4 fits =
       let fits1 : length (reads m1 onto) < 2 ^ 64 = subst (λ m. length (reads m onto) < 2 ^ 64) is1 fits in
       let place : next ≡ length (spelled (body ∷ [])) = omega (arith, is, ap length form, length-append body (0 ∷ []), length-append body []) in
-      subst (λ m. IsReady m onto next × (stored m ≡ body ∷ [])) (sym is4) (
+      subst (λ m. IsPlaced m onto next × (stored m ≡ body ∷ [])) (sym is4) (
         record {
-          used = pick_chooses onto (drop (0 + 1) (reads m2 Pick)) free.not_pick;
+          used = used4;
           ends = record {
             gate = 0;
             rest = stale;
@@ -160,8 +134,40 @@ module _ (m0 : List Event) (onto : Tape) (body : List ℕ) (free : IsFree m0 ont
             place = place ∙ ap (λ bs. length (spelled bs)) (sym stored4);
           };
           fits = subst (λ (l : List ℕ). length l < 2 ^ 64) (sym (ap (λ s. s.reads) (state_synced onto m1)) ∙ sym (ap (λ s. s.reads) onto4)) fits1;
-          clean = subst IsClean (sym onto4) (clean_synced onto m1);
-          clean_pick = clean_synced Pick m3;
         },
         stored4,
       )
+
+  pub quiet_at : (new : List Event) → new ≡ m4 → IsQuiet new
+  quiet_at new is = subst IsQuiet (sym is) (record { clean = subst (λ t. IsClean (state t m4)) (sym used4) (subst IsClean (sym onto4) (clean_synced onto m1)); clean_pick = clean_synced Pick m3 })
+
+  -- where nothing was pending
+  module _ (quiet : IsQuiet m0) where
+    -- what is read of a disk where the tape in use is as it was
+    of_used : (m : List Event) (disk : Tape → List ℕ) → state used m ≡ state used m0 → IsDisk m disk → framing (disk used) ≡ Some bodies
+    of_used m disk same left = ap framing (clean_only (state used m0) (disk used) quiet.clean (subst (λ s. IsImage s (disk used)) same (left used))) ∙ free.whole
+
+    before_pick : (m : List Event) (disk : Tape → List ℕ) → state Pick m ≡ state Pick m0 → state used m ≡ state used m0 → IsDisk m disk → reading disk ≡ Some bodies
+    before_pick m disk pick same left =
+        let is : disk Pick ≡ reads m0 Pick = clean_only (state Pick m0) (disk Pick) quiet.clean_pick (subst (λ s. IsImage s (disk Pick)) pick (left Pick)) in
+        ap (λ (l : List ℕ). framing (disk (chosen l))) is ∙ of_used m disk same left
+
+    pub steps : Steps m0 bodies (body ∷ []) onto 0 bytes Pick 0 (pick_of onto ∷ [])
+    steps = record {
+      s0 = record { output = refl; disk = λ disk left. inl (before_pick m0 disk refl refl left) };
+      s1 = record { output = refl; disk = λ disk left. inl (before_pick m1 disk pick1 used1 left) };
+      s2 = record { output = refl; disk = λ disk left. inl (before_pick m2 disk pick2 used2 left) };
+      s3 = record {
+        output = refl;
+        disk = λ disk left. ⊎_elim
+            (λ is. inl (ap (λ t. framing (disk t)) is ∙ of_used m3 disk used3 left))
+            (λ is. inr (ap (λ t. framing (disk t)) is ∙ of_onto m3 disk onto3 left))
+            (either (chosen (disk Pick)) used onto used_pick free.not_pick free.not_used (chosen_other (disk Pick)));
+      };
+      s4 = record {
+        output = refl;
+        disk = λ disk left.
+            let is : disk Pick ≡ reads m4 Pick = clean_only (state Pick m4) (disk Pick) (clean_synced Pick m3) (left Pick) in
+            inr (ap (λ (l : List ℕ). framing (disk (chosen l))) is ∙ ap (λ t. framing (disk t)) used4 ∙ of_onto m4 disk onto4 left);
+      };
+    }

@@ -8,7 +8,7 @@ use Rattle.std.proofs.lemmas.List.{get_or-drop, get_or-take, get_or_past}
 use Rattle.std.proofs.lemmas.List.Elements.{All-from_recursion}
 use Rattle.cad_host.specs.declared.host.Tape.{Tape}
 use Rattle.cad_host.specs.declared.host.Tape.TheVariants.{Pick}
-use Rattle.cad_host.specs.Disk.{Event, state, reads, same_tape, IsClean}
+use Rattle.cad_host.specs.Disk.{Event, reads, same_tape}
 use Rattle.cad_wire.specs.declared.entry.Entry.{Entry}
 use Rattle.cad_wire.specs.Fields.{◌>>=◌, number_field, number_at, AreBytes}
 use Rattle.cad_wire.specs.Body.{body_bytes, IsRecord}
@@ -16,36 +16,32 @@ use Rattle.cad_wire.specs.Reading.{entries_of}
 use Rattle.cad_wire.proofs.FieldLaws.{AreBytes-tail, bind_some, guard_some, some_is, number_takes}
 use Rattle.cad_wire.proofs.BodyLaws.{All-by_recursion, body_takes, body_again}
 use Rattle.cad_tape.specs.Framing.{body_at, bodies_in, framing, spelled, Ends}
-use Rattle.cad_tape.specs.Reading.{records_of, tape_reading, chosen, reading, stored, or_none, IsReady, IsFree}
+use Rattle.cad_tape.specs.Reading.{records_of, tape_reading, chosen, reading, stored, or_none, IsPlaced, IsFree}
 use Rattle.cad_tape.proofs.Read.{AreShort, short_of, read_spelled}
 
 -- ---- where a run can begin
 
-pub ready_of : (m : List Event) (at : ℕ) → Ends (reads m (chosen (reads m Pick))) (stored m) at → length (reads m (chosen (reads m Pick))) < 2 ^ 64 → IsClean (state (chosen (reads m Pick)) m) → IsClean (state Pick m)
-    → IsReady m (chosen (reads m Pick)) at
-ready_of m at ends fits clean clean_pick = record { used = refl; ends = ends; fits = fits; clean = clean; clean_pick = clean_pick }
+pub placed_of : (m : List Event) (at : ℕ) → Ends (reads m (chosen (reads m Pick))) (stored m) at → length (reads m (chosen (reads m Pick))) < 2 ^ 64 → IsPlaced m (chosen (reads m Pick)) at
+placed_of m at ends fits = record { used = refl; ends = ends; fits = fits }
 
 empty : (bytes : List ℕ) → length bytes ≡ 0 → framing bytes ≡ Some []
 unfolding framing
 empty [] none = refl
 empty (x ∷ bytes) none = absurd (omega arith)
 
-pub free_of_empty : (m : List Event) (onto : Tape) → length (reads m (chosen (reads m Pick))) ≡ 0 → same_tape onto (chosen (reads m Pick)) ≡ false → same_tape onto Pick ≡ false → IsClean (state (chosen (reads m Pick)) m) → IsClean (state Pick m)
-    → IsFree m onto × (stored m ≡ [])
-free_of_empty m onto none not_used not_pick clean clean_pick =
+pub free_of_empty : (m : List Event) (onto : Tape) → length (reads m (chosen (reads m Pick))) ≡ 0 → same_tape onto (chosen (reads m Pick)) ≡ false → same_tape onto Pick ≡ false → IsFree m onto × (stored m ≡ [])
+free_of_empty m onto none not_used not_pick =
     let reads_none : reading (reads m) ≡ Some [] = empty (reads m (chosen (reads m Pick))) none in
     let stores : stored m ≡ [] = ap or_none reads_none in
-    (record { not_used = not_used; not_pick = not_pick; whole = reads_none ∙ ap (λ (bs : List (List ℕ)). Some bs) (sym stores); clean = clean; clean_pick = clean_pick }, stores)
+    (record { not_used = not_used; not_pick = not_pick; whole = reads_none ∙ ap (λ (bs : List (List ℕ)). Some bs) (sym stores) }, stores)
 
-pub free_of_ready : (m : List Event) (tape onto : Tape) (at : ℕ) → IsReady m tape at → same_tape onto tape ≡ false → same_tape onto Pick ≡ false → IsFree m onto
-free_of_ready m tape onto at ready not_used not_pick =
-    let short : AreShort (stored m) = short_of (stored m) (omega (arith, ap length ready.ends.is, length-append (spelled (stored m)) (ready.ends.gate ∷ ready.ends.rest), ready.fits)) in
+pub free_of_placed : (m : List Event) (tape onto : Tape) (at : ℕ) → IsPlaced m tape at → same_tape onto tape ≡ false → same_tape onto Pick ≡ false → IsFree m onto
+free_of_placed m tape onto at placed not_used not_pick =
+    let short : AreShort (stored m) = short_of (stored m) (omega (arith, ap length placed.ends.is, length-append (spelled (stored m)) (placed.ends.gate ∷ placed.ends.rest), placed.fits)) in
     record {
-      not_used = subst (λ t. same_tape onto t ≡ false) (sym ready.used) not_used;
+      not_used = subst (λ t. same_tape onto t ≡ false) (sym placed.used) not_used;
       not_pick = not_pick;
-      whole = ap (λ t. framing (reads m t)) ready.used ∙ ap framing ready.ends.is ∙ read_spelled (stored m) ready.ends.gate ready.ends.rest short ready.ends.closed;
-      clean = subst (λ t. IsClean (state t m)) (sym ready.used) ready.clean;
-      clean_pick = ready.clean_pick;
+      whole = ap (λ t. framing (reads m t)) placed.used ∙ ap framing placed.ends.is ∙ read_spelled (stored m) placed.ends.gate placed.ends.rest short placed.ends.closed;
     }
 
 -- ---- both ways

@@ -7,7 +7,7 @@ use Rattle.cad_host.specs.declared.host.Tape.TheVariants.{Pick}
 use Rattle.cad_host.specs.Disk.{Event, wrote, synced, state, reads, same_tape, overwritten, Outside, IsImage, IsDisk, IsClean}
 use Rattle.cad_wire.specs.Fields.{number_field}
 use Rattle.cad_tape.specs.Framing.{framing, spelled, framed}
-use Rattle.cad_tape.specs.Reading.{chosen, reading, stored, or_none, IsReady, Leaves}
+use Rattle.cad_tape.specs.Reading.{chosen, reading, stored, or_none, IsPlaced, IsQuiet, Leaves}
 use Rattle.cad_host.proofs.Lists.{same_front, same_back, parts, drop_past}
 use Rattle.cad_tape.proofs.Read.{AreShort, short_of, short_push, read_spelled, spelled-push, chosen_other}
 use Rattle.cad_tape.proofs.Four.{Steps}
@@ -24,7 +24,7 @@ over_middle front middle bytes back at place long =
 pub short_body : (body bytes : List ℕ) → bytes ≡ framed body → length bytes < 2 ^ 64 → length body < 2 ^ 64
 short_body body bytes form lt = omega (arith, ap length form, length-append body (0 ∷ []))
 
-module _ (m0 : List Event) (tape : Tape) (at : ℕ) (body : List ℕ) (ready : IsReady m0 tape at) (short : length body < 2 ^ 64) where
+module _ (m0 : List Event) (tape : Tape) (at : ℕ) (body : List ℕ) (placed : IsPlaced m0 tape at) (short : length body < 2 ^ 64) where
   abbrev bytes : List ℕ
   bytes = framed body
 
@@ -47,10 +47,10 @@ module _ (m0 : List Event) (tape : Tape) (at : ℕ) (body : List ℕ) (ready : I
   front = spelled bodies
 
   abbrev gate : ℕ
-  gate = ready.ends.gate
+  gate = placed.ends.gate
 
   abbrev rest : List ℕ
-  rest = ready.ends.rest
+  rest = placed.ends.rest
 
   -- what stands behind the gate after the first write
   abbrev tail : List ℕ
@@ -60,16 +60,16 @@ module _ (m0 : List Event) (tape : Tape) (at : ℕ) (body : List ℕ) (ready : I
   P = Leaves m0 bodies (bodies ++ body ∷ [])
 
   place : length front ≡ at
-  place = sym ready.ends.place
+  place = sym placed.ends.place
 
   r0 : reads m0 tape ≡ front ++ gate ∷ rest
-  r0 = ready.ends.is
+  r0 = placed.ends.is
 
   all_short : AreShort bodies
-  all_short = short_of bodies (omega (arith, ap length r0, length-append front (gate ∷ rest), ready.fits))
+  all_short = short_of bodies (omega (arith, ap length r0, length-append front (gate ∷ rest), placed.fits))
 
   not_pick : same_tape tape Pick ≡ false
-  not_pick = subst (λ t. same_tape t Pick ≡ false) ready.used (chosen_other (reads m0 Pick))
+  not_pick = subst (λ t. same_tape t Pick ≡ false) placed.used (chosen_other (reads m0 Pick))
 
   -- the pick byte stays
   pick1 : state Pick m1 ≡ state Pick m0
@@ -83,11 +83,6 @@ module _ (m0 : List Event) (tape : Tape) (at : ℕ) (body : List ℕ) (ready : I
 
   pick4 : state Pick m4 ≡ state Pick m0
   pick4 = other_synced Pick tape m3 not_pick ∙ pick3
-
-  reads_by : (m : List Event) (disk : Tape → List ℕ) → state Pick m ≡ state Pick m0 → IsDisk m disk → reading disk ≡ framing (disk tape)
-  reads_by m disk pick left =
-      let same : disk Pick ≡ reads m0 Pick = clean_only (state Pick m0) (disk Pick) ready.clean_pick (subst (λ s. IsImage s (disk Pick)) pick (left Pick)) in
-      ap (λ (l : List ℕ). framing (disk (chosen l))) same ∙ ap (λ t. framing (disk t)) ready.used
 
   -- what the tape reads after each
   r1 : reads m1 tape ≡ front ++ gate ∷ tail
@@ -129,76 +124,19 @@ module _ (m0 : List Event) (tape : Tape) (at : ℕ) (body : List ℕ) (ready : I
   reads_opened = ap framing opened ∙ read_spelled (bodies ++ body ∷ []) 0 (drop (length bytes) rest) (short_push bodies body all_short short) (λ is. omega (arith, is))
 
   reads_closed : (behind : List ℕ) → framing (front ++ gate ∷ behind) ≡ Some bodies
-  reads_closed behind = read_spelled bodies gate behind all_short ready.ends.closed
-
-  -- before the first call
-  pub settled : (disk : Tape → List ℕ) → IsDisk m0 disk → reading disk ≡ Some bodies
-  settled disk left = reads_by m0 disk refl left ∙ ap framing (clean_only (state tape m0) (disk tape) ready.clean (left tape) ∙ r0) ∙ reads_closed rest
-
-  p0 : P m0
-  p0 = record { output = refl; disk = λ disk left. inl (settled disk left) }
-
-  -- the closed gate stands in each image of the first write
-  first : (c : List ℕ) → IsImage (state tape m1) c → framing c ≡ Some bodies
-  first c image =
-      let now : IsImage (record { reads = overwritten (reads m0 tape) (at + 1) bytes; settled = (state tape m0).settled; loose = (at + 1, length bytes) ∷ (state tape m0).loose }) c =
-      subst (λ s. IsImage s c) (state_wrote tape (at + 1) bytes m0) image in
-      let r1_is : overwritten (reads m0 tape) (at + 1) bytes ≡ front ++ gate ∷ tail = sym (ap (λ s. s.reads) (state_wrote tape (at + 1) bytes m0)) ∙ r1 in
-      let long : length (reads m0 tape) ≡ at + 1 + length rest = omega (arith, ap length r0, length-append front (gate ∷ rest), place) in
-      let long1 : length (overwritten (reads m0 tape) (at + 1) bytes) ≡ at + 1 + length tail = omega (arith, ap length r1_is, length-append front (gate ∷ tail), place) in
-      let kept : take (at + 1) c ≡ take (at + 1) (overwritten (reads m0 tape) (at + 1) bytes) =
-      same_front (at + 1) c (overwritten (reads m0 tape) (at + 1) bytes) (omega (arith, now.no_shorter, ready.clean.settled, long)) (omega (arith, long1))
-      (λ i below. now.same i (omega (arith, ready.clean.settled, long, below)) (inl below, subst (λ (l : List (ℕ × ℕ)). Outside l i) (sym ready.clean.loose) tt)) in
-      let front_is : take (at + 1) c ≡ front ++ gate ∷ [] =
-      kept ∙ ap (take (at + 1)) (r1_is ∙ sym (append_assoc front (gate ∷ []) tail)) ∙ take_at (front ++ gate ∷ []) tail (at + 1) (omega (arith, length-append front (gate ∷ []), place)) in
-      let c_is : c ≡ front ++ gate ∷ drop (at + 1) c =
-      sym (take-append-drop (at + 1) c) ∙ ap (λ (l : List ℕ). l ++ drop (at + 1) c) front_is ∙ append_assoc front (gate ∷ []) (drop (at + 1) c) in
-      ap framing c_is ∙ reads_closed (drop (at + 1) c)
-
-  pub p1 : P m1
-  p1 = record { output = refl; disk = λ disk left. inl (reads_by m1 disk pick1 left ∙ first (disk tape) (left tape)) }
-
-  pub p2 : P m2
-  p2 = record { output = refl; disk = λ disk left. inl (reads_by m2 disk pick2 left ∙ ap framing (clean_only (state tape m2) (disk tape) (clean_synced tape m1) (left tape) ∙ r2) ∙ reads_closed tail) }
-
-  -- the record stands whole in each image of the second write, behind some gate
-  second : (c : List ℕ) → IsImage (state tape m3) c → (framing c ≡ Some bodies) ⊎ (framing c ≡ Some (bodies ++ body ∷ []))
-  second c image =
-      let over = overwritten (reads m2 tape) at (1 ∷ []) in
-      let now : IsImage (record { reads = over; settled = (state tape m2).settled; loose = (at, 1) ∷ (state tape m2).loose }) c =
-      subst (λ s. IsImage s c) (state_wrote tape at (1 ∷ []) m2) image in
-      let over_is : over ≡ front ++ 1 ∷ tail = sym (ap (λ s. s.reads) (state_wrote tape at (1 ∷ []) m2)) ∙ r3 in
-      let clean = clean_synced tape m1 in
-      let long2 : length (reads m2 tape) ≡ at + 1 + length tail = omega (arith, ap length r2, length-append front (gate ∷ tail), place) in
-      let long3 : length over ≡ at + 1 + length tail = omega (arith, ap length over_is, length-append front (1 ∷ tail), place) in
-      let long : length c ≡ at + 1 + length tail = omega (arith, now.no_shorter, now.no_longer, clean.settled, long2, long3) in
-      let outside : (i : ℕ) → Outside (state tape m2).loose i = λ i. subst (λ (l : List (ℕ × ℕ)). Outside l i) (sym clean.loose) tt in
-      let front_is : take at c ≡ front =
-      same_front at c over (omega (arith, long)) (omega (arith, long3)) (λ i below. now.same i (omega (arith, clean.settled, long2, below)) (inl below, outside i))
-      ∙ ap (take at) over_is ∙ take_at front (1 ∷ tail) at place in
-      let tail_is : drop (at + 1) c ≡ tail =
-      same_back (at + 1) c over (omega (arith, long, long3)) (λ i from below. now.same i (omega (arith, clean.settled, long2, long3, below)) (inr from, outside i))
-      ∙ ap (drop (at + 1)) (over_is ∙ sym (append_assoc front (1 ∷ []) tail)) ∙ drop_at (front ++ 1 ∷ []) tail (at + 1) (omega (arith, length-append front (1 ∷ []), place)) in
-      let whole : c ≡ front ++ get_or c at 0 ∷ tail = parts at c front tail (omega (arith, long)) front_is tail_is in
-      ⊎_elim
-      (λ is. inr (ap framing (whole ∙ ap (λ g. front ++ g ∷ tail) is) ∙ reads_opened))
-      (λ shut. inl (ap framing whole ∙ read_spelled bodies (get_or c at 0) tail all_short shut))
-      (cases_eq (get_or c at 0) 1)
-
-  pub p3 : P m3
-  p3 = record { output = refl; disk = λ disk left. ⊎_elim (λ is. inl (reads_by m3 disk pick3 left ∙ is)) (λ is. inr (reads_by m3 disk pick3 left ∙ is)) (second (disk tape) (left tape)) }
-
-  pub p4 : P m4
-  p4 = record { output = refl; disk = λ disk left. inr (reads_by m4 disk pick4 left ∙ ap framing (clean_only (state tape m4) (disk tape) (clean_synced tape m3) (left tape) ∙ r4) ∙ reads_opened) }
+  reads_closed behind = read_spelled bodies gate behind all_short placed.ends.closed
 
   stored4 : stored m4 ≡ bodies ++ body ∷ []
-  stored4 = ap or_none (ap (λ (l : List ℕ). framing (reads m4 (chosen l))) (ap (λ s. s.reads) pick4) ∙ ap (λ t. framing (reads m4 t)) ready.used ∙ ap framing r4 ∙ reads_opened)
+  stored4 = ap or_none (ap (λ (l : List ℕ). framing (reads m4 (chosen l))) (ap (λ s. s.reads) pick4) ∙ ap (λ t. framing (reads m4 t)) placed.used ∙ ap framing r4 ∙ reads_opened)
+
+  used4 : chosen (reads m4 Pick) ≡ tape
+  used4 = ap chosen (ap (λ s. s.reads) pick4) ∙ placed.used
 
   -- the next gate
-  pub ready4 : (next : ℕ) → next ≡ at + length bytes → length (reads m3 tape) < 2 ^ 64 → IsReady m4 tape next × (stored m4 ≡ bodies ++ body ∷ [])
-  ready4 next is fits = (
+  placed4 : (next : ℕ) → next ≡ at + length bytes → length (reads m3 tape) < 2 ^ 64 → IsPlaced m4 tape next × (stored m4 ≡ bodies ++ body ∷ [])
+  placed4 next is fits = (
     record {
-      used = ap chosen (ap (λ s. s.reads) pick4) ∙ ready.used;
+      used = used4;
       ends = record {
         gate = 0;
         rest = drop (length bytes) rest;
@@ -207,8 +145,6 @@ module _ (m0 : List Event) (tape : Tape) (at : ℕ) (body : List ℕ) (ready : I
         place = is ∙ next_place ∙ ap (λ bs. length (spelled bs)) (sym stored4);
       };
       fits = subst (λ (l : List ℕ). length l < 2 ^ 64) (r3 ∙ sym r4) fits;
-      clean = clean_synced tape m3;
-      clean_pick = subst IsClean (sym pick4) ready.clean_pick;
     },
     stored4,
   )
@@ -223,12 +159,85 @@ module _ (m0 : List Event) (tape : Tape) (at : ℕ) (body : List ℕ) (ready : I
   pub inside : at + 1 ≤ length (reads m0 tape)
   inside = omega (arith, ap length r0, length-append front (gate ∷ rest), place)
 
-  pub ready_at : (next : ℕ) (bytes1 : List ℕ) (t new : List Event) → bytes1 ≡ framed body → next ≡ min (at + length bytes1) (2 ^ 64 - 1) → t ≡ m3 → new ≡ m4 → length (reads t tape) < 2 ^ 64
-      → IsReady new tape next × (stored new ≡ stored m0 ++ body ∷ [])
-  ready_at next bytes1 t new form is is3 is4 fits =
+  pub placed_at : (next : ℕ) (bytes1 : List ℕ) (t new : List Event) → bytes1 ≡ framed body → next ≡ min (at + length bytes1) (2 ^ 64 - 1) → t ≡ m3 → new ≡ m4 → length (reads t tape) < 2 ^ 64
+      → IsPlaced new tape next × (stored new ≡ stored m0 ++ body ∷ [])
+  placed_at next bytes1 t new form is is3 is4 fits =
       let fits3 : length (reads m3 tape) < 2 ^ 64 = subst (λ m. length (reads m tape) < 2 ^ 64) is3 fits in
       let place3 : next ≡ at + length (framed body) = omega (arith, is, ap length form, fits3, length3) in
-      subst (λ m. IsReady m tape next × (stored m ≡ stored m0 ++ body ∷ [])) (sym is4) (ready4 next place3 fits3)
+      subst (λ m. IsPlaced m tape next × (stored m ≡ stored m0 ++ body ∷ [])) (sym is4) (placed4 next place3 fits3)
 
-  pub steps : Steps m0 bodies (bodies ++ body ∷ []) tape (at + 1) (framed body) tape at (1 ∷ [])
-  steps = record { s0 = p0; s1 = p1; s2 = p2; s3 = p3; s4 = p4 }
+  -- where nothing was pending
+  module _ (quiet : IsQuiet m0) where
+    tape_clean : IsClean (state tape m0)
+    tape_clean = subst (λ t. IsClean (state t m0)) placed.used quiet.clean
+
+    pub quiet_at : (new : List Event) → new ≡ m4 → IsQuiet new
+    quiet_at new is = subst IsQuiet (sym is) (record { clean = subst (λ t. IsClean (state t m4)) (sym used4) (clean_synced tape m3); clean_pick = subst IsClean (sym pick4) quiet.clean_pick })
+
+    reads_by : (m : List Event) (disk : Tape → List ℕ) → state Pick m ≡ state Pick m0 → IsDisk m disk → reading disk ≡ framing (disk tape)
+    reads_by m disk pick left =
+        let same : disk Pick ≡ reads m0 Pick = clean_only (state Pick m0) (disk Pick) quiet.clean_pick (subst (λ s. IsImage s (disk Pick)) pick (left Pick)) in
+        ap (λ (l : List ℕ). framing (disk (chosen l))) same ∙ ap (λ t. framing (disk t)) placed.used
+
+    -- before the first call
+    settled : (disk : Tape → List ℕ) → IsDisk m0 disk → reading disk ≡ Some bodies
+    settled disk left = reads_by m0 disk refl left ∙ ap framing (clean_only (state tape m0) (disk tape) tape_clean (left tape) ∙ r0) ∙ reads_closed rest
+
+    p0 : P m0
+    p0 = record { output = refl; disk = λ disk left. inl (settled disk left) }
+
+    -- the closed gate stands in each image of the first write
+    first : (c : List ℕ) → IsImage (state tape m1) c → framing c ≡ Some bodies
+    first c image =
+        let now : IsImage (record { reads = overwritten (reads m0 tape) (at + 1) bytes; settled = (state tape m0).settled; loose = (at + 1, length bytes) ∷ (state tape m0).loose }) c =
+        subst (λ s. IsImage s c) (state_wrote tape (at + 1) bytes m0) image in
+        let r1_is : overwritten (reads m0 tape) (at + 1) bytes ≡ front ++ gate ∷ tail = sym (ap (λ s. s.reads) (state_wrote tape (at + 1) bytes m0)) ∙ r1 in
+        let long : length (reads m0 tape) ≡ at + 1 + length rest = omega (arith, ap length r0, length-append front (gate ∷ rest), place) in
+        let long1 : length (overwritten (reads m0 tape) (at + 1) bytes) ≡ at + 1 + length tail = omega (arith, ap length r1_is, length-append front (gate ∷ tail), place) in
+        let kept : take (at + 1) c ≡ take (at + 1) (overwritten (reads m0 tape) (at + 1) bytes) =
+        same_front (at + 1) c (overwritten (reads m0 tape) (at + 1) bytes) (omega (arith, now.no_shorter, tape_clean.settled, long)) (omega (arith, long1))
+        (λ i below. now.same i (omega (arith, tape_clean.settled, long, below)) (inl below, subst (λ (l : List (ℕ × ℕ)). Outside l i) (sym tape_clean.loose) tt)) in
+        let front_is : take (at + 1) c ≡ front ++ gate ∷ [] =
+        kept ∙ ap (take (at + 1)) (r1_is ∙ sym (append_assoc front (gate ∷ []) tail)) ∙ take_at (front ++ gate ∷ []) tail (at + 1) (omega (arith, length-append front (gate ∷ []), place)) in
+        let c_is : c ≡ front ++ gate ∷ drop (at + 1) c =
+        sym (take-append-drop (at + 1) c) ∙ ap (λ (l : List ℕ). l ++ drop (at + 1) c) front_is ∙ append_assoc front (gate ∷ []) (drop (at + 1) c) in
+        ap framing c_is ∙ reads_closed (drop (at + 1) c)
+
+    p1 : P m1
+    p1 = record { output = refl; disk = λ disk left. inl (reads_by m1 disk pick1 left ∙ first (disk tape) (left tape)) }
+
+    p2 : P m2
+    p2 = record { output = refl; disk = λ disk left. inl (reads_by m2 disk pick2 left ∙ ap framing (clean_only (state tape m2) (disk tape) (clean_synced tape m1) (left tape) ∙ r2) ∙ reads_closed tail) }
+
+    -- the record stands whole in each image of the second write, behind some gate
+    second : (c : List ℕ) → IsImage (state tape m3) c → (framing c ≡ Some bodies) ⊎ (framing c ≡ Some (bodies ++ body ∷ []))
+    second c image =
+        let over = overwritten (reads m2 tape) at (1 ∷ []) in
+        let now : IsImage (record { reads = over; settled = (state tape m2).settled; loose = (at, 1) ∷ (state tape m2).loose }) c =
+        subst (λ s. IsImage s c) (state_wrote tape at (1 ∷ []) m2) image in
+        let over_is : over ≡ front ++ 1 ∷ tail = sym (ap (λ s. s.reads) (state_wrote tape at (1 ∷ []) m2)) ∙ r3 in
+        let clean = clean_synced tape m1 in
+        let long2 : length (reads m2 tape) ≡ at + 1 + length tail = omega (arith, ap length r2, length-append front (gate ∷ tail), place) in
+        let long3 : length over ≡ at + 1 + length tail = omega (arith, ap length over_is, length-append front (1 ∷ tail), place) in
+        let long : length c ≡ at + 1 + length tail = omega (arith, now.no_shorter, now.no_longer, clean.settled, long2, long3) in
+        let outside : (i : ℕ) → Outside (state tape m2).loose i = λ i. subst (λ (l : List (ℕ × ℕ)). Outside l i) (sym clean.loose) tt in
+        let front_is : take at c ≡ front =
+        same_front at c over (omega (arith, long)) (omega (arith, long3)) (λ i below. now.same i (omega (arith, clean.settled, long2, below)) (inl below, outside i))
+        ∙ ap (take at) over_is ∙ take_at front (1 ∷ tail) at place in
+        let tail_is : drop (at + 1) c ≡ tail =
+        same_back (at + 1) c over (omega (arith, long, long3)) (λ i from below. now.same i (omega (arith, clean.settled, long2, long3, below)) (inr from, outside i))
+        ∙ ap (drop (at + 1)) (over_is ∙ sym (append_assoc front (1 ∷ []) tail)) ∙ drop_at (front ++ 1 ∷ []) tail (at + 1) (omega (arith, length-append front (1 ∷ []), place)) in
+        let whole : c ≡ front ++ get_or c at 0 ∷ tail = parts at c front tail (omega (arith, long)) front_is tail_is in
+        ⊎_elim
+        (λ is. inr (ap framing (whole ∙ ap (λ g. front ++ g ∷ tail) is) ∙ reads_opened))
+        (λ shut. inl (ap framing whole ∙ read_spelled bodies (get_or c at 0) tail all_short shut))
+        (cases_eq (get_or c at 0) 1)
+
+    p3 : P m3
+    p3 = record { output = refl; disk = λ disk left. ⊎_elim (λ is. inl (reads_by m3 disk pick3 left ∙ is)) (λ is. inr (reads_by m3 disk pick3 left ∙ is)) (second (disk tape) (left tape)) }
+
+    p4 : P m4
+    p4 = record { output = refl; disk = λ disk left. inr (reads_by m4 disk pick4 left ∙ ap framing (clean_only (state tape m4) (disk tape) (clean_synced tape m3) (left tape) ∙ r4) ∙ reads_opened) }
+
+    pub steps : Steps m0 bodies (bodies ++ body ∷ []) tape (at + 1) (framed body) tape at (1 ∷ [])
+    steps = record { s0 = p0; s1 = p1; s2 = p2; s3 = p3; s4 = p4 }

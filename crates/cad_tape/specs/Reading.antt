@@ -45,19 +45,20 @@ reading disk = framing (disk (chosen (disk Pick)))
 abbrev pub stored : List Event → List (List ℕ)
 stored m = or_none (reading (reads m))
 
--- the tape in use is this one, its ending gate stands there, and nothing is pending on it
-pub record IsReady (m : List Event) (tape : Tape) (at : ℕ) : Type 0 where
+-- the tape in use is this one, and its ending gate stands there
+pub record IsPlaced (m : List Event) (tape : Tape) (at : ℕ) : Type 0 where
   pub used : chosen (reads m Pick) ≡ tape
   pub ends : Ends (reads m tape) (stored m) at
   pub fits : length (reads m tape) < 2 ^ 64
-  pub clean : IsClean (state tape m)
-  pub clean_pick : IsClean (state Pick m)
 
--- the tapes stand for records, nothing is pending on them, and this tape isn't in use
+-- the tapes stand for records, and this tape isn't in use
 pub record IsFree (m : List Event) (onto : Tape) : Type 0 where
   pub not_used : same_tape onto (chosen (reads m Pick)) ≡ false
   pub not_pick : same_tape onto Pick ≡ false
   pub whole : reading (reads m) ≡ Some (stored m)
+
+-- nothing is pending on the tape in use and on `pick`
+pub record IsQuiet (m : List Event) : Type 0 where
   pub clean : IsClean (state (chosen (reads m Pick)) m)
   pub clean_pick : IsClean (state Pick m)
 

@@ -2,12 +2,12 @@
 ghost use Rattle.std.specs.Prelude.{◌≡◌, ◌≢◌, ◌<◌, ◌^◌, ◌++◌, [], ◌∷◌, List, ℕ, false, length, map, All, Some};
 ghost use Rattle.cad_host.specs.declared.host.Tape.{Tape};
 ghost use Rattle.cad_host.specs.declared.host.Tape.TheVariants.{Pick};
-ghost use Rattle.cad_host.specs.Disk.{Event, state, reads, same_tape, IsClean};
+ghost use Rattle.cad_host.specs.Disk.{Event, reads, same_tape};
 ghost use Rattle.cad_wire.specs.declared.entry.Entry.{Entry};
 ghost use Rattle.cad_wire.specs.Body.{body_bytes, IsRecord};
 ghost use Rattle.cad_wire.specs.Fields.{AreBytes};
 ghost use Rattle.cad_tape.specs.Framing.{spelled, Ends};
-ghost use Rattle.cad_tape.specs.Reading.{tape_reading, chosen, stored, IsReady, IsFree};
+ghost use Rattle.cad_tape.specs.Reading.{tape_reading, chosen, stored, IsPlaced, IsFree};
 
 /// Records are read back from their bytes, whatever follows the closed gate behind them, and from no other bytes.
 pub fn records_both_ways()
@@ -19,16 +19,13 @@ pub fn records_both_ways()
         → All IsRecord records × Ends bytes (map body_bytes records) (length (spelled (map body_bytes records))) }
 {}
 
-/// Where nothing is pending, a run can begin behind the records of the tape in use, or onto the other tape.
+/// A run can begin behind the records of the tape in use, or onto the other tape.
 pub fn opens()
-    ensures ready { (m : List Event) (at : ℕ) → Ends (reads m (chosen (reads m Pick))) (stored m) at
-        → length (reads m (chosen (reads m Pick))) < 2 ^ 64
-        → IsClean (state (chosen (reads m Pick)) m) → IsClean (state Pick m)
-        → IsReady m (chosen (reads m Pick)) at }
+    ensures placed { (m : List Event) (at : ℕ) → Ends (reads m (chosen (reads m Pick))) (stored m) at
+        → length (reads m (chosen (reads m Pick))) < 2 ^ 64 → IsPlaced m (chosen (reads m Pick)) at }
     ensures free { (m : List Event) (onto : Tape) → length (reads m (chosen (reads m Pick))) ≡ 0
         → same_tape onto (chosen (reads m Pick)) ≡ false → same_tape onto Pick ≡ false
-        → IsClean (state (chosen (reads m Pick)) m) → IsClean (state Pick m)
         → IsFree m onto × (stored m ≡ []) }
-    ensures switches { (m : List Event) (tape onto : Tape) (at : ℕ) → IsReady m tape at
+    ensures switches { (m : List Event) (tape onto : Tape) (at : ℕ) → IsPlaced m tape at
         → same_tape onto tape ≡ false → same_tape onto Pick ≡ false → IsFree m onto }
 {}

@@ -1,13 +1,11 @@
 pub mod Lines
 pub mod Words
 pub mod Held
-pub mod Sums
-pub mod Reading
-pub mod Views
-pub mod Marks
-pub mod Request
 pub mod Answer
 pub mod Served
+pub mod Crashes
+pub mod Views
+pub mod Outcomes
 pub mod Progress
 pub mod Ending
 pub mod Statuses

@@ -1,40 +1,54 @@
--- What a run has read and said.
-use Rattle.std.specs.Prelude.{◌≡◌, ℕ, List, [], ◌∷◌, ◌++◌, take}
+-- What a run has read and said, and the accounts that it leaves.
+use Rattle.std.specs.Prelude.{◌≡◌, ℕ, suc, ◌≤◌, List, [], ◌∷◌, ◌++◌, length, take}
 use Rattle.std.specs.List.{flat_map}
+use Rattle.cad_accounts.specs.Accounts.{Accounts}
 use Rattle.cadence.specs.Lines.{lines, commands_among}
 use Rattle.cadence.specs.Answer.{Answer, Answers, answer_line}
 
--- each command has its answer
-abbrev pub AnswersAll : List (List ℕ) → List Answer → Type 0
-AnswersAll [] [] = Unit {0}
-AnswersAll [] (answer ∷ answers) = ⊥
-AnswersAll (line ∷ lines) [] = ⊥
-AnswersAll (line ∷ lines) (answer ∷ answers) = Answers line answer × AnswersAll lines answers
+-- each command has its answer, over the accounts that those before it left
+abbrev pub AnswersAll : Accounts → List (List ℕ) → List Answer → Accounts → Type 0
+AnswersAll w [] [] v = v ≡ w
+AnswersAll w [] (a ∷ answers) v = ⊥
+AnswersAll w (line ∷ lines) [] v = ⊥
+AnswersAll w (line ∷ lines) (a ∷ answers) v = (u : Accounts) × Answers w line a u × AnswersAll u lines answers v
 
 abbrev pub answer_lines : List Answer → List ℕ
 answer_lines = flat_map answer_line
 
--- The output grew by the lines of the answers to all these commands, in order.
-pub record Served (commands : List (List ℕ)) (output_old output_new : List ℕ) : Type 0 where
+-- The output grew by the lines of the answers to all these commands, in order, and they lead to these accounts.
+pub record Served (w : Accounts) (commands : List (List ℕ)) (output_old output_new : List ℕ) (v : Accounts) : Type 0 where
   pub answers : List Answer
-  pub are : AnswersAll commands answers
+  pub are : AnswersAll w commands answers v
   pub output : output_new ≡ output_old ++ answer_lines answers
 
+-- It grew by the lines of the answers to the first of these commands.
+pub record ServedSome (w : Accounts) (commands : List (List ℕ)) (output_old output_new : List ℕ) (v : Accounts) : Type 0 where
+  pub count : ℕ
+  pub within : count ≤ length commands
+  pub served : Served w (take count commands) output_old output_new v
+
+-- It grew by the lines of the answers to the first of these commands and some bytes of the next one's, which took effect.
+pub record Broken (w : Accounts) (commands : List (List ℕ)) (output_old output_new : List ℕ) (v : Accounts) : Type 0 where
+  pub count : ℕ
+  pub within : suc count ≤ length commands
+  pub answers : List Answer
+  pub next : Answer
+  pub bytes : ℕ
+  pub are : AnswersAll w (take (suc count) commands) (answers ++ next ∷ []) v
+  pub output : output_new ≡ output_old ++ (answer_lines answers ++ take bytes (answer_line next))
+
 -- It grew by a prefix of the bytes of the lines of the answers to the first of these commands.
-pub record Begun (commands : List (List ℕ)) (output_old output_new : List ℕ) : Type 0 where
+pub record Begun (w : Accounts) (commands : List (List ℕ)) (output_old output_new : List ℕ) : Type 0 where
   pub count : ℕ
   pub answers : List Answer
+  pub accounts : Accounts
   pub bytes : ℕ
-  pub are : AnswersAll (take count commands) answers
+  pub are : AnswersAll w (take count commands) answers accounts
   pub output : output_new ≡ output_old ++ take bytes (answer_lines answers)
 
 -- Of the bytes that were taken, the commands that a line feed ends have their answers, and an unfinished line has none.
-pub record Finished (taken output_old output_new : List ℕ) : Type 0 where
+pub record Finished (w : Accounts) (taken output_old output_new : List ℕ) (v : Accounts) : Type 0 where
   pub whole : List (List ℕ)
   pub unfinished : List ℕ
   pub lines_are : lines taken ≡ whole ++ unfinished ∷ []
-  pub served : Served (commands_among whole) output_old output_new
-
--- the line of an answer to the command
-abbrev pub IsReply : List ℕ → List ℕ → Type 0
-IsReply command bytes = (answer : Answer) × Answers command answer × (bytes ≡ answer_line answer)
+  pub served : Served w (commands_among whole) output_old output_new v

@@ -1,65 +1,165 @@
 // The run: lines come in, and a reply goes out for each command.
-ghost use Rattle.std.specs.Prelude.{◌≡◌, ◌≢◌, ◌≤◌, ◌<◌, ◌+◌, ◌^◌, ◌⊎◌, ◌++◌, ◌↔◌, [], ◌∷◌, List, ℕ, length, take, drop, IfOk, IfErr, OnOk, OnErr, true, Ok};
-ghost use Rattle.cad_host.specs.Disk.{output};
+ghost use Rattle.std.specs.Prelude.{◌≡◌, ◌≢◌, ◌≤◌, ◌<◌, ◌+◌, ◌^◌, ◌++◌, ◌↔◌, [], ◌∷◌, List, ℕ, length, take, IfOk, IfErr, OnOk, OnErr, Ok};
+ghost use Rattle.cad_host.specs.Disk.{Event, output, reads, Puts};
 ghost use Rattle.cad_host.specs.Faults.{Rose, IsCaused};
+ghost use Rattle.cad_wire.specs.declared.entry.Entry.{Entry};
+ghost use Rattle.cad_accounts.specs.Registers.{applied};
+ghost use Rattle.cad_accounts.specs.Accounts.{Accounts, StandsFor};
+ghost use Rattle.cad_accounts.specs.Worlds.{AreSound};
+ghost use Rattle.cad_store.specs.Stores.{held, room_of, IsOn, IsOut};
 ghost use Rattle.cadence.specs.Lines.{commands, commands_among};
 ghost use Rattle.cadence.specs.Held.{Holds};
 ghost use Rattle.cadence.specs.Words.{IsRun};
-ghost use Rattle.cadence.specs.Served.{Served, Begun, Finished};
-ghost use Rattle.cadence.specs.Ending.{Ends, HasCause, input_bound};
-ghost use Rattle.cadence.specs.Progress.{Going, Goes, Stops, KeepsTapes};
+ghost use Rattle.cadence.specs.Answer.{Answer, Answers, answer_line, most_bytes};
+ghost use Rattle.cadence.specs.Served.{Served, ServedSome, Broken, Begun, Finished};
+ghost use Rattle.cadence.specs.Crashes.{DiskStands, Survives};
+ghost use Rattle.cadence.specs.Ending.{Ends, HasCause, StopCause, IsCausedBy, HasRun, input_bound, status_of};
+ghost use Rattle.cadence.specs.Progress.{Said, Halted, Going, Goes, Stops};
 ghost use Rattle.cadence.specs.declared.status.Status.TheVariants as status;
 ghost use Rattle.cadence.specs.declared.status.Status.{Status};
 
 use crate::line::Line;
-use crate::reply::reply_to;
+use crate::prepare::{Prepared, prepare};
 use crate::status::Status;
 use crate::words::is_run;
 use cad_host::{Failed, Host};
+use cad_store::{Commit, OpenStop, Store, open};
 use cad_syntax::Text;
 use std::alloc::Global;
 
 /// How many bytes of input the program reads.
 pub const INPUT_BOUND: u64 = 1 << 40;
 
-// Replies to the line that has ended, where it is a command.
-fn say<H: Host>(alloc: Global, host: &mut H, line: &Line) -> Result<(), Status>
-    ensures said { H.tells → (pending : List ℕ) → Holds line.now pending →
-        OnOk result (Served (commands_among (pending ∷ [])) (output (H.trace host.old)) (output (H.trace host.new))) }
-    ensures begun { H.tells → (pending : List ℕ) → Holds line.now pending →
-        OnErr result (Begun (commands_among (pending ∷ [])) (output (H.trace host.old)) (output (H.trace host.new))) }
-    ensures cause { IfErr result (λ s. (s ≡ Status.Memory) ⊎ ((s ≡ Status.WriteFault) × Rose (H.output_faults host.old) (H.output_faults host.new))) }
+// Puts the reply to a command that took effect.
+fn tell<H: Host>(host: &mut H, text: &Text) -> Result<(), Status>
+    ensures puts { H.tells → Puts text.now result (H.trace host.old) (H.trace host.new) }
+    ensures cause { IfErr result (λ s. (s ≡ Status.WriteFault) × Rose (H.output_faults host.old) (H.output_faults host.new)) }
     ensures falls { H.output_faults host.old ≤ H.output_faults host.new }
     ensures left { H.tells → H.left host.new ≡ H.left host.old }
-    ensures tapes { H.tells → KeepsTapes (H.trace host.old) (H.trace host.new) }
     ensures input { H.input_faults host.new ≡ H.input_faults host.old }
     ensures disk { H.disk_faults host.new ≡ H.disk_faults host.old }
 {
-    if line.blank {
-        return Ok(());
-    }
-    let Ok(text) = reply_to(alloc, line) else {
-        return Err(Status::Memory);
-    };
     match host.put(text.as_bytes()) {
         Ok(()) => Ok(()),
         Err(_) => Err(Status::WriteFault),
     }
 }
 
-// Takes one byte of the input.
-fn feed_byte<H: Host>(alloc: Global, host: &mut H, line: &mut Line, byte: u8) -> Result<(), Status>
-    ensures goes { H.tells → OnOk result (Goes line.old line.new (byte ∷ []) (output (H.trace host.old)) (output (H.trace host.new))) }
-    ensures stops { H.tells → OnErr result ((more : List ℕ) → Stops line.old (byte ∷ more) (output (H.trace host.old)) (output (H.trace host.new))) }
-    ensures cause { IfErr result (λ s. (s ≡ Status.Memory) ⊎ ((s ≡ Status.WriteFault) × Rose (H.output_faults host.old) (H.output_faults host.new))) }
+// Writes a commit, and then puts the reply.
+fn write_and_tell<H: Host>(
+    host: &mut H,
+    store: &mut Store,
+    commit: Commit,
+    text: &Text,
+) -> Result<(), Status>
+    requires out { (changes : List Entry) × IsOut store.old commit changes }
+    requires on { H.tells → IsOn (H.trace host.old) store.old }
+    ensures said { H.tells → (w v : Accounts) (c : List ℕ) (a : Answer) (changes : List Entry) → StandsFor (held store.old) w → Answers w c a v → text.now ≡ answer_line a
+        → IsOut store.old commit changes → StandsFor (applied changes (held store.old)) v
+        → OnOk result (Said w (c ∷ []) (H.trace host.old) (H.trace host.new) store.new) }
+    ensures stops { H.tells → (w v : Accounts) (c : List ℕ) (a : Answer) (changes : List Entry) → StandsFor (held store.old) w → Answers w c a v → text.now ≡ answer_line a
+        → IsOut store.old commit changes → StandsFor (applied changes (held store.old)) v
+        → IfErr result (λ s. Halted s w (c ∷ []) (H.trace host.old) (H.trace host.new)) }
+    ensures held { OnOk result ((changes : List Entry) → IsOut store.old commit changes → ((key : List ℕ) → held store.new key ≡ applied changes (held store.old) key)) }
+    ensures on { OnOk result (H.tells → IsOn (H.trace host.new) store.new) }
+    ensures room { room_of store.new ≡ room_of store.old }
+    ensures cause { IfErr result (λ s. StopCause s (H.output_faults host.old) (H.output_faults host.new) (H.disk_faults host.old) (H.disk_faults host.new)) }
     ensures falls { H.output_faults host.old ≤ H.output_faults host.new }
+    ensures disk { H.disk_faults host.old ≤ H.disk_faults host.new }
     ensures left { H.tells → H.left host.new ≡ H.left host.old }
-    ensures tapes { H.tells → KeepsTapes (H.trace host.old) (H.trace host.new) }
     ensures input { H.input_faults host.new ≡ H.input_faults host.old }
-    ensures disk { H.disk_faults host.new ≡ H.disk_faults host.old }
+{
+    if store.commit(host, commit).is_err() {
+        return Err(Status::DiskFault);
+    }
+    tell(host, text)
+}
+
+// Answers the line that has ended, which is a command: what it changes is written before its reply is put.
+fn answer<H: Host>(
+    alloc: Global,
+    host: &mut H,
+    store: &mut Store,
+    line: &Line,
+) -> Result<(), Status>
+    requires sound { AreSound (held store.old) }
+    requires room { room_of store.old ≡ most_bytes }
+    requires on { H.tells → IsOn (H.trace host.old) store.old }
+    ensures said { H.tells → (pending : List ℕ) → Holds line.now pending → (w : Accounts) → StandsFor (held store.old) w
+        → OnOk result (Said w (pending ∷ []) (H.trace host.old) (H.trace host.new) store.new) }
+    ensures stops { H.tells → (pending : List ℕ) → Holds line.now pending → (w : Accounts) → StandsFor (held store.old) w
+        → IfErr result (λ s. Halted s w (pending ∷ []) (H.trace host.old) (H.trace host.new)) }
+    ensures sound { OnOk result (AreSound (held store.new)) }
+    ensures on { OnOk result (H.tells → IsOn (H.trace host.new) store.new) }
+    ensures room { room_of store.new ≡ room_of store.old }
+    ensures cause { IfErr result (λ s. StopCause s (H.output_faults host.old) (H.output_faults host.new) (H.disk_faults host.old) (H.disk_faults host.new)) }
+    ensures falls { H.output_faults host.old ≤ H.output_faults host.new }
+    ensures disk { H.disk_faults host.old ≤ H.disk_faults host.new }
+    ensures left { H.tells → H.left host.new ≡ H.left host.old }
+    ensures input { H.input_faults host.new ≡ H.input_faults host.old }
+{
+    let Ok(prepared) = prepare(alloc, store, line) else {
+        return Err(Status::Memory);
+    };
+    match prepared {
+        Prepared::Reply(text) => tell(host, &text),
+        Prepared::Commit(commit, text) => write_and_tell(host, store, commit, &text),
+    }
+}
+
+// Answers the line that has ended, where it is a command.
+fn say<H: Host>(
+    alloc: Global,
+    host: &mut H,
+    store: &mut Store,
+    line: &Line,
+) -> Result<(), Status>
+    requires sound { AreSound (held store.old) }
+    requires room { room_of store.old ≡ most_bytes }
+    requires on { H.tells → IsOn (H.trace host.old) store.old }
+    ensures said { H.tells → (pending : List ℕ) → Holds line.now pending → (w : Accounts) → StandsFor (held store.old) w
+        → OnOk result (Said w (commands_among (pending ∷ [])) (H.trace host.old) (H.trace host.new) store.new) }
+    ensures stops { H.tells → (pending : List ℕ) → Holds line.now pending → (w : Accounts) → StandsFor (held store.old) w
+        → IfErr result (λ s. Halted s w (commands_among (pending ∷ [])) (H.trace host.old) (H.trace host.new)) }
+    ensures sound { OnOk result (AreSound (held store.new)) }
+    ensures on { OnOk result (H.tells → IsOn (H.trace host.new) store.new) }
+    ensures room { room_of store.new ≡ room_of store.old }
+    ensures cause { IfErr result (λ s. StopCause s (H.output_faults host.old) (H.output_faults host.new) (H.disk_faults host.old) (H.disk_faults host.new)) }
+    ensures falls { H.output_faults host.old ≤ H.output_faults host.new }
+    ensures disk { H.disk_faults host.old ≤ H.disk_faults host.new }
+    ensures left { H.tells → H.left host.new ≡ H.left host.old }
+    ensures input { H.input_faults host.new ≡ H.input_faults host.old }
+{
+    if line.blank {
+        return Ok(());
+    }
+    answer(alloc, host, store, line)
+}
+
+// Takes one byte of the input.
+fn feed_byte<H: Host>(
+    alloc: Global,
+    host: &mut H,
+    store: &mut Store,
+    line: &mut Line,
+    byte: u8,
+) -> Result<(), Status>
+    requires sound { AreSound (held store.old) }
+    requires room { room_of store.old ≡ most_bytes }
+    requires on { H.tells → IsOn (H.trace host.old) store.old }
+    ensures goes { H.tells → OnOk result (Goes line.old store.old line.new store.new (byte ∷ []) (H.trace host.old) (H.trace host.new)) }
+    ensures stops { H.tells → IfErr result (λ s. (more : List ℕ) → Stops s line.old store.old (byte ∷ more) (H.trace host.old) (H.trace host.new)) }
+    ensures sound { OnOk result (AreSound (held store.new)) }
+    ensures on { OnOk result (H.tells → IsOn (H.trace host.new) store.new) }
+    ensures room { room_of store.new ≡ room_of store.old }
+    ensures cause { IfErr result (λ s. StopCause s (H.output_faults host.old) (H.output_faults host.new) (H.disk_faults host.old) (H.disk_faults host.new)) }
+    ensures falls { H.output_faults host.old ≤ H.output_faults host.new }
+    ensures disk { H.disk_faults host.old ≤ H.disk_faults host.new }
+    ensures left { H.tells → H.left host.new ≡ H.left host.old }
+    ensures input { H.input_faults host.new ≡ H.input_faults host.old }
 {
     if byte == b'\n' {
-        if let Err(stop) = say(alloc, host, line) {
+        if let Err(stop) = say(alloc, host, store, line) {
             return Err(stop);
         }
         line.clear();
@@ -72,18 +172,29 @@ fn feed_byte<H: Host>(alloc: Global, host: &mut H, line: &mut Line, byte: u8) ->
 }
 
 // Takes the next bytes of the input.
-fn feed<H: Host>(alloc: Global, host: &mut H, line: &mut Line, bytes: &[u8]) -> Result<(), Status>
-    ensures goes { H.tells → OnOk result (Goes line.old line.new bytes.now (output (H.trace host.old)) (output (H.trace host.new))) }
-    ensures stops { H.tells → OnErr result (Stops line.old bytes.now (output (H.trace host.old)) (output (H.trace host.new))) }
-    ensures cause { IfErr result (λ s. (s ≡ Status.Memory) ⊎ ((s ≡ Status.WriteFault) × Rose (H.output_faults host.old) (H.output_faults host.new))) }
+fn feed<H: Host>(
+    alloc: Global,
+    host: &mut H,
+    store: &mut Store,
+    line: &mut Line,
+    bytes: &[u8],
+) -> Result<(), Status>
+    requires sound { AreSound (held store.old) }
+    requires room { room_of store.old ≡ most_bytes }
+    requires on { H.tells → IsOn (H.trace host.old) store.old }
+    ensures goes { H.tells → OnOk result (Goes line.old store.old line.new store.new bytes.now (H.trace host.old) (H.trace host.new)) }
+    ensures stops { H.tells → IfErr result (λ s. Stops s line.old store.old bytes.now (H.trace host.old) (H.trace host.new)) }
+    ensures sound { OnOk result (AreSound (held store.new)) }
+    ensures on { OnOk result (H.tells → IsOn (H.trace host.new) store.new) }
+    ensures room { room_of store.new ≡ room_of store.old }
+    ensures cause { IfErr result (λ s. StopCause s (H.output_faults host.old) (H.output_faults host.new) (H.disk_faults host.old) (H.disk_faults host.new)) }
     ensures falls { H.output_faults host.old ≤ H.output_faults host.new }
+    ensures disk { H.disk_faults host.old ≤ H.disk_faults host.new }
     ensures left { H.tells → H.left host.new ≡ H.left host.old }
-    ensures tapes { H.tells → KeepsTapes (H.trace host.old) (H.trace host.new) }
     ensures input { H.input_faults host.new ≡ H.input_faults host.old }
-    ensures disk { H.disk_faults host.new ≡ H.disk_faults host.old }
 {
     for byte in bytes {
-        if let Err(stop) = feed_byte(alloc, host, line, *byte) {
+        if let Err(stop) = feed_byte(alloc, host, store, line, *byte) {
             return Err(stop);
         }
     }
@@ -110,44 +221,52 @@ fn turn<H: Host>(
     alloc: Global,
     host: &mut H,
     buffer: &mut [u8],
+    store: &mut Store,
     line: &mut Line,
     room: usize,
 ) -> Result<usize, Status>
     requires some { 0 < room }
     requires fits { room ≤ length buffer.old }
+    requires sound { AreSound (held store.old) }
+    requires bytes { room_of store.old ≡ most_bytes }
+    requires on { H.tells → IsOn (H.trace host.old) store.old }
     ensures count { IfOk result (λ n. n ≤ room) }
-    ensures going { H.tells → (input base : List ℕ) → Going line.old input base (H.left host.old) (output (H.trace host.old)) →
-        OnOk result (Going line.new input base (H.left host.new) (output (H.trace host.new))) }
+    ensures going { H.tells → (w : Accounts) (input : List ℕ) (base : List Event) → Going line.old store.old w input base (H.left host.old) (H.trace host.old) →
+        OnOk result (Going line.new store.new w input base (H.left host.new) (H.trace host.new)) }
     ensures left { H.tells → IfOk result (λ n. length (H.left host.old) ≡ n + length (H.left host.new)) }
     ensures end { H.tells → result ≡ Ok 0 → H.left host.new ≡ [] }
-    ensures ends { H.tells → (input base : List ℕ) → Going line.old input base (H.left host.old) (output (H.trace host.old)) →
-        IfErr result (λ s. Ends s input (H.left host.new) base (output (H.trace host.new))) }
-    ensures cause { IfErr result (λ s. HasCause s (H.input_faults host.old) (H.input_faults host.new) (H.output_faults host.old) (H.output_faults host.new)) }
+    ensures ends { H.tells → (w : Accounts) (input : List ℕ) (base : List Event) → Going line.old store.old w input base (H.left host.old) (H.trace host.old) →
+        IfErr result (λ s. Ends s w input (H.left host.new) base (H.trace host.new)) }
+    ensures sound { OnOk result (AreSound (held store.new)) }
+    ensures on { OnOk result (H.tells → IsOn (H.trace host.new) store.new) }
+    ensures room { room_of store.new ≡ room_of store.old }
+    ensures cause { IfErr result (λ s. HasCause s (H.input_faults host.old) (H.input_faults host.new) (H.output_faults host.old) (H.output_faults host.new) (H.disk_faults host.old) (H.disk_faults host.new)) }
     ensures input { H.input_faults host.old ≤ H.input_faults host.new }
     ensures output { H.output_faults host.old ≤ H.output_faults host.new }
-    ensures tapes { H.tells → KeepsTapes (H.trace host.old) (H.trace host.new) }
-    ensures disk { H.disk_faults host.new ≡ H.disk_faults host.old }
+    ensures disk { H.disk_faults host.old ≤ H.disk_faults host.new }
 {
     let Ok(count) = take_some(host, buffer, room) else {
         return Err(Status::ReadFault);
     };
-    if let Err(stop) = feed(alloc, host, line, &buffer[..count]) {
+    if let Err(stop) = feed(alloc, host, store, line, &buffer[..count]) {
         return Err(stop);
     }
     Ok(count)
 }
 
 // Replies to the line that the end of the input ends.
-fn finish<H: Host>(alloc: Global, host: &mut H, line: &Line) -> Status
-    ensures ends { H.tells → (input base : List ℕ) → length input ≤ input_bound → H.left host.old ≡ [] → Going line.now input base [] (output (H.trace host.old)) →
-        Ends result input (H.left host.new) base (output (H.trace host.new)) }
-    ensures cause { HasCause result (H.input_faults host.old) (H.input_faults host.new) (H.output_faults host.old) (H.output_faults host.new) }
+fn finish<H: Host>(alloc: Global, host: &mut H, store: &mut Store, line: &Line) -> Status
+    requires sound { AreSound (held store.old) }
+    requires room { room_of store.old ≡ most_bytes }
+    requires on { H.tells → IsOn (H.trace host.old) store.old }
+    ensures ends { H.tells → (w : Accounts) (input : List ℕ) (base : List Event) → length input ≤ input_bound → H.left host.old ≡ [] → Going line.now store.old w input base [] (H.trace host.old) →
+        Ends result w input (H.left host.new) base (H.trace host.new) }
+    ensures cause { HasCause result (H.input_faults host.old) (H.input_faults host.new) (H.output_faults host.old) (H.output_faults host.new) (H.disk_faults host.old) (H.disk_faults host.new) }
     ensures input { H.input_faults host.new ≡ H.input_faults host.old }
     ensures output { H.output_faults host.old ≤ H.output_faults host.new }
-    ensures tapes { H.tells → KeepsTapes (H.trace host.old) (H.trace host.new) }
-    ensures disk { H.disk_faults host.new ≡ H.disk_faults host.old }
+    ensures disk { H.disk_faults host.old ≤ H.disk_faults host.new }
 {
-    match say(alloc, host, line) {
+    match say(alloc, host, store, line) {
         Ok(()) => Status::Done,
         Err(stop) => stop,
     }
@@ -170,102 +289,170 @@ fn room_for(taken: u64, held: usize) -> usize
 }
 
 // One more byte after the bound on the input.
-fn past_bound<H: Host>(alloc: Global, host: &mut H, buffer: &mut [u8], line: &Line) -> Status
-    requires { 0 < length buffer.old }
-    ensures ends { H.tells → (input base : List ℕ) → length input ≡ input_bound + length (H.left host.old) → Going line.now input base (H.left host.old) (output (H.trace host.old)) →
-        Ends result input (H.left host.new) base (output (H.trace host.new)) }
-    ensures cause { HasCause result (H.input_faults host.old) (H.input_faults host.new) (H.output_faults host.old) (H.output_faults host.new) }
+fn past_bound<H: Host>(
+    alloc: Global,
+    host: &mut H,
+    buffer: &mut [u8],
+    store: &mut Store,
+    line: &Line,
+) -> Status
+    requires some { 0 < length buffer.old }
+    requires sound { AreSound (held store.old) }
+    requires room { room_of store.old ≡ most_bytes }
+    requires on { H.tells → IsOn (H.trace host.old) store.old }
+    ensures ends { H.tells → (w : Accounts) (input : List ℕ) (base : List Event) → length input ≡ input_bound + length (H.left host.old) →
+        Going line.now store.old w input base (H.left host.old) (H.trace host.old) → Ends result w input (H.left host.new) base (H.trace host.new) }
+    ensures cause { HasCause result (H.input_faults host.old) (H.input_faults host.new) (H.output_faults host.old) (H.output_faults host.new) (H.disk_faults host.old) (H.disk_faults host.new) }
     ensures input { H.input_faults host.old ≤ H.input_faults host.new }
     ensures output { H.output_faults host.old ≤ H.output_faults host.new }
-    ensures tapes { H.tells → KeepsTapes (H.trace host.old) (H.trace host.new) }
-    ensures disk { H.disk_faults host.new ≡ H.disk_faults host.old }
+    ensures disk { H.disk_faults host.old ≤ H.disk_faults host.new }
 {
     match take_some(host, buffer, 1) {
         Err(_) => Status::ReadFault,
-        Ok(0) => finish(alloc, host, line),
+        Ok(0) => finish(alloc, host, store, line),
         Ok(_) => Status::InputBound,
     }
 }
 
 // Reads the input and replies to its commands.
-fn read_lines<H: Host>(alloc: Global, host: &mut H, buffer: &mut [u8], line: &mut Line) -> Status
-    requires room { 0 < length buffer.old }
+fn read_lines<H: Host>(
+    alloc: Global,
+    host: &mut H,
+    buffer: &mut [u8],
+    store: &mut Store,
+    line: &mut Line,
+) -> Status
+    requires some { 0 < length buffer.old }
     requires fresh { Holds line.old [] }
-    ensures ends { H.tells → Ends result (H.left host.old) (H.left host.new) (output (H.trace host.old)) (output (H.trace host.new)) }
-    ensures cause { HasCause result (H.input_faults host.old) (H.input_faults host.new) (H.output_faults host.old) (H.output_faults host.new) }
+    requires sound { AreSound (held store.old) }
+    requires room { room_of store.old ≡ most_bytes }
+    requires on { H.tells → IsOn (H.trace host.old) store.old }
+    ensures ends { H.tells → (w : Accounts) → StandsFor (held store.old) w → Ends result w (H.left host.old) (H.left host.new) (H.trace host.old) (H.trace host.new) }
+    ensures cause { HasCause result (H.input_faults host.old) (H.input_faults host.new) (H.output_faults host.old) (H.output_faults host.new) (H.disk_faults host.old) (H.disk_faults host.new) }
     ensures input { H.input_faults host.old ≤ H.input_faults host.new }
     ensures output { H.output_faults host.old ≤ H.output_faults host.new }
-    ensures tapes { H.tells → KeepsTapes (H.trace host.old) (H.trace host.new) }
-    ensures disk { H.disk_faults host.new ≡ H.disk_faults host.old }
+    ensures disk { H.disk_faults host.old ≤ H.disk_faults host.new }
 {
     let mut taken = 0u64;
     while taken < INPUT_BOUND {
         let room = room_for(taken, buffer.len());
-        match turn(alloc, host, buffer, line, room) {
+        match turn(alloc, host, buffer, store, line, room) {
             Err(stop) => return stop,
-            Ok(0) => return finish(alloc, host, line),
+            Ok(0) => return finish(alloc, host, store, line),
             Ok(count) => taken += count as u64,
         }
     }
-    past_bound(alloc, host, buffer, line)
+    past_bound(alloc, host, buffer, store, line)
 }
 
 // How many bytes are asked for at once.
 const BUFFER: usize = 1 << 16;
 
 // Makes the buffer and reads the input.
-fn run<H: Host>(alloc: Global, host: &mut H) -> Status
-    ensures ends { H.tells → Ends result (H.left host.old) (H.left host.new) (output (H.trace host.old)) (output (H.trace host.new)) }
-    ensures cause { HasCause result (H.input_faults host.old) (H.input_faults host.new) (H.output_faults host.old) (H.output_faults host.new) }
-    ensures tapes { H.tells → KeepsTapes (H.trace host.old) (H.trace host.new) }
-    ensures disk { H.disk_faults host.new ≡ H.disk_faults host.old }
+fn run<H: Host>(alloc: Global, host: &mut H, store: &mut Store) -> Status
+    requires sound { AreSound (held store.old) }
+    requires room { room_of store.old ≡ most_bytes }
+    requires on { H.tells → IsOn (H.trace host.old) store.old }
+    ensures ends { H.tells → (w : Accounts) → StandsFor (held store.old) w → Ends result w (H.left host.old) (H.left host.new) (H.trace host.old) (H.trace host.new) }
+    ensures cause { HasCause result (H.input_faults host.old) (H.input_faults host.new) (H.output_faults host.old) (H.output_faults host.new) (H.disk_faults host.old) (H.disk_faults host.new) }
 {
     let Ok(mut buffer) = vec![in alloc; 0u8; BUFFER] else {
         return Status::Memory;
     };
     let mut line = Line::new(alloc);
-    read_lines(alloc, host, &mut buffer, &mut line)
+    read_lines(alloc, host, &mut buffer, store, &mut line)
 }
 
-/// All that the program does. It reads the words `run FOLDER`, and then the input: lines that end with a line feed or with
-/// the input. A line of spaces, tabs and carriage returns alone is no command and has no reply; any other line is a command,
-/// and its reply line is put before the next is read.
+/// How many bytes the accounts may have: those of a record of all their registers, with the gate behind it.
+const ROOM: u64 = 1 << 30;
+
+fn stop_of(stop: OpenStop) -> Status
+    ensures { result ≡ status_of stop }
+{
+    match stop {
+        OpenStop::Failed => Status::DiskFault,
+        OpenStop::BadStore => Status::BadStore,
+        OpenStop::Memory => Status::Memory,
+    }
+}
+
+// Opens the accounts and reads the input.
+fn open_and_run<H: Host>(alloc: Global, host: &mut H) -> Status
+    ensures ends { H.tells → (w : Accounts) → DiskStands (reads (H.trace host.old)) w → Ends result w (H.left host.old) (H.left host.new) (H.trace host.old) (H.trace host.new) }
+    ensures bad { H.tells → result ≡ Status.BadStore → ((w : Accounts) → DiskStands (reads (H.trace host.old)) w → ⊥)
+        × (H.trace host.new ≡ H.trace host.old) × (H.left host.new ≡ H.left host.old) }
+    ensures opened { H.tells → HasRun result → (w : Accounts) × DiskStands (reads (H.trace host.old)) w }
+    ensures run { result ≢ Status.Usage }
+    ensures cause { IsCausedBy result (H.input_faults host.old) (H.input_faults host.new) (H.output_faults host.old) (H.output_faults host.new) (H.disk_faults host.old) (H.disk_faults host.new) }
+{
+    match open(alloc, host, ROOM) {
+        Ok(mut store) => run(alloc, host, &mut store),
+        Err(stop) => stop_of(stop),
+    }
+}
+
+/// All that the program does. It reads the words `run FOLDER`, opens the accounts that the tapes stand for, which writes
+/// nothing, and reads the input: lines that end with a line feed or with the input. A line of spaces, tabs and carriage
+/// returns alone is no command and has no reply; any other line is a command. What it changes is written, and then its reply
+/// line is put, before the next is read.
 ///
-/// The status is Usage exactly where the words are others. ReadFault and WriteFault come only where the host's input or
-/// output failed, InputBound where the input has more than 2^40 bytes, and Memory where memory ran out. DiskFault and
-/// BadStore don't come yet.
+/// The status is Usage exactly where the words are others. BadStore comes exactly where the tapes stand for no accounts,
+/// unless a disk fault or want of memory ended the opening. ReadFault, WriteFault and DiskFault come only where the host's
+/// input, output or disk failed, InputBound where the input has more than 2^40 bytes, and Memory where memory ran out.
 pub fn serve<H: Host>(alloc: Global, words: &[Text], host: &mut H) -> Status
     // Usage comes exactly where the words aren't of the form, and the host isn't asked then. No memory is taken for it.
     ensures usage { (result ≡ Status.Usage) ↔ (¬ IsRun words.now) }
     ensures idle { result ≡ Status.Usage → host.new ≡ host.old }
 
-    // Done: the input was read to its end, and the output grew by the reply lines of all commands, in order.
-    ensures done { H.tells → result ≡ Status.Done → (H.left host.new ≡ [])
-        × Served (commands (H.left host.old)) (output (H.trace host.old)) (output (H.trace host.new)) }
+    // BadStore: the tapes stand for no accounts, and nothing was taken, written or put. Where they don't, the input isn't read.
+    ensures bad_store { H.tells → result ≡ Status.BadStore → ((w : Accounts) → DiskStands (reads (H.trace host.old)) w → ⊥)
+        × (H.trace host.new ≡ H.trace host.old) × (H.left host.new ≡ H.left host.old) }
+    ensures opened { H.tells → HasRun result → (w : Accounts) × DiskStands (reads (H.trace host.old)) w }
 
-    // Under every status it grew by a prefix of the bytes of these lines.
-    ensures begun { H.tells → Begun (commands (H.left host.old)) (output (H.trace host.old)) (output (H.trace host.new)) }
+    // Done: the input was read to its end, the output grew by the reply lines of all commands, in order, and the tapes stand
+    // for the accounts that the commands lead to.
+    ensures done { H.tells → result ≡ Status.Done → (w : Accounts) → DiskStands (reads (H.trace host.old)) w
+        → (v : Accounts) × (H.left host.new ≡ []) × Served w (commands (H.left host.old)) (output (H.trace host.old)) (output (H.trace host.new)) v
+        × DiskStands (reads (H.trace host.new)) v }
 
-    // ReadFault: each command whose line feed was taken has its reply, and an unfinished line has none.
-    ensures read_fault { H.tells → result ≡ Status.ReadFault → (taken : List ℕ) × (H.left host.old ≡ taken ++ H.left host.new)
-        × Finished taken (output (H.trace host.old)) (output (H.trace host.new)) }
+    // Under every status the output grew by a prefix of the bytes of these lines.
+    ensures begun { H.tells → (w : Accounts) → DiskStands (reads (H.trace host.old)) w
+        → Begun w (commands (H.left host.old)) (output (H.trace host.old)) (output (H.trace host.new)) }
+
+    // Memory: the tapes stand for the accounts after exactly the commands that were replied to. DiskFault: no command whose
+    // commit failed was replied to. WriteFault: the command whose line broke took effect.
+    ensures memory { H.tells → result ≡ Status.Memory → (w : Accounts) → DiskStands (reads (H.trace host.old)) w
+        → (v : Accounts) × ServedSome w (commands (H.left host.old)) (output (H.trace host.old)) (output (H.trace host.new)) v
+        × DiskStands (reads (H.trace host.new)) v }
+    ensures disk_fault { H.tells → result ≡ Status.DiskFault → (w : Accounts) → DiskStands (reads (H.trace host.old)) w
+        → (v : Accounts) × ServedSome w (commands (H.left host.old)) (output (H.trace host.old)) (output (H.trace host.new)) v }
+    ensures write_fault { H.tells → result ≡ Status.WriteFault → (w : Accounts) → DiskStands (reads (H.trace host.old)) w
+        → (v : Accounts) × Broken w (commands (H.left host.old)) (output (H.trace host.old)) (output (H.trace host.new)) v
+        × DiskStands (reads (H.trace host.new)) v }
+
+    // ReadFault: each command whose line feed was taken has its reply, and an unfinished line has none and isn't run.
+    ensures read_fault { H.tells → result ≡ Status.ReadFault → (w : Accounts) → DiskStands (reads (H.trace host.old)) w
+        → (v : Accounts) × (taken : List ℕ) × (H.left host.old ≡ taken ++ H.left host.new)
+        × Finished w taken (output (H.trace host.old)) (output (H.trace host.new)) v × DiskStands (reads (H.trace host.new)) v }
 
     // InputBound: so of the first 2^40 bytes, and one more was taken. Under Done there were no more than these.
-    ensures bound { H.tells → result ≡ Status.InputBound → (taken : List ℕ) × (byte : ℕ) × (length taken ≡ 2 ^ 40)
-        × (H.left host.old ≡ taken ++ byte ∷ H.left host.new) × Finished taken (output (H.trace host.old)) (output (H.trace host.new)) }
+    ensures bound { H.tells → result ≡ Status.InputBound → (w : Accounts) → DiskStands (reads (H.trace host.old)) w
+        → (v : Accounts) × (taken : List ℕ) × (byte : ℕ) × (length taken ≡ 2 ^ 40) × (H.left host.old ≡ taken ++ byte ∷ H.left host.new)
+        × Finished w taken (output (H.trace host.old)) (output (H.trace host.new)) v × DiskStands (reads (H.trace host.new)) v }
     ensures within { H.tells → result ≡ Status.Done → length (H.left host.old) ≤ 2 ^ 40 }
+
+    // A crash at any moment of the call, where nothing was pending when it began, leaves tapes that stand for the accounts
+    // after the first of the commands: each whose reply line was put, and at most one more.
+    ensures survives { H.tells → (w : Accounts) → DiskStands (reads (H.trace host.old)) w
+        → Survives w (commands (H.left host.old)) (H.trace host.old) (H.trace host.new) }
 
     // A fault is answered only where the count of its kind rose.
     ensures input_cause { result ≡ Status.ReadFault → Rose (H.input_faults host.old) (H.input_faults host.new) }
     ensures output_cause { result ≡ Status.WriteFault → Rose (H.output_faults host.old) (H.output_faults host.new) }
-
-    // No disk call is made.
-    ensures no_disk { (result ≢ Status.DiskFault) × (result ≢ Status.BadStore) }
-    ensures disk { H.disk_faults host.new ≡ H.disk_faults host.old }
-    ensures tapes { H.tells → KeepsTapes (H.trace host.old) (H.trace host.new) }
+    ensures disk_cause { result ≡ Status.DiskFault → Rose (H.disk_faults host.old) (H.disk_faults host.new) }
 {
     if !is_run(words) {
         return Status::Usage;
     }
-    run(alloc, host)
+    open_and_run(alloc, host)
 }

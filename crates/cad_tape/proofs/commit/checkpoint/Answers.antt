@@ -1,40 +1,41 @@
-use Rattle.std.proofs.Common.{◌≡◌, [], ◌∷◌, refl, ◌∙◌, ap, subst, arith}
+use Rattle.std.proofs.Common.{◌≡◌, [], ◌∷◌, refl, ◌∙◌, inr, ap, subst, arith}
 use Rattle.cad_host.specs.declared.host.Tape.TheVariants.{Pick}
-use Rattle.cad_host.specs.Disk.{wrote, synced, BreaksWrite}
+use Rattle.cad_host.specs.Disk.{wrote, synced, output, BreaksWrite}
+use Rattle.cad_host.proofs.Kept.{write_output, sync_output}
 use Rattle.cad_tape.specs.Framing.{framed}
 use Rattle.cad_tape.specs.Reading.{stored, pick_of}
 use Rattle.cad_tape.proofs.Four.{is1, end1, end2, end3, end4, done}
-use Rattle.cad_tape.proofs.Onto.{short_body, steps, ready_at}
+use Rattle.cad_tape.proofs.Onto.{short_body, steps, placed_at, quiet_at}
 use Rattle.cad_tape.proofs.commit.checkpoint.Goals as goal
 
 pub returns-in_err-write-clause-moments : goal.returns-in_err-write-clause-moments
 returns-in_err-write-clause-moments g c =
-    λ tell body form.
+    λ tell quiet body form.
     let m0 = g.H.Host.trace c.args.host.now in
-    let ready = c.requires.free tell in
+    let free = c.requires.free tell in
     let short = short_body body c.args.bytes.now form (omega arith) in
-    let s = steps m0 c.args.onto body ready short in
+    let s = steps m0 c.args.onto body free short quiet in
     let place : 0 ≡ 0 = refl in
     end1 m0 (stored m0) (body ∷ []) c.args.onto 0 (1 ∷ framed body) Pick 0 (pick_of c.args.onto ∷ []) s 0 c.args.bytes.now (g.H.Host.trace c.write.new.self) place form (c.in_err-write.ensures.story tell)
 
 pub returns-in_err-sync-clause-moments : goal.returns-in_err-sync-clause-moments
 returns-in_err-sync-clause-moments g c =
-    λ tell body form.
+    λ tell quiet body form.
     let m0 = g.H.Host.trace c.args.host.now in
-    let ready = c.requires.free tell in
+    let free = c.requires.free tell in
     let short = short_body body c.args.bytes.now form (omega arith) in
-    let s = steps m0 c.args.onto body ready short in
+    let s = steps m0 c.args.onto body free short quiet in
     let place : 0 ≡ 0 = refl in
     let e1 = is1 m0 c.args.onto 0 (1 ∷ framed body) 0 c.args.bytes.now (g.H.Host.trace c.write.new.self) place form (c.in_ok-write.ensures.story tell) in
     end2 m0 (stored m0) (body ∷ []) c.args.onto 0 (1 ∷ framed body) Pick 0 (pick_of c.args.onto ∷ []) s (g.H.Host.trace c.write.new.self) (g.H.Host.trace c.sync.new.self) e1 (c.in_err-sync.ensures.story tell)
 
 pub returns-in_err-write-2-clause-moments : goal.returns-in_err-write-2-clause-moments
 returns-in_err-write-2-clause-moments g c =
-    λ tell body form.
+    λ tell quiet body form.
     let m0 = g.H.Host.trace c.args.host.now in
-    let ready = c.requires.free tell in
+    let free = c.requires.free tell in
     let short = short_body body c.args.bytes.now form (omega arith) in
-    let s = steps m0 c.args.onto body ready short in
+    let s = steps m0 c.args.onto body free short quiet in
     let place : 0 ≡ 0 = refl in
     let e1 = is1 m0 c.args.onto 0 (1 ∷ framed body) 0 c.args.bytes.now (g.H.Host.trace c.write.new.self) place form (c.in_ok-write.ensures.story tell) in
     let e2 = c.in_ok-sync.ensures.story tell ∙ ap (λ m. synced c.args.onto ∷ m) e1 in
@@ -42,11 +43,11 @@ returns-in_err-write-2-clause-moments g c =
 
 pub returns-in_err-sync-2-clause-moments : goal.returns-in_err-sync-2-clause-moments
 returns-in_err-sync-2-clause-moments g c =
-    λ tell body form.
+    λ tell quiet body form.
     let m0 = g.H.Host.trace c.args.host.now in
-    let ready = c.requires.free tell in
+    let free = c.requires.free tell in
     let short = short_body body c.args.bytes.now form (omega arith) in
-    let s = steps m0 c.args.onto body ready short in
+    let s = steps m0 c.args.onto body free short quiet in
     let place : 0 ≡ 0 = refl in
     let e1 = is1 m0 c.args.onto 0 (1 ∷ framed body) 0 c.args.bytes.now (g.H.Host.trace c.write.new.self) place form (c.in_ok-write.ensures.story tell) in
     let e2 = c.in_ok-sync.ensures.story tell ∙ ap (λ m. synced c.args.onto ∷ m) e1 in
@@ -55,11 +56,11 @@ returns-in_err-sync-2-clause-moments g c =
 
 pub returns-clause-moments : goal.returns-clause-moments
 returns-clause-moments g c =
-    λ tell body form.
+    λ tell quiet body form.
     let m0 = g.H.Host.trace c.args.host.now in
-    let ready = c.requires.free tell in
+    let free = c.requires.free tell in
     let short = short_body body c.args.bytes.now form (omega arith) in
-    let s = steps m0 c.args.onto body ready short in
+    let s = steps m0 c.args.onto body free short quiet in
     let place : 0 ≡ 0 = refl in
     let e1 = is1 m0 c.args.onto 0 (1 ∷ framed body) 0 c.args.bytes.now (g.H.Host.trace c.write.new.self) place form (c.in_ok-write.ensures.story tell) in
     let e2 = c.in_ok-sync.ensures.story tell ∙ ap (λ m. synced c.args.onto ∷ m) e1 in
@@ -71,12 +72,46 @@ pub returns-clause-ok : goal.returns-clause-ok
 returns-clause-ok g c =
     λ tell body form.
     let m0 = g.H.Host.trace c.args.host.now in
-    let ready = c.requires.free tell in
+    let free = c.requires.free tell in
     let short = short_body body c.args.bytes.now form (omega arith) in
-    let s = steps m0 c.args.onto body ready short in
     let place : 0 ≡ 0 = refl in
     let e1 = is1 m0 c.args.onto 0 (1 ∷ framed body) 0 c.args.bytes.now (g.H.Host.trace c.write.new.self) place form (c.in_ok-write.ensures.story tell) in
     let e2 = c.in_ok-sync.ensures.story tell ∙ ap (λ m. synced c.args.onto ∷ m) e1 in
     let e3 = c.in_ok-write-2.ensures.story tell ∙ (λ i. wrote Pick 0 (c.pick_byte.ensures i ∷ []) ∷ e2 i) in
     let e4 = c.in_ok-sync-2.ensures.story tell ∙ ap (λ m. synced Pick ∷ m) e3 in
-    ready_at m0 c.args.onto body ready short c.saturating_sub-next.result c.args.bytes.now (g.H.Host.trace c.write.new.self) (g.H.Host.trace c.sync-2.new.self) c.saturating_sub-next.ensures form e1 e4 (c.in_ok-write.ensures.fits tell)
+    placed_at m0 c.args.onto body free short c.saturating_sub-next.result c.args.bytes.now (g.H.Host.trace c.write.new.self) (g.H.Host.trace c.sync-2.new.self) c.saturating_sub-next.ensures form e1 e4 (c.in_ok-write.ensures.fits tell)
+
+pub returns-clause-quiet : goal.returns-clause-quiet
+returns-clause-quiet g c =
+    λ tell.
+    let body = c.requires.form.0 in
+    let form = c.requires.form.1 in
+    let m0 = g.H.Host.trace c.args.host.now in
+    let free = c.requires.free tell in
+    let short = short_body body c.args.bytes.now form (omega arith) in
+    let place : 0 ≡ 0 = refl in
+    let e1 = is1 m0 c.args.onto 0 (1 ∷ framed body) 0 c.args.bytes.now (g.H.Host.trace c.write.new.self) place form (c.in_ok-write.ensures.story tell) in
+    let e2 = c.in_ok-sync.ensures.story tell ∙ ap (λ m. synced c.args.onto ∷ m) e1 in
+    let e3 = c.in_ok-write-2.ensures.story tell ∙ (λ i. wrote Pick 0 (c.pick_byte.ensures i ∷ []) ∷ e2 i) in
+    let e4 = c.in_ok-sync-2.ensures.story tell ∙ ap (λ m. synced Pick ∷ m) e3 in
+    quiet_at m0 c.args.onto body free short (g.H.Host.trace c.sync-2.new.self) e4
+
+-- no call puts anything
+pub returns-in_err-write-clause-says : goal.returns-in_err-write-clause-says
+returns-in_err-write-clause-says g c = λ tell. write_output c.args.onto _ _ (g.H.Host.trace c.args.host.now) (g.H.Host.trace c.write.new.self) (inr (c.in_err-write.ensures.story tell))
+
+pub returns-in_err-sync-clause-says : goal.returns-in_err-sync-clause-says
+returns-in_err-sync-clause-says g c = λ tell. sync_output c.args.onto (g.H.Host.trace c.write.new.self) (g.H.Host.trace c.sync.new.self) (inr (c.in_err-sync.ensures.story tell))
+    ∙ ap output (c.in_ok-write.ensures.story tell)
+
+pub returns-in_err-write-2-clause-says : goal.returns-in_err-write-2-clause-says
+returns-in_err-write-2-clause-says g c = λ tell. write_output Pick 0 (c.pick_byte.result ∷ []) (g.H.Host.trace c.sync.new.self) (g.H.Host.trace c.write-2.new.self) (inr (c.in_err-write-2.ensures.story tell))
+    ∙ ap output (c.in_ok-sync.ensures.story tell) ∙ ap output (c.in_ok-write.ensures.story tell)
+
+pub returns-in_err-sync-2-clause-says : goal.returns-in_err-sync-2-clause-says
+returns-in_err-sync-2-clause-says g c = λ tell. sync_output Pick (g.H.Host.trace c.write-2.new.self) (g.H.Host.trace c.sync-2.new.self) (inr (c.in_err-sync-2.ensures.story tell))
+    ∙ ap output (c.in_ok-write-2.ensures.story tell) ∙ ap output (c.in_ok-sync.ensures.story tell) ∙ ap output (c.in_ok-write.ensures.story tell)
+
+pub returns-clause-says : goal.returns-clause-says
+returns-clause-says g c = λ tell. ap output (c.in_ok-sync-2.ensures.story tell)
+    ∙ ap output (c.in_ok-write-2.ensures.story tell) ∙ ap output (c.in_ok-sync.ensures.story tell) ∙ ap output (c.in_ok-write.ensures.story tell)

@@ -1,0 +1,6 @@
+pub mod Sums
+pub mod Saves
+pub mod Marks
+pub mod Parts
+pub mod Request
+pub mod Views

@@ -1,0 +1,80 @@
+-- The line of an answer has one line feed, its last byte.
+use Rattle.std.proofs.Common.{◌≡◌, ◌⊎◌, inl, inr, ℕ, zero, suc, ◌+◌, ◌-◌, ◌/◌, ◌%◌, ◌^◌, ◌≤◌, ◌==◌, Bool, true, false, cond, if◌then◌else◌, List, [], ◌∷◌, ◌++◌, length, replicate, codes, nat_lt, refl, sym, ◌∙◌, ap, arith}
+use Rattle.std.specs.Fmt.{decimal, digits, digits_onto, digit_glyph}
+use Rattle.std.specs.Char.{digit_char}
+use Rattle.std.proofs.lemmas.Bool.Decides.{eqb_tells}
+use Rattle.cad_syntax.specs.declared.num.Num.{Num}
+use Rattle.cad_syntax.specs.declared.kind.Kind.{Kind}
+use Rattle.cad_syntax.specs.Addresses.{hex_digits, address_text}
+use Rattle.cad_num.specs.Numbers.{is_fixed}
+use Rattle.cad_num.specs.Decimal.{written, magnitude_text, eight_digits}
+use Rattle.cadence.specs.Answer.{Answer, result, address, done, failed, bad, answer_line}
+use Rattle.cadence.specs.Crashes.{line_feeds}
+use Rattle.cadence.proofs.Feeds.{feeds_append}
+
+abbrev more : Bool → ℕ → ℕ
+more c n = if c then suc n else n
+
+apart : (a b : ℕ) → (a ≡ b → ⊥) → (a == b) ≡ false
+apart a b other = by (eqb_tells a b)
+  where
+    by : ((a == b) ≡ true) × (a ≡ b) ⊎ ((a == b) ≡ false) × (a ≡ b → ⊥) → (a == b) ≡ false
+    by (inl same) = absurd (other same.1)
+    by (inr differs) = differs.0
+
+glyph_by : (c : Bool) (d : ℕ) → ((if c then 48 + d else 87 + d) == 10) ≡ false
+glyph_by true d = apart (48 + d) 10 (λ e. omega (arith, e))
+glyph_by false d = apart (87 + d) 10 (λ e. omega (arith, e))
+
+either : (c : Bool) (x y : List ℕ) → line_feeds x ≡ 0 → line_feeds y ≡ 0 → line_feeds (if c then x else y) ≡ 0
+either true x y h k = h
+either false x y h k = k
+
+onto_none : (k n : ℕ) (acc : List ℕ) → line_feeds acc ≡ 0 → line_feeds (digits_onto k 10 false n acc) ≡ 0
+onto_none zero n acc h = h
+onto_none (suc k) n acc h =
+    let longer : line_feeds (digit_glyph false (n % 10) ∷ acc) ≡ 0 = ap (λ c. more c (line_feeds acc)) (glyph_by (nat_lt (n % 10) 10) (n % 10)) ∙ h in
+    either (n / 10 == 0) (digit_glyph false (n % 10) ∷ acc) (digits_onto k 10 false (n / 10) (digit_glyph false (n % 10) ∷ acc)) longer (onto_none k (n / 10) (digit_glyph false (n % 10) ∷ acc) longer)
+
+decimal_none : (n : ℕ) → line_feeds (decimal n) ≡ 0
+unfolding digits
+decimal_none n = onto_none 64 n [] refl
+
+both_none : (xs ys : List ℕ) → line_feeds xs ≡ 0 → line_feeds ys ≡ 0 → line_feeds (xs ++ ys) ≡ 0
+both_none xs ys h k = feeds_append xs ys ∙ omega (arith, h, k)
+
+zeros_none : (k : ℕ) → line_feeds (replicate k 48) ≡ 0
+zeros_none zero = refl
+zeros_none (suc k) = zeros_none k
+
+magnitude_by : (c : Bool) (n : ℕ) → line_feeds (if c then decimal (n / 10 ^ 8) ++ 46 ∷ eight_digits (n % 10 ^ 8) else decimal n) ≡ 0
+magnitude_by true n = both_none (decimal (n / 10 ^ 8)) (46 ∷ eight_digits (n % 10 ^ 8)) (decimal_none (n / 10 ^ 8))
+    (both_none (replicate (8 - length (decimal (n % 10 ^ 8))) 48) (decimal (n % 10 ^ 8)) (zeros_none (8 - length (decimal (n % 10 ^ 8)))) (decimal_none (n % 10 ^ 8)))
+magnitude_by false n = decimal_none n
+
+sign_none : (c : Bool) → line_feeds (if c then 45 ∷ [] else []) ≡ 0
+sign_none true = refl
+sign_none false = refl
+
+written_none : (n : Num) → line_feeds (written n) ≡ 0
+unfolding written
+written_none n = both_none (if n.negative then 45 ∷ [] else []) (magnitude_text n.kind n.magnitude) (sign_none n.negative) (magnitude_by (is_fixed n.kind) n.magnitude)
+
+hex_char : (d : ℕ) → (digit_char d == 10) ≡ false
+hex_char d = glyph_by (nat_lt d 10) d
+
+hex_none : (k n : ℕ) → line_feeds (hex_digits k n) ≡ 0
+unfolding hex_digits
+hex_none zero n = refl
+hex_none (suc k) n = both_none (hex_digits k (n / 16)) (digit_char (n % 16) ∷ []) (hex_none k (n / 16)) (ap (λ c. more c 0) (hex_char (n % 16)))
+
+-- a text without line feeds between two others
+wrapped : (head middle tail : List ℕ) → line_feeds head ≡ 0 → line_feeds middle ≡ 0 → line_feeds tail ≡ 1 → line_feeds (head ++ (middle ++ tail)) ≡ 1
+wrapped head middle tail h m t = feeds_append head (middle ++ tail) ∙ omega (arith, h, feeds_append middle tail, m, t)
+
+pub one_feed : (a : Answer) → line_feeds (answer_line a) ≡ 1
+one_feed (result n) = wrapped (codes "{\"reply\":\"ok\",\"result\":{\"type\":\"Int\",\"value\":\"") (written n) (codes "\"}}" ++ 10 ∷ []) refl (written_none n) refl
+one_feed (address n) = wrapped (codes "{\"address\":\"") (address_text n) (codes "\",\"reply\":\"ok\"}" ++ 10 ∷ []) refl (both_none (codes "0x") (hex_digits 16 n) refl (hex_none 16 n)) refl
+one_feed done = refl
+one_feed (failed n) = wrapped (codes "{\"error\":\"") (decimal n) (codes "\",\"reply\":\"failed\"}" ++ 10 ∷ []) refl (decimal_none n) refl
+one_feed (bad n) = wrapped (codes "{\"error\":\"") (decimal n) (codes "\",\"reply\":\"bad\"}" ++ 10 ∷ []) refl (decimal_none n) refl

@@ -1,0 +1,86 @@
+-- What a crash leaves of a run, command by command.
+use Rattle.std.proofs.Common.{◌≡◌, ◌⊎◌, inl, inr, ℕ, suc, ◌+◌, ◌-◌, ◌≤◌, List, [], ◌∷◌, ◌++◌, length, take, Some, refl, sym, ◌∙◌, ap, subst, arith, append_assoc, length-append}
+use Rattle.std.proofs.lemmas.List.{take-append-le}
+use Rattle.std.proofs.Math.Seq.{take-append-add}
+use Rattle.cad_host.specs.declared.host.Tape.{Tape}
+use Rattle.cad_host.specs.declared.host.Tape.TheVariants.{Pick}
+use Rattle.cad_host.specs.Disk.{Event, output, reads, state, IsDisk, Ran}
+use Rattle.cad_host.proofs.Images.{clean_only}
+use Rattle.cad_host.proofs.Ran.{ran_as, ran_on, ran_none}
+use Rattle.cad_tape.specs.Reading.{IsQuiet, chosen, tape_reading}
+use Rattle.cad_accounts.specs.Registers.{Map}
+use Rattle.cad_accounts.specs.Accounts.{Accounts, StandsFor}
+use Rattle.cad_store.specs.Stores.{DiskHolds}
+use Rattle.cadence.specs.Answer.{Answer, answer_line}
+use Rattle.cadence.specs.Served.{AnswersAll, answer_lines, Served}
+use Rattle.cadence.specs.Crashes.{DiskStands, HasPrefix, IsPrefix, Survives, line_feeds, acknowledged}
+use Rattle.cadence.proofs.Batches.{all_append, all_length}
+use Rattle.cadence.proofs.Feeds.{feeds_append, feeds_lines}
+use Rattle.cadence.proofs.Lines_of.{one_feed}
+
+-- with nothing pending an image is what reads
+quiet_holds : (m : List Event) (disk : Tape → List ℕ) (map : Map) → IsQuiet m → IsDisk m disk → DiskHolds (reads m) map → DiskHolds disk map
+quiet_holds m disk map quiet image h =
+    let pick = clean_only (state Pick m) (disk Pick) quiet.clean_pick (image Pick) in
+    let used = clean_only (state (chosen (reads m Pick)) m) (disk (chosen (reads m Pick))) quiet.clean (image (chosen (reads m Pick))) in
+    record {
+      records = h.records;
+      reading = ap (λ p. tape_reading (disk (chosen p))) pick ∙ ap tape_reading used ∙ h.reading;
+      is = h.is;
+    }
+
+pub quiet_stands : (m : List Event) (disk : Tape → List ℕ) (w : Accounts) → IsQuiet m → IsDisk m disk → DiskStands (reads m) w → DiskStands disk w
+quiet_stands m disk w quiet image h = record { map = h.map; holds = quiet_holds m disk h.map quiet image h.holds; stands = h.stands }
+
+-- before the first command
+pub prefix_none : (w : Accounts) (commands : List (List ℕ)) (m : List Event) → ((disk : Tape → List ℕ) → IsDisk m disk → DiskStands disk w) → IsPrefix w commands m m
+prefix_none w commands m stands = record {
+  grown = omega arith;
+  disk = λ disk image. record { count = 0; within = omega arith; each_known = omega arith; one_more = omega arith; answers = []; accounts = w; are = refl; stands = stands disk image };
+}
+
+-- whatever commands follow
+pub prefix_more : (w : Accounts) (xs ys : List (List ℕ)) (old m : List Event) → IsPrefix w xs old m → IsPrefix w (xs ++ ys) old m
+prefix_more w xs ys old m h = record {
+  grown = h.grown;
+  disk = λ disk image. let p = h.disk disk image in record {
+    count = p.count;
+    within = omega (arith, length-append xs ys, p.within);
+    each_known = p.each_known;
+    one_more = p.one_more;
+    answers = p.answers;
+    accounts = p.accounts;
+    are = subst (λ l. AnswersAll w l p.answers p.accounts) (sym (take-append-le p.count xs ys p.within)) p.are;
+    stands = p.stands;
+  };
+}
+
+grown_by : (w u : Accounts) (xs : List (List ℕ)) (o p : List ℕ) → Served w xs o p u → line_feeds p ≡ line_feeds o + length xs
+grown_by w u xs o p h = ap line_feeds h.output ∙ feeds_append o (answer_lines h.answers) ∙ ap (λ n. line_feeds o + n) (feeds_lines one_feed h.answers ∙ all_length w u xs h.answers h.are)
+
+-- behind commands that were answered
+pub prefix_then : (w u : Accounts) (xs ys : List (List ℕ)) (old mid m : List Event) → Served w xs (output old) (output mid) u → IsPrefix u ys mid m → IsPrefix w (xs ++ ys) old m
+prefix_then w u xs ys old mid m s h =
+    let by = grown_by w u xs (output old) (output mid) s in
+    record {
+      grown = omega (arith, by, h.grown);
+      disk = λ disk image. let p = h.disk disk image in record {
+        count = length xs + p.count;
+        within = omega (arith, length-append xs ys, p.within);
+        each_known = omega (arith, by, h.grown, p.each_known);
+        one_more = omega (arith, by, h.grown, p.one_more);
+        answers = s.answers ++ p.answers;
+        accounts = p.accounts;
+        are = subst (λ l. AnswersAll w l (s.answers ++ p.answers) p.accounts) (sym (take-append-add xs ys p.count)) (all_append w u p.accounts xs (take p.count ys) s.answers p.answers s.are p.are);
+        stands = p.stands;
+      };
+    }
+
+pub survives_more : (w : Accounts) (xs ys : List (List ℕ)) (old new : List Event) → Survives w xs old new → Survives w (xs ++ ys) old new
+survives_more w xs ys old new h quiet = ran_as (IsPrefix w xs old) (IsPrefix w (xs ++ ys) old) old new (λ m. prefix_more w xs ys old m) (h quiet)
+
+pub survives_then : (w u : Accounts) (xs ys : List (List ℕ)) (old mid new : List Event) → Served w xs (output old) (output mid) u → Survives w xs old mid → (IsQuiet old → IsQuiet mid) → Survives u ys mid new
+    → Survives w (xs ++ ys) old new
+survives_then w u xs ys old mid new s h stays k quiet = ran_on (IsPrefix w (xs ++ ys) old) old mid new
+    (survives_more w xs ys old mid h quiet)
+    (ran_as (IsPrefix u ys mid) (IsPrefix w (xs ++ ys) old) mid new (λ m. prefix_then w u xs ys old mid m s) (k (stays quiet)))

@@ -1,0 +1,200 @@
+-- One command, and commands in turn: what is said, and what a crash leaves.
+use Rattle.std.proofs.Common.{◌≡◌, ◌⊎◌, inl, inr, ℕ, suc, ◌+◌, ◌≤◌, List, [], ◌∷◌, ◌++◌, length, take, refl, sym, ◌∙◌, ap, subst, arith, length-append}
+use Rattle.std.proofs.lemmas.List.{append-nil}
+use Rattle.std.proofs.Math.Seq.{take-length}
+use Rattle.cad_host.specs.declared.host.Tape.{Tape}
+use Rattle.cad_host.specs.Disk.{Event, put, output, reads, IsDisk, Ran, BreaksPut}
+use Rattle.cad_host.proofs.Ran.{ran_as, ran_on, ran_none, ran_same, ran_one, ran_end}
+use Rattle.cad_tape.specs.Reading.{IsQuiet}
+use Rattle.cad_accounts.specs.Registers.{Map}
+use Rattle.cad_accounts.specs.Accounts.{Accounts, StandsFor}
+use Rattle.cad_store.specs.declared.store.Store.{Store}
+use Rattle.cad_store.specs.declared.place.Place.{Place}
+use Rattle.cad_store.specs.declared.place.Place.TheVariants.{Behind, Onto}
+use Rattle.cad_store.specs.Stores.{DiskHolds, held, IsAt, IsOn, Keeps}
+use Rattle.cadence.specs.Answer.{Answer, Answers, answer_line}
+use Rattle.cadence.specs.Served.{AnswersAll, Served, ServedSome, Broken}
+use Rattle.cadence.specs.Crashes.{DiskStands, HasPrefix, IsPrefix, Survives, line_feeds, acknowledged}
+use Rattle.cadence.specs.Progress.{Said, Halts, Halted}
+use Rattle.cadence.specs.declared.status.Status.{Status}
+use Rattle.cadence.specs.declared.status.Status.TheVariants.{Done, Usage, ReadFault, WriteFault, DiskFault, Memory, BadStore, InputBound}
+use Rattle.cadence.proofs.Batches.{served_none, served_then, some_then, some_more, broken_then, broken_more, some_of}
+use Rattle.cadence.proofs.Feeds.{feeds_append, feeds_front}
+use Rattle.cadence.proofs.Lines_of.{one_feed}
+use Rattle.cadence.proofs.Prefixes.{quiet_stands, prefix_none, survives_more, survives_then}
+
+-- what is put leaves the tapes
+place_put : (bytes : List ℕ) (m : List Event) (place : Place) → IsAt m place → IsAt (put bytes ∷ m) place
+place_put bytes m (Behind tape at) h = record { used = h.used; ends = h.ends; fits = h.fits }
+place_put bytes m (Onto tape) h = (record { not_used = h.0.not_used; not_pick = h.0.not_pick; whole = h.0.whole }, h.1)
+
+on_put : (bytes : List ℕ) (m : List Event) (store : Store) → IsOn m store → IsOn (put bytes ∷ m) store
+on_put bytes m store h = record { holds = h.holds; place = place_put bytes m store.place h.place }
+
+quiet_put : (bytes : List ℕ) (m : List Event) → IsQuiet m → IsQuiet (put bytes ∷ m)
+quiet_put bytes m h = record { clean = h.clean; clean_pick = h.clean_pick }
+
+-- a store on its tapes, which stand for the accounts that it holds
+pub on_stands : (m : List Event) (store : Store) (w : Accounts) → IsOn m store → StandsFor (held store) w → DiskStands (reads m) w
+on_stands m store w on stands = record { map = held store; holds = on.holds; stands = stands }
+
+pub survives_none : (w : Accounts) (cs : List (List ℕ)) (m : List Event) → DiskStands (reads m) w → Survives w cs m m
+survives_none w cs m stands quiet = ran_none (IsPrefix w cs m) m (prefix_none w cs m (λ disk image. quiet_stands m disk w quiet image stands))
+
+pub said_none : (w : Accounts) (m : List Event) (store : Store) → StandsFor (held store) w → IsOn m store → Said w [] m m store
+said_none w m store stands on = record {
+  accounts = w;
+  served = served_none w (output m);
+  stands = stands;
+  on = on;
+  survives = survives_none w [] m (on_stands m store w on stands);
+  quiet = λ quiet. quiet;
+}
+
+pub said_then : (w : Accounts) (xs ys : List (List ℕ)) (old mid new : List Event) (s t : Store) (h : Said w xs old mid s) → Said h.accounts ys mid new t → Said w (xs ++ ys) old new t
+said_then w xs ys old mid new s t h k = record {
+  accounts = k.accounts;
+  served = served_then w h.accounts k.accounts xs ys (output old) (output mid) (output new) h.served k.served;
+  stands = k.stands;
+  on = k.on;
+  survives = survives_then w h.accounts xs ys old mid new h.served h.survives h.quiet k.survives;
+  quiet = λ quiet. k.quiet (h.quiet quiet);
+}
+
+halts_then : (status : Status) (w u : Accounts) (xs ys : List (List ℕ)) (old mid new : List Event) → Served w xs (output old) (output mid) u → Halts status u ys mid new → Halts status w (xs ++ ys) old new
+halts_then Done w u xs ys old mid new s h = absurd h
+halts_then Usage w u xs ys old mid new s h = absurd h
+halts_then ReadFault w u xs ys old mid new s h = absurd h
+halts_then WriteFault w u xs ys old mid new s h = (h.0, broken_then w u h.0 xs ys (output old) (output mid) (output new) s h.1, h.2)
+halts_then DiskFault w u xs ys old mid new s h = (h.0, some_then w u h.0 xs ys (output old) (output mid) (output new) s h.1)
+halts_then Memory w u xs ys old mid new s h = (h.0, some_then w u h.0 xs ys (output old) (output mid) (output new) s h.1, h.2)
+halts_then BadStore w u xs ys old mid new s h = absurd h
+halts_then InputBound w u xs ys old mid new s h = absurd h
+
+pub halted_then : (status : Status) (w : Accounts) (xs ys : List (List ℕ)) (old mid new : List Event) (s : Store) (h : Said w xs old mid s) → Halted status h.accounts ys mid new → Halted status w (xs ++ ys) old new
+halted_then status w xs ys old mid new s h k = record {
+  halts = halts_then status w h.accounts xs ys old mid new h.served k.halts;
+  survives = survives_then w h.accounts xs ys old mid new h.served h.survives h.quiet k.survives;
+}
+
+halts_more : (status : Status) (w : Accounts) (xs ys : List (List ℕ)) (old new : List Event) → Halts status w xs old new → Halts status w (xs ++ ys) old new
+halts_more Done w xs ys old new h = absurd h
+halts_more Usage w xs ys old new h = absurd h
+halts_more ReadFault w xs ys old new h = absurd h
+halts_more WriteFault w xs ys old new h = (h.0, broken_more w h.0 xs ys (output old) (output new) h.1, h.2)
+halts_more DiskFault w xs ys old new h = (h.0, some_more w h.0 xs ys (output old) (output new) h.1)
+halts_more Memory w xs ys old new h = (h.0, some_more w h.0 xs ys (output old) (output new) h.1, h.2)
+halts_more BadStore w xs ys old new h = absurd h
+halts_more InputBound w xs ys old new h = absurd h
+
+-- whatever commands follow
+pub halted_more : (status : Status) (w : Accounts) (xs ys : List (List ℕ)) (old new : List Event) → Halted status w xs old new → Halted status w (xs ++ ys) old new
+halted_more status w xs ys old new h = record { halts = halts_more status w xs ys old new h.halts; survives = survives_more w xs ys old new h.survives }
+
+-- want of memory between commands
+pub memory_here : (w : Accounts) (cs : List (List ℕ)) (m : List Event) (store : Store) → IsOn m store → StandsFor (held store) w → Halted Memory w cs m m
+memory_here w cs m store on stands = record {
+  halts = (w, record { count = 0; within = omega arith; served = served_none w (output m) }, on_stands m store w on stands);
+  survives = survives_none w cs m (on_stands m store w on stands);
+}
+
+module _ (w v : Accounts) (c : List ℕ) (a : Answer) (answers : Answers w c a v) (old : List Event) where
+  -- nothing is put yet: the accounts are those from before, or the new ones
+  held_back : (m : List Event) → output m ≡ output old → ((disk : Tape → List ℕ) → IsDisk m disk → DiskStands disk w ⊎ DiskStands disk v) → IsPrefix w (c ∷ []) old m
+  held_back m same stands = record {
+    grown = omega (arith, ap line_feeds same);
+    disk = λ disk image. by disk (stands disk image);
+  }
+    where
+      by : (disk : Tape → List ℕ) → DiskStands disk w ⊎ DiskStands disk v → HasPrefix w (c ∷ []) (acknowledged old m) disk
+      by disk (inl h) = record { count = 0; within = omega arith; each_known = omega (arith, ap line_feeds same); one_more = omega arith; answers = []; accounts = w; are = refl; stands = h }
+      by disk (inr h) = record { count = 1; within = omega arith; each_known = omega (arith, ap line_feeds same); one_more = omega (arith, ap line_feeds same); answers = a ∷ []; accounts = v; are = (v, answers, refl); stands = h }
+
+  -- some bytes of the reply were put, or all
+  told : (m : List Event) (bytes : ℕ) → output m ≡ output old ++ take bytes (answer_line a) → ((disk : Tape → List ℕ) → IsDisk m disk → DiskStands disk v) → IsPrefix w (c ∷ []) old m
+  told m bytes is stands =
+      let by = ap line_feeds is ∙ feeds_append (output old) (take bytes (answer_line a)) in
+      let most = feeds_front bytes (answer_line a) in
+      let one = one_feed a in
+      record {
+        grown = omega (arith, by);
+        disk = λ disk image. record { count = 1; within = omega arith; each_known = omega (arith, by, most, one); one_more = omega arith; answers = a ∷ []; accounts = v; are = (v, answers, refl); stands = stands disk image };
+      }
+
+  all_told : (m : List Event) → output m ≡ output old ++ answer_line a → ((disk : Tape → List ℕ) → IsDisk m disk → DiskStands disk v) → IsPrefix w (c ∷ []) old m
+  all_told m is stands = told m (length (answer_line a)) (is ∙ ap (λ l. output old ++ l) (sym (take-length (answer_line a)))) stands
+
+  one_served : (p : List ℕ) → p ≡ output old ++ answer_line a → Served w (c ∷ []) (output old) p v
+  one_served p is = record { answers = a ∷ []; are = (v, answers, refl); output = is ∙ ap (λ l. output old ++ l) (sym (append-nil (answer_line a))) }
+
+  one_broken : (p : List ℕ) (bytes : ℕ) → p ≡ output old ++ take bytes (answer_line a) → Broken w (c ∷ []) (output old) p v
+  one_broken p bytes is = record { count = 0; within = omega arith; answers = []; next = a; bytes = bytes; are = (v, answers, refl); output = is }
+
+  -- up to here the command took effect, and its reply isn't put
+  module _ (mid : List Event) (same : output mid ≡ output old) (ran : IsQuiet old → Ran old mid (IsPrefix w (c ∷ []) old)) (stays : IsQuiet old → IsQuiet mid) (stands : DiskStands (reads mid) v) where
+    images : IsQuiet old → (disk : Tape → List ℕ) → IsDisk mid disk → DiskStands disk v
+    images quiet disk image = quiet_stands mid disk v (stays quiet) image stands
+
+    put_survives : (text : List ℕ) (new : List Event) → text ≡ answer_line a → new ≡ put text ∷ mid → IsQuiet old → Ran old new (IsPrefix w (c ∷ []) old)
+    put_survives text new is made quiet = ran_on (IsPrefix w (c ∷ []) old) old mid new (ran quiet)
+        (ran_one (IsPrefix w (c ∷ []) old) (put text) mid new (ran_end (IsPrefix w (c ∷ []) old) old mid (ran quiet))
+        (all_told (put text ∷ mid) (ap (λ o. o ++ text) same ∙ ap (λ t. output old ++ t) is) (images quiet)) made)
+
+    part_survives : (text : List ℕ) (n : ℕ) (new : List Event) → text ≡ answer_line a → new ≡ put (take n text) ∷ mid → IsQuiet old → Ran old new (IsPrefix w (c ∷ []) old)
+    part_survives text n new is made quiet = ran_on (IsPrefix w (c ∷ []) old) old mid new (ran quiet)
+        (ran_one (IsPrefix w (c ∷ []) old) (put (take n text)) mid new (ran_end (IsPrefix w (c ∷ []) old) old mid (ran quiet))
+        (told (put (take n text) ∷ mid) n (ap (λ o. o ++ take n text) same ∙ ap (λ t. output old ++ take n t) is) (images quiet)) made)
+
+    pub put_said : (text : List ℕ) (new : List Event) (store : Store) → text ≡ answer_line a → new ≡ put text ∷ mid → StandsFor (held store) v → IsOn mid store → Said w (c ∷ []) old new store
+    put_said text new store is made holds on = record {
+      accounts = v;
+      served = one_served (output new) (ap output made ∙ ap (λ o. o ++ text) same ∙ ap (λ t. output old ++ t) is);
+      stands = holds;
+      on = subst (λ m. IsOn m store) (sym made) (on_put text mid store on);
+      survives = put_survives text new is made;
+      quiet = λ quiet. subst IsQuiet (sym made) (quiet_put text mid (stays quiet));
+    }
+
+    pub put_broke : (text : List ℕ) (new : List Event) → text ≡ answer_line a → BreaksPut text mid new → Halted WriteFault w (c ∷ []) old new
+    put_broke text new is (inl made) = record {
+      halts = (v, one_broken (output new) 0 (ap output made ∙ same ∙ sym (append-nil (output old))), subst (λ m. DiskStands (reads m) v) (sym made) stands);
+      survives = λ quiet. subst (λ m. Ran old m (IsPrefix w (c ∷ []) old)) (sym made) (ran quiet);
+    }
+    put_broke text new is (inr broke) = record {
+      halts = (v, one_broken (output new) broke.0 (ap output broke.2 ∙ ap (λ o. o ++ take broke.0 text) same ∙ ap (λ t. output old ++ take broke.0 t) is), subst (λ m. DiskStands (reads m) v) (sym broke.2) stands);
+      survives = part_survives text broke.0 new is broke.2;
+    }
+
+  -- a command that writes nothing
+  stays_ran : DiskStands (reads old) w → IsQuiet old → Ran old old (IsPrefix w (c ∷ []) old)
+  stays_ran stands quiet = survives_none w (c ∷ []) old stands quiet
+
+  -- while its commit is written
+  commit_ran : (before behind : Map) (new : List Event) → StandsFor before w → StandsFor behind v → Ran old new (Keeps old before behind) → Ran old new (IsPrefix w (c ∷ []) old)
+  commit_ran before behind new is_w is_v ran = ran_as (Keeps old before behind) (IsPrefix w (c ∷ []) old) old new (λ m k. held_back m k.output (λ disk image. by disk (k.disk disk image))) ran
+    where
+      by : (disk : Tape → List ℕ) → DiskHolds disk before ⊎ DiskHolds disk behind → DiskStands disk w ⊎ DiskStands disk v
+      by disk (inl h) = inl (record { map = before; holds = h; stands = is_w })
+      by disk (inr h) = inr (record { map = behind; holds = h; stands = is_v })
+
+  pub commit_broke : (before behind : Map) (new : List Event) → output new ≡ output old → StandsFor before w → StandsFor behind v → (IsQuiet old → Ran old new (Keeps old before behind)) → Halted DiskFault w (c ∷ []) old new
+  commit_broke before behind new same is_w is_v ran = record {
+    halts = (w, record { count = 0; within = omega arith; served = record { answers = []; are = refl; output = same ∙ sym (append-nil (output old)) } });
+    survives = λ quiet. commit_ran before behind new is_w is_v (ran quiet);
+  }
+
+  -- a command that writes nothing
+  pub stays_said : (text : List ℕ) (new : List Event) (store : Store) → text ≡ answer_line a → new ≡ put text ∷ old → StandsFor (held store) w → StandsFor (held store) v → IsOn old store → Said w (c ∷ []) old new store
+  stays_said text new store is made is_w is_v on = put_said old refl (stays_ran (on_stands old store w on is_w)) (λ quiet. quiet) (on_stands old store v on is_v) text new store is made is_v on
+
+  pub stays_broke : (text : List ℕ) (new : List Event) (store : Store) → text ≡ answer_line a → BreaksPut text old new → StandsFor (held store) w → StandsFor (held store) v → IsOn old store → Halted WriteFault w (c ∷ []) old new
+  stays_broke text new store is made is_w is_v on = put_broke old refl (stays_ran (on_stands old store w on is_w)) (λ quiet. quiet) (on_stands old store v on is_v) text new is made
+
+  -- a command whose commit was written
+  pub commit_said : (before : Map) (mid new : List Event) (text : List ℕ) (store : Store) → output mid ≡ output old → StandsFor before w → StandsFor (held store) v → (IsQuiet old → Ran old mid (Keeps old before (held store)))
+      → (IsQuiet old → IsQuiet mid) → IsOn mid store → text ≡ answer_line a → new ≡ put text ∷ mid → Said w (c ∷ []) old new store
+  commit_said before mid new text store same is_w is_v ran stays on is made = put_said mid same (λ quiet. commit_ran before (held store) mid is_w is_v (ran quiet)) stays (on_stands mid store v on is_v) text new store is made is_v on
+
+  pub commit_told : (before : Map) (mid new : List Event) (text : List ℕ) (store : Store) → output mid ≡ output old → StandsFor before w → StandsFor (held store) v → (IsQuiet old → Ran old mid (Keeps old before (held store)))
+      → (IsQuiet old → IsQuiet mid) → IsOn mid store → text ≡ answer_line a → BreaksPut text mid new → Halted WriteFault w (c ∷ []) old new
+  commit_told before mid new text store same is_w is_v ran stays on is made = put_broke mid same (λ quiet. commit_ran before (held store) mid is_w is_v (ran quiet)) stays (on_stands mid store v on is_v) text new is made

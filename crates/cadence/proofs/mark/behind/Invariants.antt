@@ -1,7 +1,0 @@
-use Rattle.std.proofs.Common.{◌≡◌, ◌≤◌, take, length}
-use Rattle.cadence.specs.Sums.{kinds_of}
-use Rattle.cadence.specs.Marks.{kinds_asked}
-use Rattle.cadence.proofs.mark.behind.Given as goal
-
-abbrev pub invariant-loop-i : goal.invariant-loop-i
-invariant-loop-i l = (kinds_of (take l.i l.tokens) ≡ kinds_asked (take l.i l.marks)) × (l.i ≤ length l.tokens)
