@@ -1,13 +1,13 @@
 -- Entries one after another, in another order and in one list.
-use Rattle.std.proofs.Common.{◌≡◌, ℕ, Bool, true, false, cond, List, [], ◌∷◌, ◌++◌, Option, Some, None, refl, sym, ap, subst, ◌∙◌, inl, inr}
-use Rattle.std.specs.Prelude.{map, not, ◌&&◌}
+use Rattle.std.proofs.Common.{◌≡◌, ℕ, Bool, true, false, cond, List, [], ◌∷◌, ◌++◌, None, refl, sym, ap, ◌∙◌, inl, inr}
+use Rattle.std.specs.Prelude.{not, ◌&&◌}
 use Rattle.std.specs.List.{filter}
 use Rattle.std.specs.List.Sorted.{IsStableBy, ties}
 use Rattle.std.specs.Ordering.{nat_cmp, is_lt}
 use Rattle.std.specs.Cmp.Lexicographic.{slice_cmp}
 use Rattle.std.proofs.lemmas.Bool.{cases_Bool, false≢true, false_from_ne_true}
 use Rattle.cad_wire.specs.declared.entry.Entry.{Entry}
-use Rattle.cad_accounts.specs.Registers.{Map, same_key, at, applied, changed, folded, no_registers}
+use Rattle.cad_accounts.specs.Registers.{Map, same_key, applied, changed, folded, no_registers}
 use Rattle.cad_accounts.specs.Rows.{before}
 use Rattle.cad_accounts.proofs.Keys.{same_is, not_itself}
 
