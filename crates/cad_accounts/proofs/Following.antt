@@ -1,6 +1,6 @@
 -- One register behind another.
-use Rattle.std.proofs.Common.{◌≡◌, ◌≢◌, ℕ, zero, suc, ◌+◌, ◌<◌, ◌≤◌, ◌↔◌, Bool, true, false, IsTrue, nat_lt, List, [], ◌∷◌, length, drop, get_or, Option, Some, None, Result, Ok, Err, refl, sym, ap, subst, ◌∙◌, arith, inl, inr, add-one}
-use Rattle.std.specs.Prelude.{slice_get, option_map, map, IfOk, IfSome, IfNone}
+use Rattle.std.proofs.Common.{◌≡◌, ℕ, zero, suc, ◌+◌, ◌<◌, ◌↔◌, Bool, true, IsTrue, nat_lt, List, [], ◌∷◌, length, drop, Option, Some, None, Result, Ok, Err, refl, sym, ap, subst, ◌∙◌, arith, inl, inr}
+use Rattle.std.specs.Prelude.{slice_get, option_map, map, IfOk}
 use Rattle.std.proofs.lemmas.Bool.Decides.{nat_tests}
 use Rattle.std.proofs.lemmas.Option.{get_or_from_slice_get}
 use Rattle.std.specs.declared.alloc.AllocError.{AllocError}
@@ -8,8 +8,7 @@ use Rattle.cad_wire.specs.declared.entry.Key.{Key}
 use Rattle.cad_wire.proofs.FieldLaws.{some_is}
 use Rattle.cad_accounts.specs.declared.row.Row.{Row}
 use Rattle.cad_accounts.specs.Registers.{at, are_rising}
-use Rattle.cad_accounts.specs.Rows.{StandsAt}
-use Rattle.cad_accounts.specs.InOrder.{IsHead, IsController, IsStored, Steps, Follow, InOrder}
+use Rattle.cad_accounts.specs.InOrder.{IsHead, Steps, Follow, InOrder}
 use Rattle.cad_accounts.proofs.Places.{found}
 use Rattle.cad_accounts.proofs.Spelled.{same_number, fronts_same}
 

@@ -1,5 +1,5 @@
 -- The accounts that rows in their order are of.
-use Rattle.std.proofs.Common.{◌≡◌, ◌≢◌, ◌⊎◌, ℕ, suc, ◌+◌, ◌<◌, ◌≤◌, ◌^◌, Bool, true, false, cond, eqb, List, [], ◌∷◌, ◌++◌, Option, Some, None, refl, sym, ap, subst, ◌∙◌, arith, inl, inr}
+use Rattle.std.proofs.Common.{◌≡◌, ◌≢◌, ◌⊎◌, ℕ, ◌<◌, ◌≤◌, ◌^◌, Bool, true, false, cond, eqb, List, [], ◌∷◌, ◌++◌, Option, Some, None, refl, sym, ap, subst, ◌∙◌, arith, inl, inr}
 use Rattle.std.specs.Prelude.{option_map, option_and_then, IfSome, ◌&&◌}
 use Rattle.std.specs.Str.{IsUtf8}
 use Rattle.std.proofs.lemmas.Bool.{cases_eq, cases_lt, cases_Bool, eq-eqb, ne_eqb, eqb-true, and_parts, and_from, cond-true, cond-false, both_ways}
@@ -7,11 +7,11 @@ use Rattle.cad_values.specs.declared.value.Value.{Value}
 use Rattle.cad_wire.specs.Fields.{number_field}
 use Rattle.cad_codec.specs.Spelling.{value_bytes}
 use Rattle.cad_accounts.specs.declared.row.Row.{Row}
-use Rattle.cad_accounts.specs.Registers.{Map, same_key, at}
-use Rattle.cad_accounts.specs.Accounts.{Account, Accounts, IsInt, IsSound, IsSoundAccount, Has, IsKey, AreRegisters, StandsFor, head_key, controller_key, stored_key, no_accounts, most_accounts, controller_bytes, stored_bytes}
+use Rattle.cad_accounts.specs.Registers.{same_key, at}
+use Rattle.cad_accounts.specs.Accounts.{Account, Accounts, IsInt, IsSound, IsSoundAccount, IsKey, AreRegisters, head_key, controller_key, stored_key, no_accounts, most_accounts}
 use Rattle.cad_accounts.specs.Accounts.IsKey.{head, controller, stored}
 use Rattle.cad_accounts.specs.Worlds.{AreSound}
-use Rattle.cad_accounts.specs.InOrder.{IsHead, IsController, IsStored, Steps, Follow, InOrder}
+use Rattle.cad_accounts.specs.InOrder.{IsHead, Steps, Follow, InOrder}
 use Rattle.cad_accounts.proofs.Keys.{same_is, is_same, not_same, before_differs, behind_differs}
 use Rattle.cad_accounts.proofs.KeyOrder.{head_first, head_before_stored, controller_before_stored, same_controller, same_address, same_identifier}
 

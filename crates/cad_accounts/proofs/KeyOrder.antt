@@ -1,14 +1,12 @@
 -- The keys of registers in byte order: the head, the controllers by address, what is stored.
-use Rattle.std.proofs.Common.{◌≡◌, ℕ, ◌+◌, ◌*◌, ◌^◌, ◌/◌, ◌%◌, ◌<◌, ◌≤◌, Bool, true, false, cond, List, [], ◌∷◌, ◌++◌, refl, sym, ap, subst, ◌∙◌, arith, inl, inr, ◌⊎◌, drop}
+use Rattle.std.proofs.Common.{◌≡◌, ℕ, ◌^◌, ◌/◌, ◌%◌, ◌<◌, true, List, [], ◌∷◌, refl, sym, ap, ◌∙◌, arith, inl, inr, ◌⊎◌, drop}
 use Rattle.std.specs.Ordering.{nat_cmp, is_lt, ordering_then}
 use Rattle.std.specs.declared.cmp.Ordering.TheVariants.{Less, Equal}
 use Rattle.std.specs.Cmp.Lexicographic.{slice_cmp}
 use Rattle.std.specs.Int.{bytes_high_first}
 use Rattle.std.proofs.lemmas.Bool.{cases_lt, lt-ltb, le-ltb, eq-eqb}
-use Rattle.cad_accounts.specs.Registers.{same_key}
 use Rattle.cad_accounts.specs.Accounts.{head_key, controller_key, stored_key}
 use Rattle.cad_accounts.specs.Rows.{before}
-use Rattle.cad_accounts.proofs.Keys.{before_differs, behind_differs, not_same, same_is}
 use Rattle.cad_accounts.proofs.Spelled.{same_number, fronts_same, rests_same}
 
 pub head_first : (address : ℕ) → before head_key (controller_key address) ≡ true

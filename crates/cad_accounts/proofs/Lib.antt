@@ -17,3 +17,4 @@ mod KeyOrder
 mod FromRows
 mod ToRows
 mod SoundRows
+mod OneByOne

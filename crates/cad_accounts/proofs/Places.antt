@@ -1,10 +1,10 @@
 -- Where a key's row stands, and what a change there makes of the registers.
 use Rattle.std.proofs.Common.{◌≡◌, ℕ, zero, suc, ◌+◌, ◌-◌, ◌*◌, ◌^◌, ◌<◌, ◌≤◌, Bool, true, false, cond, List, [], ◌∷◌, ◌++◌, length, take, drop, get_or, Option, Some, None, Result, Ok, Err, refl, sym, ap, subst, ◌∙◌, arith, add-one}
-use Rattle.std.specs.Prelude.{sum_by, map, ◌&&◌, nat_lt}
+use Rattle.std.specs.Prelude.{sum_by, map, nat_lt}
 use Rattle.std.specs.List.{insert, remove, flat_map}
-use Rattle.std.specs.List.Sorted.{IsSearchInRange, IsBinarySearchResult, IsSortedBy, IsNonDecreasingBy}
-use Rattle.std.specs.Ordering.{nat_cmp, is_lt, ordering_index}
-use Rattle.std.specs.declared.cmp.Ordering.TheVariants.{Less, Equal, Greater}
+use Rattle.std.specs.List.Sorted.{IsSearchInRange, IsBinarySearchResult, IsSortedBy}
+use Rattle.std.specs.Ordering.{nat_cmp, is_lt}
+use Rattle.std.specs.declared.cmp.Ordering.TheVariants.{Less, Greater}
 use Rattle.std.specs.Cmp.Lexicographic.{slice_cmp}
 use Rattle.std.proofs.lemmas.Cmp.{nat_list_cmp_total}
 use Rattle.std.proofs.lemmas.List.Sorted.{searchable_from_sorted}
@@ -22,8 +22,8 @@ use Rattle.cad_accounts.specs.Registers.{entry_of, size_of}
 use Rattle.cad_accounts.specs.declared.row.Row.{Row}
 use Rattle.cad_accounts.specs.Registers.{same_key, at, are_rising, changed}
 use Rattle.cad_accounts.specs.Rows.{row_size, is_short, are_short, before, AllBefore, AllBehind, StandsAt, BelongsAt, IsPlace}
-use Rattle.cad_accounts.proofs.Keys.{same_is, is_same, itself, passes, before_differs, behind_differs, not_back, equal_is, greater_is}
-use Rattle.cad_accounts.proofs.RowLaws.{both_left, both_right, tail_rises, first_before, rises_with, rises_without, before_of, behind_of, none_at, at_with, short_with, short_without}
+use Rattle.cad_accounts.proofs.Keys.{same_is, is_same, not_back, equal_is, greater_is}
+use Rattle.cad_accounts.proofs.RowLaws.{both_left, both_right, tail_rises, rises_with, rises_without, before_of, behind_of, none_at, at_with, short_with, short_without}
 
 -- ---- the search
 

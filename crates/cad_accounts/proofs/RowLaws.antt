@@ -1,12 +1,10 @@
 -- Rows that rise: what an insertion, a removal and a new value make of them.
-use Rattle.std.proofs.Common.{◌≡◌, ℕ, suc, ◌+◌, ◌*◌, ◌^◌, ◌<◌, ◌≤◌, Bool, true, false, cond, List, [], ◌∷◌, ◌++◌, length, take, drop, get_or, Option, Some, None, refl, sym, ap, subst, ◌∙◌, arith}
-use Rattle.std.specs.Prelude.{sum_by, ◌&&◌, nat_lt}
-use Rattle.std.specs.List.{insert, remove}
-use Rattle.std.proofs.Math.ListN.{set}
+use Rattle.std.proofs.Common.{◌≡◌, ℕ, Bool, true, false, cond, List, [], ◌∷◌, ◌++◌, Some, None, refl, sym, ap, ◌∙◌}
+use Rattle.std.specs.Prelude.{◌&&◌}
 use Rattle.cad_accounts.specs.declared.row.Row.{Row}
-use Rattle.cad_accounts.specs.Registers.{same_key, at, are_rising, changed}
-use Rattle.cad_accounts.specs.Rows.{row_size, is_short, are_short, before, AllBefore, AllBehind, StandsAt, BelongsAt, IsPlace}
-use Rattle.cad_accounts.proofs.Keys.{same_is, is_same, itself, passes, before_differs, behind_differs}
+use Rattle.cad_accounts.specs.Registers.{same_key, at, are_rising}
+use Rattle.cad_accounts.specs.Rows.{is_short, are_short, before, AllBefore, AllBehind}
+use Rattle.cad_accounts.proofs.Keys.{same_is, is_same, passes, before_differs, behind_differs}
 
 pub both_left : (a b : Bool) → (a && b) ≡ true → a ≡ true
 both_left true b e = refl

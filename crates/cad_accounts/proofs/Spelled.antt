@@ -1,14 +1,13 @@
 -- What bytes of registers spell.
-use Rattle.std.proofs.Common.{◌≡◌, ◌≢◌, ℕ, ◌+◌, ◌<◌, ◌≤◌, ◌^◌, ◌↔◌, Bool, true, false, IsTrue, List, [], ◌∷◌, ◌++◌, length, take, drop, Option, Some, None, Result, Ok, Err, refl, sym, ap, subst, ◌∙◌, arith, inl, inr}
+use Rattle.std.proofs.Common.{◌≡◌, ◌≢◌, ℕ, ◌+◌, ◌<◌, ◌≤◌, ◌^◌, ◌↔◌, Bool, IsTrue, List, ◌++◌, length, take, drop, Some, Ok, refl, sym, ap, subst, ◌∙◌, arith, inl, inr}
 use Rattle.std.proofs.lemmas.Bool.{cases_lt}
-use Rattle.std.specs.Int.{w64, from_be_bytes, to_be_bytes}
+use Rattle.std.specs.Int.{w64, from_be_bytes}
 use Rattle.std.proofs.lemmas.Nat.{be_bytes_8, from_be_bytes-to_be_bytes_8}
 use Rattle.std.proofs.lemmas.List.{take-append-drop, length-take, get_or-take, get_or_past}
-use Rattle.cad_syntax.specs.declared.kind.Kind.TheVariants.{Int, Address}
+use Rattle.cad_syntax.specs.declared.kind.Kind.TheVariants.{Int}
 use Rattle.cad_syntax.specs.declared.num.Num.{Num}
 use Rattle.cad_values.specs.declared.value.Value.{Value}
-use Rattle.cad_values.specs.declared.value.Value.TheVariants.{Number, Other}
-use Rattle.cad_wire.specs.declared.error.DecodeError.{DecodeError}
+use Rattle.cad_values.specs.declared.value.Value.TheVariants.{Number}
 use Rattle.cad_wire.specs.Fields.{number_field, AreBytes}
 use Rattle.cad_wire.specs.Reading.{Gives}
 use Rattle.cad_codec.specs.Spelling.{value_bytes, HasBytes}

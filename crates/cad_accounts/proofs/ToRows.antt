@@ -1,5 +1,5 @@
 -- The registers of sound accounts stand in their order.
-use Rattle.std.proofs.Common.{◌≡◌, ◌≢◌, ◌⊎◌, ℕ, ◌+◌, ◌<◌, ◌≤◌, ◌^◌, Bool, true, false, cond, eqb, List, [], ◌∷◌, ◌++◌, Option, Some, None, refl, sym, ap, subst, ◌∙◌, arith, inl, inr}
+use Rattle.std.proofs.Common.{◌≡◌, ◌≢◌, ◌⊎◌, ℕ, ◌+◌, ◌<◌, ◌≤◌, ◌^◌, true, false, eqb, List, [], ◌∷◌, ◌++◌, Option, Some, None, refl, sym, ap, subst, ◌∙◌, arith, inl, inr}
 use Rattle.std.specs.Prelude.{option_map, option_and_then, IfSome}
 use Rattle.std.specs.Str.{IsUtf8}
 use Rattle.std.proofs.lemmas.Bool.{cases_eq, cases_lt, cases_Bool, eq-eqb, ne_eqb, cond-true, cond-false}
@@ -8,12 +8,12 @@ use Rattle.cad_wire.specs.Fields.{number_field}
 use Rattle.cad_codec.specs.Spelling.{value_bytes}
 use Rattle.cad_accounts.specs.declared.row.Row.{Row}
 use Rattle.cad_accounts.specs.Registers.{Map, same_key, at, are_rising}
-use Rattle.cad_accounts.specs.Accounts.{Account, Accounts, IsInt, IsSound, IsSoundAccount, Has, IsKey, AreRegisters, StandsFor, head_key, controller_key, stored_key, most_accounts, head_bytes, controller_bytes, stored_bytes}
+use Rattle.cad_accounts.specs.Accounts.{Account, Accounts, IsInt, IsSoundAccount, Has, IsKey, StandsFor, head_key, controller_key, stored_key}
 use Rattle.cad_accounts.specs.Accounts.IsKey.{head, controller, stored}
 use Rattle.cad_accounts.specs.Rows.{before, AllBehind}
 use Rattle.cad_accounts.specs.Worlds.{AreSound}
-use Rattle.cad_accounts.specs.InOrder.{IsHead, IsController, IsStored, Steps, Follow, InOrder}
-use Rattle.cad_accounts.proofs.Keys.{same_is, is_same, itself, not_same, not_itself, passes, behind_differs}
+use Rattle.cad_accounts.specs.InOrder.{IsController, IsStored, Follow, InOrder}
+use Rattle.cad_accounts.proofs.Keys.{same_is, itself, not_same, not_itself, passes, behind_differs}
 use Rattle.cad_accounts.proofs.RowLaws.{tail_rises, first_before, none_behind}
 use Rattle.cad_accounts.proofs.KeyOrder.{head_first, controllers_rise, same_controller}
 
