@@ -10,3 +10,9 @@ pub mod Changes
 mod Keys
 mod RowLaws
 mod Places
+mod Spelled
+mod Following
+mod KeyOrder
+mod FromRows
+mod ToRows
+mod SoundRows

@@ -5,6 +5,7 @@ mod laws;
 mod overlay;
 mod registers;
 mod row;
+mod sound;
 mod spelling;
 mod stops;
 mod world;
@@ -12,5 +13,11 @@ mod world;
 pub use laws::{none_at_first, one_map, one_size, one_state};
 pub use registers::{MapRegisters, Registers};
 pub use row::Row;
+pub use sound::is_sound;
 pub use stops::{AccountStop, ValueStop, WorldStop};
 pub use world::{Changes, World};
+
+#[cfg(test)]
+mod tests;
+#[cfg(test)]
+mod world_tests;
