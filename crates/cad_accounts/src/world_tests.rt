@@ -45,6 +45,22 @@ fn has_first<R: Registers>(world: &World<'_, R>) -> Result<bool, AllocError>
     Ok(world.accounts()? >= 1)
 }
 
+// The registers with their first account.
+fn enter<'a>(
+    alloc: Global,
+    registers: &'a MapRegisters,
+) -> Result<Option<World<'a, MapRegisters>>, AllocError>
+    ensures { IfOk result (λ o. IfSome o (λ world. HasAccount (current world) 1)) }
+{
+    let sound = is_sound(alloc, registers)?;
+    if !sound {
+        return Ok(None);
+    }
+    let world = World::over(alloc, registers);
+    let first = has_first(&world)?;
+    if first { Ok(Some(world)) } else { Ok(None) }
+}
+
 #[test]
 fn makes_accounts(rt: HostRuntime) -> Result<(), Fail> {
     let registers = MapRegisters::new(rt.alloc());
@@ -83,13 +99,26 @@ fn saves_and_loads(rt: HostRuntime) -> Result<(), Fail> {
     let first = world.create_account()?;
     let x = name_of(rt.alloc(), "x")?;
     assert!(rt; world.load_value(first, &x)?.is_none());
-    world.save_value(first, &x, int_of(7).ok_or("an Int")?)?;
-    match world.save_value(first, &x, int_of(8).ok_or("an Int")?) {
-        Err(ValueStop::Occupied(value)) => assert!(rt; Some(value) == int_of(8)),
-        _ => return Err("something is stored")?,
-    }
+    let seven = int_of(7).ok_or("an Int")?;
+    world.save_value(first, &x, seven)?;
     assert!(rt; world.load_value(first, &x)? == int_of(7));
     assert!(rt; world.load_value(first, &x)?.is_none());
+    Ok(())
+}
+
+#[test]
+fn hands_back(rt: HostRuntime) -> Result<(), Fail> {
+    let registers = MapRegisters::new(rt.alloc());
+    let mut world = over_none(rt.alloc(), &registers);
+    let first = world.create_account()?;
+    let x = name_of(rt.alloc(), "x")?;
+    let seven = int_of(7).ok_or("an Int")?;
+    world.save_value(first, &x, seven)?;
+    let eight = int_of(8).ok_or("an Int")?;
+    let stop = world.save_value(first, &x, eight).err();
+    let stop = stop.ok_or("something is stored")?;
+    let eight = int_of(8).ok_or("an Int")?;
+    assert!(rt; stop == ValueStop::Occupied(eight));
     Ok(())
 }
 
@@ -99,7 +128,8 @@ fn with_seven(alloc: Global) -> Result<MapRegisters, Fail> {
     let mut world = over_none(alloc, &registers);
     let first = world.create_account()?;
     let x = name_of(alloc, "x")?;
-    world.save_value(first, &x, int_of(7).ok_or("an Int")?)?;
+    let seven = int_of(7).ok_or("an Int")?;
+    world.save_value(first, &x, seven)?;
     for entry in world.changes().into_vec() {
         registers.set(entry.key, entry.value.ok_or("none is removed")?)?;
     }
@@ -109,9 +139,7 @@ fn with_seven(alloc: Global) -> Result<MapRegisters, Fail> {
 #[test]
 fn one_removal(rt: HostRuntime) -> Result<(), Fail> {
     let registers = with_seven(rt.alloc())?;
-    assert!(rt; is_sound(rt.alloc(), &registers)?);
-    let mut world = World::over(rt.alloc(), &registers);
-    assert!(rt; has_first(&world)?);
+    let mut world = enter(rt.alloc(), &registers)?.ok_or("sound registers")?;
     let x = name_of(rt.alloc(), "x")?;
     assert!(rt; world.load_value(Address(1), &x)? == int_of(7));
     let changes = world.changes();
@@ -126,9 +154,7 @@ fn one_removal(rt: HostRuntime) -> Result<(), Fail> {
 #[test]
 fn no_change(rt: HostRuntime) -> Result<(), Fail> {
     let registers = with_seven(rt.alloc())?;
-    assert!(rt; is_sound(rt.alloc(), &registers)?);
-    let mut world = World::over(rt.alloc(), &registers);
-    assert!(rt; has_first(&world)?);
+    let mut world = enter(rt.alloc(), &registers)?.ok_or("sound registers")?;
     let x = name_of(rt.alloc(), "x")?;
     let seven = world.load_value(Address(1), &x)?.ok_or("7 is stored")?;
     world.save_value(Address(1), &x, seven)?;
