@@ -1,6 +1,7 @@
 //! Accounts that are kept as registers.
 #![tactic(auto)]
 
+mod folding;
 mod laws;
 mod overlay;
 mod registers;
@@ -10,6 +11,7 @@ mod spelling;
 mod stops;
 mod world;
 
+pub use folding::fold_records;
 pub use laws::{none_at_first, one_map, one_size, one_state};
 pub use registers::{MapRegisters, Registers};
 pub use row::Row;

@@ -1,6 +1,6 @@
 use super::*;
 use cad_syntax::{Bytes, Items};
-use cad_wire::{Entry, Key};
+use cad_wire::{Entries, Entry, Key};
 use std::alloc::{AllocError, Global};
 use std::test::*;
 
@@ -90,6 +90,30 @@ fn removes(rt: HostRuntime) -> Result<(), Fail> {
     assert_eq!(rt; first.0.as_slice(), FIRST.as_slice());
     remove(rt.alloc(), &mut registers, &[0])?;
     assert_eq!(rt; registers.len(), 1);
+    Ok(())
+}
+
+fn record_of(alloc: Global, key: &[u8], value: Option<&[u8]>) -> Result<Entries, AllocError> {
+    let key = key_of(alloc, key)?;
+    let value = match value {
+        None => None,
+        Some(bytes) => Some(bytes_of(alloc, bytes)?),
+    };
+    let mut entries = Items::new(alloc);
+    entries.push(Entry { key, value })?;
+    Ok(entries)
+}
+
+#[test]
+fn folds(rt: HostRuntime) -> Result<(), Fail> {
+    let mut records = Items::new(rt.alloc());
+    records.push(record_of(rt.alloc(), &FIRST, Some(&[9]))?)?;
+    records.push(record_of(rt.alloc(), &X, Some(&SEVEN))?)?;
+    records.push(record_of(rt.alloc(), &[0], Some(&HEAD))?)?;
+    records.push(record_of(rt.alloc(), &X, None)?)?;
+    records.push(record_of(rt.alloc(), &FIRST, Some(&ONE))?)?;
+    let registers = fold_records(rt.alloc(), records)?;
+    assert!(rt; registers == one_account(rt.alloc())?);
     Ok(())
 }
 

@@ -1,5 +1,4 @@
-use Rattle.std.proofs.Common.{◌≡◌, arith, None, subst, sym}
-use Rattle.std.specs.Option.{IfNone}
+use Rattle.std.proofs.Common.{arith}
 use Rattle.cad_accounts.proofs.Spelled.{head_is, no_identity}
 use Rattle.cad_accounts.proofs.sound.head_count.Goals as goal
 use Rattle.cad_accounts.proofs.sound.head_count.Goals.{else-count-ge1-via-then-count-ge1+then-count-le-MOST_ACCOUNTS+else-identity-eq1, else-count-ge1-via-then-count-ge1+else-count-le-MOST_ACCOUNTS, else-count-ge1-via-else-count-ge1}

@@ -1,4 +1,3 @@
-use Rattle.std.proofs.Common.{sym, ap, ◌∙◌}
 use Rattle.cad_accounts.proofs.Following.{not_missing, read}
 use Rattle.cad_accounts.proofs.sound.row_at.Goals as goal
 

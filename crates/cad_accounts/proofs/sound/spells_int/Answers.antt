@@ -1,5 +1,3 @@
-use Rattle.std.proofs.Common.{◌∙◌, ap}
-use Rattle.cad_codec.specs.Spelling.{value_bytes}
 use Rattle.cad_accounts.proofs.Spelled.{spells}
 use Rattle.cad_accounts.proofs.sound.spells_int.Goals as goal
 
