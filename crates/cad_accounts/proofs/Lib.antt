@@ -7,6 +7,13 @@ pub mod Creating
 pub mod Storing
 pub mod Access
 pub mod Changes
-mod Keys
-mod RowLaws
-mod Places
+pub mod Keys
+pub mod RowLaws
+pub mod Places
+mod Spelled
+mod Following
+mod KeyOrder
+mod FromRows
+mod ToRows
+mod SoundRows
+mod OneByOne

@@ -5,3 +5,4 @@ pub mod Accounts
 pub mod Worlds
 pub mod Rows
 pub mod Memory
+pub mod InOrder

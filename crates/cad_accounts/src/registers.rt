@@ -1,5 +1,5 @@
 // Registers in memory, and the interface to any.
-ghost use Rattle.std.specs.Prelude.{◌≡◌, ◌+◌, ◌<◌, ◌≤◌, ◌^◌, ◌-◌, min, [], List, ℕ, true, length, map, slice_get, option_map, sum_by, IfOk, OnOk, OnErr, Some};
+ghost use Rattle.std.specs.Prelude.{◌≡◌, ◌+◌, ◌<◌, ◌≤◌, ◌^◌, ◌-◌, min, [], List, ℕ, true, length, map, slice_get, option_map, sum_by, IfOk, OnOk, OnErr, Some, IsTrue, ◌↔◌};
 ghost use Rattle.cad_wire.specs.Body.{Fits};
 ghost use Rattle.cad_accounts.specs.declared.row.Row.{Row};
 ghost use Rattle.cad_accounts.specs.Registers.{at, are_rising, changed, size_of};
@@ -40,6 +40,19 @@ fn size_of_row(row: &Row) -> u128
     ensures { result ≡ row_size row.now }
 {
     9 + (row.key.0.len() as u128 + row.value.len() as u128)
+}
+
+// Whether 4 bytes can tell the lengths of its key and its bytes.
+fn can_be_told(entry: &Entry) -> bool
+    ensures { IsTrue result ↔ Fits entry.now }
+{
+    if entry.key.0.len() > u32::MAX as usize {
+        return false;
+    }
+    match &entry.value {
+        None => true,
+        Some(value) => value.len() <= u32::MAX as usize,
+    }
 }
 
 /// Registers in memory: fewer than 2^32, each with a key and bytes shorter than 2^32.
@@ -174,20 +187,28 @@ impl MapRegisters {
         }
     }
 
-    /// Gives a register these bytes. AllocError where memory runs out, or where there would be 2^32 registers or more, or
-    /// where the key or the bytes are 2^32 bytes long or more: then all is as it was.
+    /// Changes a register to an entry's value. AllocError where memory runs out, or where there would be 2^32 registers or
+    /// more, or where the key or the bytes are 2^32 bytes long or more: then all is as it was.
+    pub fn apply(&mut self, entry: Entry) -> Result<(), AllocError>
+        ensures ok { OnOk result ((key : List ℕ) → at (rows_of self.new) key ≡ changed entry.key.0 entry.value (at (rows_of self.old)) key) }
+        ensures err { OnErr result (rows_of self.new ≡ rows_of self.old) }
+    {
+        if !can_be_told(&entry) {
+            return Err(AllocError);
+        }
+        self.reserve(1)?;
+        self.change(entry);
+        Ok(())
+    }
+
+    /// Gives a register these bytes, as `apply` does.
     pub fn set(&mut self, key: Key, value: Bytes) -> Result<(), AllocError>
         ensures ok { OnOk result ((k : List ℕ) → at (rows_of self.new) k ≡ changed key.0 (Some value) (at (rows_of self.old)) k) }
         ensures err { OnErr result (rows_of self.new ≡ rows_of self.old) }
     {
-        if key.0.len() > u32::MAX as usize || value.len() > u32::MAX as usize {
-            return Err(AllocError);
-        }
-        self.reserve(1)?;
-        self.change(Entry {
+        self.apply(Entry {
             key,
             value: Some(value),
-        });
-        Ok(())
+        })
     }
 }

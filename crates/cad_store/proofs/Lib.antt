@@ -1,0 +1,5 @@
+pub mod Balance
+pub mod Holding
+pub mod Placing
+pub mod Turning
+pub mod Stopping

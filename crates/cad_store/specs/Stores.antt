@@ -37,6 +37,15 @@ abbrev pub IsAt : List Event → Place → Type 0
 IsAt m (Behind tape at) = IsPlaced m tape at
 IsAt m (Onto tape) = IsFree m tape × (length (reads m (chosen (reads m Pick))) ≡ 0)
 
+-- the other of the two tapes for records
+abbrev pub other : Tape → Tape
+other A = B
+other _ = A
+
+-- that place, where the tape in use has this length and its records end there
+abbrev pub place_behind : Tape → ℕ → ℕ → Place
+place_behind tape length ending = if length == 0 then Onto (other tape) else Behind tape ending
+
 -- the tapes read as the store left them
 pub record IsOn (m : List Event) (store : Store) : Type 0 where
   pub holds : DiskHolds (reads m) (held store)
@@ -53,11 +62,6 @@ pub record IsOut (store : Store) (commit : Commit) (changes : List Entry) : Type
 pub record Keeps (old : List Event) (before behind : Map) (m : List Event) : Type 0 where
   pub output : output m ≡ output old
   pub disk : (disk : Tape → List ℕ) → IsDisk m disk → DiskHolds disk before ⊎ DiskHolds disk behind
-
--- the other of the two tapes for records
-abbrev pub other : Tape → Tape
-other A = B
-other _ = A
 
 -- A record of these bytes behind those of the tape in use; or alone on the other tape, where the tape in use is empty.
 abbrev pub recorded : List ℕ → List Event → List Event

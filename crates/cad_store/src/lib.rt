@@ -13,3 +13,6 @@ pub use laws::{one_map_a_disk, quiet_images};
 pub use opening::open;
 pub use stops::{OpenStop, ReadyStop};
 pub use store::{Commit, Store};
+
+#[cfg(test)]
+mod tests;

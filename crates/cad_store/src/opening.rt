@@ -9,7 +9,7 @@ ghost use Rattle.cad_accounts.specs.Registers.{Map, at, changed, applied, folded
 ghost use Rattle.cad_accounts.specs.Memory.{rows_of};
 ghost use Rattle.cad_accounts.specs.Worlds.{AreSound};
 ghost use Rattle.cad_store.specs.Stops.{BlamesDisk};
-ghost use Rattle.cad_store.specs.Stores.{DiskHolds, held, room_of, other, IsOn};
+ghost use Rattle.cad_store.specs.Stores.{DiskHolds, held, room_of, place_behind, IsOn};
 
 use crate::place::Place;
 use crate::stops::OpenStop;
@@ -30,12 +30,14 @@ fn chosen_by(bytes: &[u8]) -> Tape
     }
 }
 
-fn other_tape(tape: Tape) -> Tape
-    ensures { result ≡ other tape }
+// Where the next record goes, where the tape in use has this length and its records end there.
+fn next_place(tape: Tape, length: u64, ending: u64) -> Place
+    ensures { result ≡ place_behind tape length ending }
 {
-    match tape {
-        Tape::A => Tape::B,
-        _ => Tape::A,
+    match (length, tape) {
+        (0, Tape::A) => Place::Onto(Tape::B),
+        (0, _) => Place::Onto(Tape::A),
+        _ => Place::Behind(tape, ending),
     }
 }
 
@@ -105,11 +107,7 @@ fn read_store<H: Host>(alloc: Global, host: &mut H, room: u64) -> Result<Store, 
     let tape = tape_in_use(host)?;
     let length = host.length(tape)?;
     let read = scan(alloc, host, tape)?;
-    let place = if length == 0 {
-        Place::Onto(other_tape(tape))
-    } else {
-        Place::Behind(tape, read.ending)
-    };
+    let place = next_place(tape, length, read.ending);
     let mut registers = MapRegisters::new(alloc);
     fold(&mut registers, read.records)?;
     Ok(Store {

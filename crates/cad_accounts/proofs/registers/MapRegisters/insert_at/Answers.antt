@@ -1,7 +1,7 @@
-use Rattle.std.proofs.Common.{◌≡◌, ◌+◌, ◌<◌, ◌^◌, ◌∙◌, ap, arith, cond, true, is_ok, IsOk, length}
+use Rattle.std.proofs.Common.{◌≡◌, ◌+◌, ◌<◌, ◌^◌, arith, length}
 use Rattle.std.specs.List.{insert}
 use Rattle.std.proofs.lemmas.Grind.{common_steps}
-use Rattle.cad_accounts.proofs.Places.{IsKept, kept_insert, size_fits}
+use Rattle.cad_accounts.proofs.Places.{kept_insert, size_fits}
 use Rattle.cad_accounts.proofs.registers.MapRegisters.insert_at.Goals as goal
 
 pub overflow_add-self : goal.overflow_add-self

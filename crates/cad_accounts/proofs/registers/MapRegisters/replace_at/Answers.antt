@@ -1,4 +1,4 @@
-use Rattle.std.proofs.Common.{◌-◌, ◌≤◌, arith}
+use Rattle.std.proofs.Common.{arith}
 use Rattle.cad_accounts.proofs.Places.{kept_set, size_fits}
 use Rattle.cad_accounts.proofs.registers.MapRegisters.replace_at.Goals as goal
 
