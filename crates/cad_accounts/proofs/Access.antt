@@ -1,5 +1,5 @@
 -- What saving and loading a value make of registers.
-use Rattle.std.proofs.Common.{◌≡◌, ℕ, ◌^◌, ◌<◌, ◌≤◌, true, false, List, Option, Some, None, refl, sym, ap, subst, ◌∙◌, arith}
+use Rattle.std.proofs.Common.{◌≡◌, ℕ, false, List, Option, Some, None, refl, sym, ap, subst, ◌∙◌, arith}
 use Rattle.std.specs.Prelude.{IfSome, is_some, option_map, option_and_then}
 use Rattle.std.specs.Str.{IsUtf8}
 use Rattle.cad_values.specs.declared.value.Value.{Value}

@@ -1,5 +1,5 @@
 -- The changed entries that differ from the registers below lead from these to the registers with the changes.
-use Rattle.std.proofs.Common.{◌≡◌, ℕ, Bool, true, false, cond, List, [], ◌∷◌, Option, Some, None, refl, sym, ap, subst, ◌∙◌, inl, inr}
+use Rattle.std.proofs.Common.{◌≡◌, ℕ, Bool, true, false, List, [], ◌∷◌, Option, Some, None, refl, sym, ap, subst, ◌∙◌, inl, inr}
 use Rattle.std.specs.Prelude.{◌≢◌, ◌↔◌, IsTrue, not}
 use Rattle.std.specs.List.{filter}
 use Rattle.std.proofs.lemmas.Bool.{cases_Bool}
@@ -7,8 +7,8 @@ use Rattle.std.proofs.lemmas.List.Elements.{filter_passes}
 use Rattle.cad_wire.specs.declared.entry.Entry.{Entry}
 use Rattle.cad_wire.specs.Body.{are_ascending}
 use Rattle.cad_accounts.specs.Registers.{Map, same_key, changed, applied, Leads}
-use Rattle.cad_accounts.proofs.Maps.{same_key-self, keys_same, some_key, other_key, changed_kept, Free, applied_after}
-use Rattle.cad_accounts.proofs.EntryPlaces.{compared, Under, Under-Free, Rising, rising, ascending}
+use Rattle.cad_accounts.proofs.Maps.{same_key-self, keys_same, some_key, other_key, changed_kept, applied_after}
+use Rattle.cad_accounts.proofs.EntryPlaces.{Under, Under-Free, Rising, rising, ascending}
 
 -- ---- a test whether bytes differ
 

@@ -1,5 +1,5 @@
 -- The registers of one account more are those of the accounts with it.
-use Rattle.std.proofs.Common.{◌≡◌, ℕ, zero, suc, ◌+◌, ◌^◌, ◌<◌, ◌≤◌, eqb, Bool, true, false, cond, List, [], ◌∷◌, ◌++◌, Option, Some, None, refl, sym, ap, subst, ◌∙◌, arith, inl, inr}
+use Rattle.std.proofs.Common.{◌≡◌, ℕ, ◌+◌, ◌^◌, ◌<◌, eqb, Bool, true, false, cond, List, ◌++◌, Option, Some, None, refl, sym, ap, subst, ◌∙◌, arith, inl, inr}
 use Rattle.std.specs.Prelude.{IfSome, ◌≢◌, option_map, option_and_then}
 use Rattle.std.proofs.lemmas.Bool.{cases_eq, cases_Bool, eqb-true, eq-eqb}
 use Rattle.cad_codec.specs.Spelling.{value_bytes}
@@ -7,7 +7,7 @@ use Rattle.cad_wire.specs.Fields.{number_field, number_at}
 use Rattle.cad_wire.proofs.FieldLaws.{number_again}
 use Rattle.cad_accounts.specs.Registers.{Map, same_key, changed}
 use Rattle.cad_accounts.specs.Layers.{with_account}
-use Rattle.cad_accounts.specs.Accounts.{Account, Accounts, AreRegisters, StandsFor, IsSound, IsSoundAccount, Has, IsKey, head, controller, stored, head_key, controller_key, stored_key, head_bytes, controller_bytes, stored_bytes, new_account, created, most_accounts}
+use Rattle.cad_accounts.specs.Accounts.{Account, Accounts, AreRegisters, StandsFor, IsSound, IsSoundAccount, IsKey, head, controller, head_key, controller_key, stored_key, controller_bytes, stored_bytes, new_account, created, most_accounts}
 use Rattle.cad_accounts.proofs.Maps.{same_key-self, keys_same, some_key, other_key}
 use Rattle.cad_accounts.proofs.KeyLaws.{controller_apart}
 use Rattle.cad_accounts.proofs.States.{past}

@@ -1,11 +1,11 @@
 -- Keys and fields tell what they were made of.
-use Rattle.std.proofs.Common.{◌≡◌, ℕ, ◌^◌, ◌<◌, true, false, List, [], ◌∷◌, ◌++◌, Option, Some, None, refl, sym, ap, subst, ◌∙◌, arith}
-use Rattle.std.proofs.lemmas.Option.{some_pair_parts, same_Some}
+use Rattle.std.proofs.Common.{◌≡◌, ℕ, ◌^◌, ◌<◌, false, List, [], ◌∷◌, ◌++◌, sym, ap, ◌∙◌}
+use Rattle.std.proofs.lemmas.Option.{some_pair_parts}
 use Rattle.std.proofs.lemmas.List.{append-nil}
 use Rattle.cad_wire.specs.Fields.{number_field, number_at}
 use Rattle.cad_wire.proofs.FieldLaws.{number_again}
 use Rattle.cad_accounts.specs.Registers.{same_key}
-use Rattle.cad_accounts.specs.Accounts.{head_key, controller_key, stored_key}
+use Rattle.cad_accounts.specs.Accounts.{controller_key, stored_key}
 use Rattle.cad_accounts.proofs.Maps.{keys_differ}
 
 -- a number at the front, and what is behind it

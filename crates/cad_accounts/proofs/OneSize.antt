@@ -1,5 +1,5 @@
 -- Rows in order with one map are one list.
-use Rattle.std.proofs.Common.{◌≡◌, ℕ, Bool, true, false, cond, List, [], ◌∷◌, Option, Some, None, refl, sym, ap, subst, ◌∙◌, arith}
+use Rattle.std.proofs.Common.{◌≡◌, ℕ, Bool, true, false, cond, List, [], ◌∷◌, Option, Some, None, refl, sym, ap, subst, ◌∙◌}
 use Rattle.std.specs.Prelude.{◌&&◌}
 use Rattle.std.specs.List.{AllByRecursion}
 use Rattle.std.specs.Ordering.{is_lt}
@@ -9,7 +9,7 @@ use Rattle.std.proofs.lemmas.Map.Lookups.{exact_bytes}
 use Rattle.cad_accounts.specs.declared.row.Row.{Row}
 use Rattle.cad_accounts.specs.Registers.{same_key, at, are_rising, size_of}
 use Rattle.cad_accounts.specs.Accounts.{Accounts, HasSize}
-use Rattle.cad_accounts.proofs.Maps.{same_key-self, same_key-comm, keys_same}
+use Rattle.cad_accounts.proofs.Maps.{same_key-self, keys_same}
 use Rattle.cad_accounts.proofs.EntryPlaces.{compared, less-trans, less-differ, greater-less}
 use Rattle.cad_accounts.proofs.States.{one_map_lem}
 

@@ -1,17 +1,15 @@
 -- One map stands for one state of accounts, and that state has one map.
-use Rattle.std.proofs.Common.{◌≡◌, ℕ, zero, suc, ◌+◌, ◌^◌, ◌<◌, ◌≤◌, Bool, true, false, cond, List, [], ◌∷◌, ◌++◌, Option, Some, None, refl, sym, ap, subst, ◌∙◌, arith, inl, inr}
+use Rattle.std.proofs.Common.{◌≡◌, ℕ, ◌^◌, ◌<◌, ◌≤◌, Bool, true, false, cond, List, ◌++◌, Option, Some, None, refl, sym, ap, subst, ◌∙◌, arith, inl, inr}
 use Rattle.std.specs.Prelude.{IfSome, ◌≢◌, option_map, option_and_then, ◌==◌}
 use Rattle.std.specs.Str.{IsUtf8}
 use Rattle.std.proofs.lemmas.Bool.{cases_lt, eqb-true}
 use Rattle.cad_syntax.specs.declared.kind.Kind.TheVariants.{Int, Address}
-use Rattle.cad_syntax.specs.declared.num.Num.{Num}
 use Rattle.cad_values.specs.declared.value.Value.{Value}
-use Rattle.cad_values.specs.declared.value.Value.TheVariants.{Number, Other}
 use Rattle.cad_codec.specs.Spelling.{value_bytes, HasBytes}
 use Rattle.cad_codec.proofs.Decoded.{one}
 use Rattle.cad_wire.specs.Fields.{number_field}
 use Rattle.cad_accounts.specs.Registers.{Map, no_registers}
-use Rattle.cad_accounts.specs.Accounts.{Account, Accounts, no_accounts, AreRegisters, StandsFor, IsSound, IsSoundAccount, IsInt, Has, IsKey, head, controller, stored, head_key, controller_key, stored_key, head_bytes, controller_bytes, stored_bytes, stored_at, most_accounts}
+use Rattle.cad_accounts.specs.Accounts.{Account, Accounts, no_accounts, AreRegisters, StandsFor, IsSound, IsSoundAccount, IsInt, Has, IsKey, head, controller, stored}
 use Rattle.cad_accounts.proofs.KeyLaws.{same_number, number_front}
 
 -- ---- one map

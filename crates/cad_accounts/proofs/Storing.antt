@@ -1,5 +1,5 @@
 -- The registers of a value that is stored, or taken.
-use Rattle.std.proofs.Common.{◌≡◌, ℕ, ◌+◌, ◌^◌, ◌<◌, ◌≤◌, eqb, Bool, true, false, cond, List, [], ◌∷◌, ◌++◌, Option, Some, None, refl, sym, ap, subst, ◌∙◌, arith, inl, inr}
+use Rattle.std.proofs.Common.{◌≡◌, ℕ, ◌^◌, ◌<◌, eqb, Bool, true, false, cond, List, Option, Some, None, refl, sym, ap, subst, ◌∙◌, arith, inl, inr}
 use Rattle.std.specs.Prelude.{IfSome, ◌≢◌, option_map, option_and_then}
 use Rattle.std.specs.Str.{IsUtf8}
 use Rattle.std.proofs.lemmas.Bool.{cases_eq, cases_Bool, eq-eqb}
@@ -7,7 +7,7 @@ use Rattle.cad_values.specs.declared.value.Value.{Value}
 use Rattle.cad_codec.specs.Spelling.{value_bytes}
 use Rattle.cad_wire.specs.Fields.{number_field}
 use Rattle.cad_accounts.specs.Registers.{Map, same_key, changed}
-use Rattle.cad_accounts.specs.Accounts.{Account, Accounts, AreRegisters, StandsFor, IsSound, IsSoundAccount, IsInt, Has, IsKey, stored, head_key, controller_key, stored_key, stored_bytes, stored_at, stored_as, storing}
+use Rattle.cad_accounts.specs.Accounts.{Account, Accounts, AreRegisters, StandsFor, IsSound, IsSoundAccount, IsInt, Has, stored, stored_key, stored_bytes, stored_as, storing}
 use Rattle.cad_accounts.proofs.Maps.{same_key-self, keys_same, keys_differ, some_key, other_key, changed_kept}
 use Rattle.cad_accounts.proofs.KeyLaws.{stored_parts}
 use Rattle.cad_accounts.proofs.Creating.{numbers_apart, only_more}

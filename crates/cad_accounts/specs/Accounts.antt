@@ -1,5 +1,5 @@
 -- Accounts as finite maps, and as registers.
-use Rattle.std.specs.Prelude.{◌≡◌, ◌≢◌, ◌↔◌, ℕ, ◌+◌, ◌<◌, ◌≤◌, ◌^◌, ◌==◌, true, List, [], ◌∷◌, ◌++◌, Option, Some, None, IfSome, option_map, option_and_then, if◌then◌else◌}
+use Rattle.std.specs.Prelude.{◌≡◌, ◌≢◌, ℕ, ◌+◌, ◌<◌, ◌≤◌, ◌^◌, ◌==◌, true, List, [], ◌∷◌, ◌++◌, Option, Some, None, IfSome, option_map, option_and_then, if◌then◌else◌}
 use Rattle.std.specs.Str.{IsUtf8}
 use Rattle.cad_syntax.specs.declared.kind.Kind.TheVariants.{Int}
 use Rattle.cad_syntax.specs.declared.num.Num.{Num}

@@ -21,3 +21,5 @@ pub use world::{Changes, World};
 
 #[cfg(test)]
 mod tests;
+#[cfg(test)]
+mod world_tests;

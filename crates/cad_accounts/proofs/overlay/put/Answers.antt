@@ -1,4 +1,4 @@
-use Rattle.std.proofs.Common.{◌≡◌, List, ℕ, sym, ap, subst, ◌∙◌, arith}
+use Rattle.std.proofs.Common.{List, ℕ, subst, arith}
 use Rattle.cad_wire.specs.declared.entry.Entry.{Entry}
 use Rattle.cad_accounts.specs.Places.{HasKey, Belongs}
 use Rattle.cad_accounts.proofs.EntryPlaces.{put_there, put_more}

@@ -1,4 +1,4 @@
-use Rattle.std.proofs.Common.{◌≡◌, ◌≢◌, ◌↔◌, IsTrue, List, sym, ap, subst, ◌∙◌, rules}
+use Rattle.std.proofs.Common.{◌≢◌, ◌↔◌, IsTrue, sym, subst, ◌∙◌}
 use Rattle.std.proofs.lemmas.Fn.{filter_same}
 use Rattle.cad_wire.specs.declared.entry.Entry.{Entry}
 use Rattle.cad_accounts.specs.Registers.{Leads, Map, at}

@@ -1,4 +1,4 @@
-use Rattle.std.proofs.Common.{◌≡◌, List, ℕ, Some, None, sym, ap, ◌∙◌}
+use Rattle.std.proofs.Common.{◌≡◌, List, ℕ, Some, None, ap, ◌∙◌}
 use Rattle.cad_codec.specs.Spelling.{value_bytes}
 use Rattle.cad_accounts.specs.Registers.{Map, changed}
 use Rattle.cad_accounts.specs.Layers.{current}
