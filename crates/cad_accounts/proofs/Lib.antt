@@ -1,6 +1,6 @@
-mod Keys
-mod RowLaws
-mod Places
+pub mod Keys
+pub mod RowLaws
+pub mod Places
 mod Spelled
 mod Following
 mod KeyOrder
