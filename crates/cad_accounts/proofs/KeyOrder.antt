@@ -1,15 +1,15 @@
 -- The keys of registers in byte order: the head, the controllers by address, what is stored.
-use Rattle.std.proofs.Common.{◌≡◌, ℕ, suc, ◌+◌, ◌*◌, ◌^◌, ◌<◌, ◌≤◌, Bool, true, false, cond, List, [], ◌∷◌, ◌++◌, length, Ordering, refl, sym, ap, subst, ◌∙◌, arith, inl, inr, ◌⊎◌}
+use Rattle.std.proofs.Common.{◌≡◌, ℕ, ◌+◌, ◌*◌, ◌^◌, ◌/◌, ◌%◌, ◌<◌, ◌≤◌, Bool, true, false, cond, List, [], ◌∷◌, ◌++◌, refl, sym, ap, subst, ◌∙◌, arith, inl, inr, ◌⊎◌, drop}
 use Rattle.std.specs.Ordering.{nat_cmp, is_lt, ordering_then}
-use Rattle.std.specs.declared.cmp.Ordering.TheVariants.{Less, Equal, Greater}
+use Rattle.std.specs.declared.cmp.Ordering.TheVariants.{Less, Equal}
 use Rattle.std.specs.Cmp.Lexicographic.{slice_cmp}
-use Rattle.std.specs.Int.{w64, from_be_bytes, to_be_bytes}
-use Rattle.std.proofs.lemmas.Cmp.{ranked}
-use Rattle.std.proofs.lemmas.Nat.{from_be_bytes-to_be_bytes_8}
-use Rattle.cad_wire.specs.Fields.{number_field}
+use Rattle.std.specs.Int.{bytes_high_first}
+use Rattle.std.proofs.lemmas.Bool.{cases_lt, lt-ltb, le-ltb, eq-eqb}
+use Rattle.cad_accounts.specs.Registers.{same_key}
 use Rattle.cad_accounts.specs.Accounts.{head_key, controller_key, stored_key}
 use Rattle.cad_accounts.specs.Rows.{before}
-use Rattle.cad_accounts.proofs.Keys.{is_less, equal_is, greater_is, not_itself}
+use Rattle.cad_accounts.proofs.Keys.{before_differs, behind_differs, not_same, same_is}
+use Rattle.cad_accounts.proofs.Spelled.{same_number, fronts_same, rests_same}
 
 pub head_first : (address : ℕ) → before head_key (controller_key address) ≡ true
 head_first address = refl
@@ -20,11 +20,77 @@ head_before_stored address identifier = refl
 pub controller_before_stored : (a b : ℕ) (identifier : List ℕ) → before (controller_key a) (stored_key b identifier) ≡ true
 controller_before_stored a b identifier = refl
 
--- the first byte that differs decides, and what stands before it doesn't matter
-byte_first : (x y : ℕ) (o : Ordering) → ordering_then (nat_cmp x y) o ≡ Less → (x < y) ⊎ ((x ≡ y) × (o ≡ Less))
-byte_first x y o e = by (nat_cmp x y) (ranked x y (nat_cmp x y) refl) e
-  where
-    by : (r : Ordering) → elim r [ Less ↦ x < y | Equal ↦ x ≡ y | Greater ↦ y < x ] → ordering_then r o ≡ Less → (x < y) ⊎ ((x ≡ y) × (o ≡ Less))
-    by Less h f = inl h
-    by Equal h f = inr (h, f)
-    by Greater h f = absurd cc
+-- ---- numbers by their bytes, the highest first
+
+tied : (x : ℕ) → nat_cmp x x ≡ Equal
+tied x = rw (le-ltb x x (omega arith), eq-eqb x x refl) refl
+
+less_step : (x y : ℕ) (xs ys : List ℕ) → (x < y) ⊎ ((x ≡ y) × (slice_cmp nat_cmp xs ys ≡ Less)) → slice_cmp nat_cmp (x ∷ xs) (y ∷ ys) ≡ Less
+less_step x y xs ys (inl lt) = rw (lt-ltb x y lt) refl
+less_step x y xs ys (inr e) = ap (λ (z : ℕ). ordering_then (nat_cmp x z) (slice_cmp nat_cmp xs ys)) (sym e.0) ∙ ap (λ o. ordering_then o (slice_cmp nat_cmp xs ys)) (tied x) ∙ e.1
+
+less1 : (a b : ℕ) → a % 256 < b % 256 → slice_cmp nat_cmp (bytes_high_first 1 a) (bytes_high_first 1 b) ≡ Less
+less1 a b h = less_step (a % 256) (b % 256) [] [] (inl h)
+
+less2 : (a b : ℕ) → a % 65536 < b % 65536 → slice_cmp nat_cmp (bytes_high_first 2 a) (bytes_high_first 2 b) ≡ Less
+less2 a b h =
+    elim (cases_lt (a / 256 % 256) (b / 256 % 256)) [
+      | inl lt ↦ less_step (a / 256 % 256) (b / 256 % 256) (bytes_high_first 1 a) (bytes_high_first 1 b) (inl lt)
+      | inr le ↦ less_step (a / 256 % 256) (b / 256 % 256) (bytes_high_first 1 a) (bytes_high_first 1 b) (inr (omega arith, less1 a b (omega arith)))
+    ]
+
+less3 : (a b : ℕ) → a % 16777216 < b % 16777216 → slice_cmp nat_cmp (bytes_high_first 3 a) (bytes_high_first 3 b) ≡ Less
+less3 a b h =
+    elim (cases_lt (a / 65536 % 256) (b / 65536 % 256)) [
+      | inl lt ↦ less_step (a / 65536 % 256) (b / 65536 % 256) (bytes_high_first 2 a) (bytes_high_first 2 b) (inl lt)
+      | inr le ↦ less_step (a / 65536 % 256) (b / 65536 % 256) (bytes_high_first 2 a) (bytes_high_first 2 b) (inr (omega arith, less2 a b (omega arith)))
+    ]
+
+less4 : (a b : ℕ) → a % 4294967296 < b % 4294967296 → slice_cmp nat_cmp (bytes_high_first 4 a) (bytes_high_first 4 b) ≡ Less
+less4 a b h =
+    elim (cases_lt (a / 16777216 % 256) (b / 16777216 % 256)) [
+      | inl lt ↦ less_step (a / 16777216 % 256) (b / 16777216 % 256) (bytes_high_first 3 a) (bytes_high_first 3 b) (inl lt)
+      | inr le ↦ less_step (a / 16777216 % 256) (b / 16777216 % 256) (bytes_high_first 3 a) (bytes_high_first 3 b) (inr (omega arith, less3 a b (omega arith)))
+    ]
+
+less5 : (a b : ℕ) → a % 1099511627776 < b % 1099511627776 → slice_cmp nat_cmp (bytes_high_first 5 a) (bytes_high_first 5 b) ≡ Less
+less5 a b h =
+    elim (cases_lt (a / 4294967296 % 256) (b / 4294967296 % 256)) [
+      | inl lt ↦ less_step (a / 4294967296 % 256) (b / 4294967296 % 256) (bytes_high_first 4 a) (bytes_high_first 4 b) (inl lt)
+      | inr le ↦ less_step (a / 4294967296 % 256) (b / 4294967296 % 256) (bytes_high_first 4 a) (bytes_high_first 4 b) (inr (omega arith, less4 a b (omega arith)))
+    ]
+
+less6 : (a b : ℕ) → a % 281474976710656 < b % 281474976710656 → slice_cmp nat_cmp (bytes_high_first 6 a) (bytes_high_first 6 b) ≡ Less
+less6 a b h =
+    elim (cases_lt (a / 1099511627776 % 256) (b / 1099511627776 % 256)) [
+      | inl lt ↦ less_step (a / 1099511627776 % 256) (b / 1099511627776 % 256) (bytes_high_first 5 a) (bytes_high_first 5 b) (inl lt)
+      | inr le ↦ less_step (a / 1099511627776 % 256) (b / 1099511627776 % 256) (bytes_high_first 5 a) (bytes_high_first 5 b) (inr (omega arith, less5 a b (omega arith)))
+    ]
+
+less7 : (a b : ℕ) → a % 72057594037927936 < b % 72057594037927936 → slice_cmp nat_cmp (bytes_high_first 7 a) (bytes_high_first 7 b) ≡ Less
+less7 a b h =
+    elim (cases_lt (a / 281474976710656 % 256) (b / 281474976710656 % 256)) [
+      | inl lt ↦ less_step (a / 281474976710656 % 256) (b / 281474976710656 % 256) (bytes_high_first 6 a) (bytes_high_first 6 b) (inl lt)
+      | inr le ↦ less_step (a / 281474976710656 % 256) (b / 281474976710656 % 256) (bytes_high_first 6 a) (bytes_high_first 6 b) (inr (omega arith, less6 a b (omega arith)))
+    ]
+
+less8 : (a b : ℕ) → a % 18446744073709551616 < b % 18446744073709551616 → slice_cmp nat_cmp (bytes_high_first 8 a) (bytes_high_first 8 b) ≡ Less
+less8 a b h =
+    elim (cases_lt (a / 72057594037927936 % 256) (b / 72057594037927936 % 256)) [
+      | inl lt ↦ less_step (a / 72057594037927936 % 256) (b / 72057594037927936 % 256) (bytes_high_first 7 a) (bytes_high_first 7 b) (inl lt)
+      | inr le ↦ less_step (a / 72057594037927936 % 256) (b / 72057594037927936 % 256) (bytes_high_first 7 a) (bytes_high_first 7 b) (inr (omega arith, less7 a b (omega arith)))
+    ]
+
+pub controllers_rise : (a b : ℕ) → a < b → b < 2 ^ 64 → before (controller_key a) (controller_key b) ≡ true
+controllers_rise a b lt fits = ap is_lt (less8 a b (omega arith))
+
+-- ---- keys that are the same
+
+pub same_controller : (a b : ℕ) → a < 2 ^ 64 → b < 2 ^ 64 → controller_key a ≡ controller_key b → a ≡ b
+same_controller a b fits_a fits_b e = same_number a b fits_a fits_b (ap (λ (l : List ℕ). drop 1 l) e)
+
+pub same_address : (a b : ℕ) (i j : List ℕ) → a < 2 ^ 64 → b < 2 ^ 64 → stored_key a i ≡ stored_key b j → a ≡ b
+same_address a b i j fits_a fits_b e = same_number a b fits_a fits_b (fronts_same a b i j (ap (λ (l : List ℕ). drop 1 l) e))
+
+pub same_identifier : (a b : ℕ) (i j : List ℕ) → stored_key a i ≡ stored_key b j → i ≡ j
+same_identifier a b i j e = rests_same a b i j (ap (λ (l : List ℕ). drop 1 l) e)

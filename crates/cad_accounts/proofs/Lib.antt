@@ -1,7 +1,18 @@
+pub mod Maps
+pub mod EntryPlaces
+pub mod KeyLaws
+pub mod States
+pub mod OneSize
+pub mod Creating
+pub mod Storing
+pub mod Access
+pub mod Changes
 pub mod Keys
 pub mod RowLaws
 pub mod Places
 mod Spelled
 mod Following
 mod KeyOrder
+mod FromRows
+mod ToRows
 mod SoundRows

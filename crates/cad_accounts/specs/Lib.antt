@@ -1,4 +1,5 @@
 pub mod Registers
+pub mod Places
 pub mod Layers
 pub mod Accounts
 pub mod Worlds

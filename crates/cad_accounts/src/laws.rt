@@ -1,7 +1,12 @@
 // The laws of accounts as registers.
 ghost use Rattle.std.specs.Prelude.{◌≡◌, ℕ, List};
-ghost use Rattle.cad_accounts.specs.Registers.{Map};
-ghost use Rattle.cad_accounts.specs.Accounts.{Accounts, AreRegisters, StandsFor, HasSize};
+ghost use Rattle.cad_accounts.specs.Registers.{Map, no_registers};
+ghost use Rattle.cad_accounts.specs.Accounts.{Accounts, no_accounts, AreRegisters, StandsFor, HasSize};
+
+/// No registers stand for no accounts.
+pub fn none_at_first()
+    ensures { StandsFor no_registers no_accounts }
+{}
 
 /// Two sound states of accounts with one map of registers are equal.
 pub fn one_state()

@@ -1,18 +1,21 @@
 //! Accounts that are kept as registers.
 #![tactic(auto)]
 
-mod keys;
 mod laws;
 mod overlay;
 mod registers;
 mod row;
+mod spelling;
 mod sound;
 mod stops;
 mod world;
 
-pub use laws::{one_map, one_size, one_state};
+pub use laws::{none_at_first, one_map, one_size, one_state};
 pub use registers::{MapRegisters, Registers};
 pub use row::Row;
 pub use sound::is_sound;
 pub use stops::{AccountStop, ValueStop, WorldStop};
 pub use world::{Changes, World};
+
+#[cfg(test)]
+mod tests;

@@ -1,23 +1,16 @@
 // Changed entries, in byte order of their keys.
-ghost use Rattle.std.specs.Prelude.{◌≡◌, ◌+◌, ◌<◌, ◌≤◌, true, MatchOption, MatchResult, length, slice_get, Some, List, ℕ, take, drop, vec_len, vec_capacity};
-ghost use Rattle.std.specs.List.{HoldsAt};
-ghost use Rattle.std.specs.List.Sorted.{IsPartitionPoint};
-ghost use Rattle.std.specs.Ordering.{nat_cmp};
-ghost use Rattle.std.specs.Cmp.Lexicographic.{slice_cmp};
+ghost use Rattle.std.specs.Prelude.{◌≡◌, ◌+◌, ◌<◌, ◌≤◌, true, MatchOption, vec_len, vec_capacity};
 ghost use Rattle.cad_wire.specs.Body.{are_ascending};
 ghost use Rattle.cad_accounts.specs.Registers.{Map, applied, changed};
+ghost use Rattle.cad_accounts.specs.Places.{IsPlace};
 
-use crate::registers::Registers;
 use cad_syntax::Bytes;
 use cad_wire::{Entry, Key};
-use std::cmp::Ordering;
 
 /// Where an entry with a key is, or else where one belongs.
 fn place(entries: &[Entry], key: &[u8]) -> Result<usize, usize>
     requires { are_ascending entries.now ≡ true }
-    ensures { MatchResult result
-        (λ i. HoldsAt (λ e. e.key.0 ≡ key.now) entries.now i)
-        (λ i. (i ≤ length entries.now) × IsPartitionPoint (λ e. slice_cmp nat_cmp e.key.0 key.now ≡ Ordering.Less) (λ e. slice_cmp nat_cmp e.key.0 key.now ≡ Ordering.Greater) entries.now i) }
+    ensures { IsPlace entries.now key.now result }
 {
     entries.binary_search_by(|e| e.key.0.as_slice().cmp(key))
 }

@@ -1,14 +1,16 @@
 // Accounts over registers.
 ghost use Rattle.std.specs.Prelude.{◌≡◌, ◌≢◌, ◌+◌, ◌<◌, ◌≤◌, List, ℕ, ◌↔◌, IfOk, OnOk, IfSome, IfErr, OnErr, Some, None, Err, option_map, IsTrue};
 ghost use Rattle.cad_wire.specs.Fields.{number_at};
-ghost use Rattle.cad_accounts.specs.Registers.{Leads};
+ghost use Rattle.cad_accounts.specs.Registers.{Leads, at, changed};
 ghost use Rattle.cad_accounts.specs.Layers.{original, current, with_account};
 ghost use Rattle.cad_accounts.specs.Accounts.{Accounts, StandsFor, IsInt, created, stored_at, stored_as, most_accounts};
 ghost use Rattle.cad_accounts.specs.Worlds.{AreSound, HasAccount, IsRefused};
 
-use crate::keys::{make_controller_key, make_head, make_head_key, make_number, make_stored_key};
 use crate::overlay::{find, put};
 use crate::registers::Registers;
+use crate::spelling::{
+    make_controller_key, make_head, make_head_key, make_number, make_stored_key,
+};
 use crate::stops::{AccountStop, ValueStop, WorldStop};
 use cad_codec::{decode, encode};
 use cad_syntax::{Address, Bytes, Items, Name};
@@ -54,7 +56,8 @@ impl<'a, R: Registers> World<'a, R> {
             alloc,
         }
     }
-    /// How many accounts there are.
+
+    /// How many accounts there are. AllocError where memory runs out, as it builds a key.
     pub fn accounts(&self) -> Result<u64, AllocError>
         requires { AreSound (current self.now) }
         ensures { IfOk result (λ n. (w : Accounts) → StandsFor (current self.now) w → n ≡ w.count) }
@@ -66,11 +69,14 @@ impl<'a, R: Registers> World<'a, R> {
         }
     }
 
-    /// Makes the next account, which stores nothing, and gives its address. Spent exactly where there are 1,000,000.
+    /// Makes the next account, which stores nothing, and gives its address. Spent exactly where there are 1,000,000; Memory
+    /// where memory runs out. At both all is as it was.
     pub fn create_account(&mut self) -> Result<Address, AccountStop>
         requires { AreSound (current self.old) }
         ensures made { IfOk result (λ a. (w : Accounts) → StandsFor (current self.old) w
             → (a.0 ≡ w.count + 1) × (w.count < most_accounts) × StandsFor (current self.new) (created w)) }
+        ensures there { IfOk result (λ a. HasAccount (current self.new) a.0) }
+        ensures sound { AreSound (current self.new) }
         ensures spent { result ≡ Err AccountStop.Spent → (w : Accounts) → StandsFor (current self.old) w → w.count ≡ most_accounts }
         ensures stays { OnErr result (current self.new ≡ current self.old) }
         ensures below { self.new.rows ≡ self.old.rows }
@@ -94,6 +100,7 @@ impl<'a, R: Registers> World<'a, R> {
         requires int { IsInt value }
         ensures saved { OnOk result ((w : Accounts) → StandsFor (current self.old) w
             → (stored_at w address.0 at.now.0 ≡ None) × StandsFor (current self.new) (stored_as address.0 at.now.0 (Some value) w)) }
+        ensures there { HasAccount (current self.new) address.0 }
         ensures refused { IfErr result (λ stop. IsRefused stop value (current self.old) address.0 at.now.0) }
         ensures stays { OnErr result (current self.new ≡ current self.old) }
         ensures below { self.new.rows ≡ self.old.rows }
@@ -107,18 +114,18 @@ impl<'a, R: Registers> World<'a, R> {
         let Ok(bytes) = encode(self.alloc, &value) else {
             return Err(ValueStop::Memory(value));
         };
-        if self.overlay.reserve(1).is_err() {
-            return Err(ValueStop::Memory(value));
+        match self.change(key, Some(bytes)) {
+            Ok(()) => Ok(()),
+            Err(_) => Err(ValueStop::Memory(value)),
         }
-        put(&mut self.overlay, key, Some(bytes));
-        Ok(())
     }
 
-    /// Takes the value that is stored, None exactly where nothing is.
+    /// Takes the value that is stored, None exactly where nothing is. Memory where memory runs out: all is as it was.
     pub fn load_value(&mut self, address: Address, at: &Name) -> Result<Option<Value>, WorldStop>
         requires { HasAccount (current self.old) address.0 }
         ensures loaded { IfOk result (λ o. (w : Accounts) → StandsFor (current self.old) w
             → (o ≡ stored_at w address.0 at.now.0) × StandsFor (current self.new) (stored_as address.0 at.now.0 None w)) }
+        ensures there { HasAccount (current self.new) address.0 }
         ensures int { IfOk result (λ o. IfSome o IsInt) }
         ensures stays { OnErr result (current self.new ≡ current self.old) }
         ensures below { self.new.rows ≡ self.old.rows }
@@ -133,11 +140,10 @@ impl<'a, R: Registers> World<'a, R> {
                 Err(_) => return Err(WorldStop::Memory),
             },
         };
-        if self.overlay.reserve(1).is_err() {
-            return Err(WorldStop::Memory);
+        match self.change(key, None) {
+            Ok(()) => Ok(Some(value)),
+            Err(_) => Err(WorldStop::Memory),
         }
-        put(&mut self.overlay, key, None);
-        Ok(Some(value))
     }
 
     /// What was changed. It takes no memory.
@@ -149,7 +155,11 @@ impl<'a, R: Registers> World<'a, R> {
             mut overlay,
             alloc: _,
         } = self;
-        overlay.retain(|e| differs(registers.get(&e.key), &e.value));
+        overlay.retain(
+            |entry: &Entry| -> bool
+                ensures { IsTrue result ↔ (at (R.rows registers.entry.now) entry.now.key.0 ≢ entry.now.value) }
+            { differs(registers.get(&entry.key), &entry.value) },
+        );
         Items::from_vec(overlay)
     }
 
@@ -161,6 +171,17 @@ impl<'a, R: Registers> World<'a, R> {
             None => self.registers.get(key),
             Some(entry) => bytes_of(&entry.value),
         }
+    }
+
+    /// One register is changed.
+    fn change(&mut self, key: Key, value: Option<Bytes>) -> Result<(), AllocError>
+        ensures ok { OnOk result (current self.new ≡ changed key.0 value (current self.old)) }
+        ensures stays { OnErr result (current self.new ≡ current self.old) }
+        ensures below { self.new.rows ≡ self.old.rows }
+    {
+        self.overlay.reserve(1)?;
+        put(&mut self.overlay, key, value);
+        Ok(())
     }
 
     /// The registers of one account more, of which there are `count` then.

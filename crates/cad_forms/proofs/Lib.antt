@@ -1,1 +1,7 @@
 pub mod Marked
+pub mod Parts
+pub mod Scripts
+pub mod Saving
+pub mod Meaning
+pub mod Uniques
+pub mod Ranges

@@ -3,7 +3,7 @@ use crate::save::Save;
 use cad_syntax::Address;
 
 /// What a line asks for.
-#[derive(Debug, Drop)]
+#[derive(Debug, Drop, PartialEq, Eq)]
 pub enum Asked {
     /// The run of a script of a sum: its products.
     Script(Vec<Vec<u128>>),

@@ -8,6 +8,8 @@ mod request;
 mod save;
 mod script;
 mod sum;
+#[cfg(test)]
+mod tests;
 
 pub use form::Asked;
 pub use laws::one_request;

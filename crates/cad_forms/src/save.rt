@@ -14,7 +14,7 @@ use cad_syntax::{Keyword, Name, Sign, Token};
 use std::alloc::{AllocError, Global};
 
 /// What a transaction saves: a sum of products, and where.
-#[derive(Debug, Drop)]
+#[derive(Debug, Drop, PartialEq, Eq)]
 pub struct Save {
     /// The identifier of the path that the first factor is loaded from, if it is no literal.
     pub load: Option<Name>,
@@ -76,8 +76,11 @@ fn target(alloc: Global, tokens: &[Token]) -> Result<Option<Name>, AllocError>
         Mark::Sign(Sign::CloseBrace),
         Mark::Sign(Sign::CloseBrace),
     ];
-    match name_between(alloc, tokens, &before, &after)? {
-        Some((path, [])) => Ok(Some(path)),
+    let Some((path, rest)) = name_between(alloc, tokens, &before, &after)? else {
+        return Ok(None);
+    };
+    match rest {
+        [] => Ok(Some(path)),
         _ => Ok(None),
     }
 }

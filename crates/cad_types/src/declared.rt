@@ -1,5 +1,5 @@
 // Declared types.
-ghost use Rattle.std.specs.Prelude.{◌≡◌, ◌↔◌, IsTrue, map, option_map, nat_le};
+ghost use Rattle.std.specs.Prelude.{◌≡◌, ◌↔◌, IsTrue, IfSome, Some, true, map, option_map, nat_le};
 ghost use Rattle.std.specs.List.{list_all};
 ghost use Rattle.cad_syntax.specs.TypeIds.{has};
 ghost use Rattle.cad_syntax.specs.Types.{nesting, pure_type};
@@ -40,6 +40,41 @@ pub(crate) fn find<'a>(declared: &'a [Declared], id: &TypeId) -> Option<&'a Decl
         if d.id.same(id) {
             return Some(d);
         }
+    }
+    None
+}
+
+fn is_declared(declared: &[Declared], id: &TypeId) -> bool
+    ensures { result ≡ spec.is_declared (map spec.declaration_of declared.now) id.now }
+{
+    match find(declared, id) {
+        Some(_) => true,
+        None => false,
+    }
+}
+
+/// Whether no identifier is declared twice.
+pub(crate) fn are_distinct(declared: &[Declared]) -> bool
+    ensures { result ≡ spec.all_distinct (map spec.declaration_of declared.now) }
+{
+    let mut left = declared;
+    while let [first, others @ ..] = left {
+        if is_declared(others, &first.id) {
+            return false;
+        }
+        left = others;
+    }
+    true
+}
+
+/// The declaration at a place, if it is that of the identifier.
+#[tactic(auto, using(crate::proofs::Distinct::first_there))]
+pub(crate) fn find_at<'a>(declared: &'a [Declared], place: usize, id: &TypeId) -> Option<&'a Declared>
+    requires distinct { spec.all_distinct (map spec.declaration_of declared.now) ≡ true }
+    ensures { IfSome result (λ d. spec.found (map spec.declaration_of declared.now) id.now ≡ Some (spec.declaration_of d.now)) }
+{
+    if place < declared.len() && declared[place].id.same(id) {
+        return Some(&declared[place]);
     }
     None
 }

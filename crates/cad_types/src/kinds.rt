@@ -1,10 +1,11 @@
 // The declared types that an order of types is judged by.
 ghost use Rattle.std.specs.Prelude.{◌≡◌, map};
-ghost use Rattle.cad_types.specs.Declarations.{IsClosed, declaration_of};
+ghost use Rattle.cad_types.specs.Declarations.{IsClosed, declaration_of, all_distinct};
 ghost use Rattle.cad_types.specs.Declarations as spec;
 ghost use Rattle.cad_types.specs.Judged.{IsJudged};
 
-use crate::declared::{Declared, Sort, find, interfaces};
+use crate::declared::{Declared, Sort, are_distinct, find, find_at};
+use crate::places::Places;
 use crate::marks::{Marks, is_exportable_by, is_importable_by, is_storable_by, judge};
 use cad_syntax::{CadType, TypeId};
 use std::alloc::{AllocError, Global};
@@ -14,12 +15,15 @@ use std::alloc::{AllocError, Global};
 pub struct Kinds {
     declared: Vec<Declared>,
     marks: Vec<Marks>,
+    places: Places,
+    distinct: bool,
     ghost closed: { IsClosed (map declaration_of declared.items) },
+    ghost known: { distinct ≡ all_distinct (map declaration_of declared.items) },
     ghost judged: { IsJudged (map declaration_of declared.items) marks.items },
 }
 
 impl Kinds {
-    ghost use Rattle.std.specs.Prelude.{◌≡◌, ◌↔◌, map, option_map, IsTrue, IfOk, true};
+    ghost use Rattle.std.specs.Prelude.{◌≡◌, ◌↔◌, map, option_map, IsTrue, IfOk, IfSome, Some, true};
     ghost use Rattle.cad_syntax.specs.Types.{pure_type};
     ghost use Rattle.cad_types.specs.Classes.{Storable, Importable, Exportable};
     ghost use Rattle.cad_types.specs.Declarations.{IsClosed, all_nest, declaration_of, found, interfaces_of, is_resource_id};
@@ -32,7 +36,14 @@ impl Kinds {
         ensures { IfOk result (λ kinds. declarations kinds ≡ map declaration_of declared.items) }
     {
         let marks = judge(alloc, declared.as_slice())?;
-        Ok(Kinds { declared, marks })
+        let places = Places::new(alloc, declared.as_slice())?;
+        let distinct = are_distinct(declared.as_slice());
+        Ok(Kinds {
+            declared,
+            marks,
+            places,
+            distinct,
+        })
     }
 
     /// The declarations.
@@ -46,14 +57,31 @@ impl Kinds {
     pub fn find(&self, id: &TypeId) -> Option<&Declared>
         ensures { option_map (λ d. declaration_of d.now) result ≡ found (declarations self.now) id.now }
     {
+        if let Some(d) = self.find_placed(id) {
+            return Some(d);
+        }
         find(self.declared.as_slice(), id)
+    }
+
+    /// The declaration of an identifier where its place is known.
+    fn find_placed(&self, id: &TypeId) -> Option<&Declared>
+        ensures { IfSome result (λ d. found (declarations self.now) id.now ≡ Some (declaration_of d.now)) }
+    {
+        if !self.distinct {
+            return None;
+        }
+        let place = self.places.find(self.declared.as_slice(), id)?;
+        find_at(self.declared.as_slice(), place, id)
     }
 
     /// The interfaces that a declared type has.
     pub fn interfaces(&self, id: &TypeId) -> &[TypeId]
         ensures { result.now ≡ interfaces_of (declarations self.now) id.now }
     {
-        interfaces(self.declared.as_slice(), id)
+        match self.find(id) {
+            Some(declared) => declared.interfaces.as_slice(),
+            None => &[],
+        }
     }
 
     /// Whether a type is storable.

@@ -7,6 +7,7 @@ mod declared;
 mod kinds;
 pub mod laws;
 mod marks;
+mod places;
 mod subtype;
 #[cfg(test)]
 mod tests;

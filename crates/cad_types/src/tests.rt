@@ -18,81 +18,117 @@ fn id(alloc: Global, name: &str) -> Result<TypeId, AllocError> {
     })
 }
 
-fn ids(alloc: Global, names: &[&str]) -> Result<TypeIds, AllocError> {
+/// The identifiers of names with commas between them, of which a dot is none.
+fn ids(alloc: Global, names: &str) -> Result<TypeIds, AllocError> {
     let mut ids = TypeIds::new(alloc);
-    for name in names {
-        ids.push(id(alloc, name)?)?;
+    for name in names.split(',') {
+        if name != "." {
+            ids.push(id(alloc, name)?)?;
+        }
     }
     Ok(ids)
 }
 
-fn boxed(alloc: Global, t: CadType) -> Result<Box<CadType>, AllocError> {
-    Ok(Box::new(alloc, t)?)
+fn basic(name: &str) -> Option<Basic> {
+    match name {
+        "Int" => Some(Basic::Number(Kind::Int)),
+        "Address" => Some(Basic::Number(Kind::Address)),
+        "Void" => Some(Basic::Void),
+        "Never" => Some(Basic::Never),
+        "String" => Some(Basic::String),
+        "Path" => Some(Basic::Path),
+        "StoragePath" => Some(Basic::StoragePath),
+        "PublicPath" => Some(Basic::PublicPath),
+        "Type" => Some(Basic::Meta),
+        "AnyStruct" => Some(Basic::AnyStruct),
+        "AnyResource" => Some(Basic::AnyResource),
+        "Account" => Some(Basic::Account),
+        "Controller" => Some(Basic::StorageCapabilityController),
+        _ => None,
+    }
 }
 
-fn int() -> CadType {
-    CadType::Basic(Basic::Number(Kind::Int))
+fn named(alloc: Global, name: &str) -> Result<CadType, AllocError> {
+    if let Some(basic) = basic(name) {
+        return Ok(CadType::Basic(basic));
+    }
+    match name {
+        "Capability" => Ok(CadType::Capability),
+        "{SI}" => Ok(CadType::Intersection(ids(alloc, "SI")?)),
+        "{RI}" => Ok(CadType::Intersection(ids(alloc, "RI")?)),
+        "{RJ}" => Ok(CadType::Intersection(ids(alloc, "RJ")?)),
+        "{RI,RJ}" => Ok(CadType::Intersection(ids(alloc, "RI,RJ")?)),
+        _ => Ok(CadType::Declared(id(alloc, name)?)),
+    }
 }
 
-fn declared(alloc: Global, name: &str) -> Result<CadType, AllocError> {
-    Ok(CadType::Declared(id(alloc, name)?))
+/// A type inside another: optional `?`, array `[`, dictionary from texts `:`, capability `C`, reference `&`, and with the
+/// entitlements E `+`, E and F `*`, E or F `|`.
+fn around(alloc: Global, sign: u8, t: CadType) -> Result<CadType, AllocError> {
+    let part = Box::new(alloc, t)?;
+    match sign {
+        b'?' => Ok(CadType::Optional(part)),
+        b'[' => Ok(CadType::Array(part)),
+        b':' => Ok(CadType::Dictionary(Box::new(alloc, CadType::Basic(Basic::String))?, part)),
+        b'C' => Ok(CadType::CapabilityOf(part)),
+        b'+' => Ok(CadType::Reference(Authorization::All(ids(alloc, "E")?), part)),
+        b'*' => Ok(CadType::Reference(Authorization::All(ids(alloc, "E,F")?), part)),
+        b'|' => Ok(CadType::Reference(Authorization::Any(ids(alloc, "E,F")?), part)),
+        _ => Ok(CadType::Reference(Authorization::Unauthorized, part)),
+    }
 }
 
-fn intersection(alloc: Global, names: &[&str]) -> Result<CadType, AllocError> {
-    Ok(CadType::Intersection(ids(alloc, names)?))
+/// The type of a word: its name, with the signs of what it is inside of and a slash before, the outermost first.
+fn typed(alloc: Global, word: &str) -> Result<CadType, AllocError> {
+    let (signs, name) = word.split_once('/').unwrap_or(("", word));
+    let mut t = named(alloc, name)?;
+    for sign in signs.as_bytes().iter().rev() {
+        t = around(alloc, *sign, t)?;
+    }
+    Ok(t)
 }
 
-fn optional(alloc: Global, t: CadType) -> Result<CadType, AllocError> {
-    Ok(CadType::Optional(boxed(alloc, t)?))
+fn sort(letter: &str) -> Sort {
+    match letter {
+        "C" => Sort::Contract,
+        "S" => Sort::Struct,
+        "R" => Sort::Resource,
+        "E" => Sort::Enum,
+        "V" => Sort::Event,
+        "SI" => Sort::StructInterface,
+        _ => Sort::ResourceInterface,
+    }
 }
 
-fn array(alloc: Global, t: CadType) -> Result<CadType, AllocError> {
-    Ok(CadType::Array(boxed(alloc, t)?))
-}
-
-fn dictionary(alloc: Global, t: CadType) -> Result<CadType, AllocError> {
-    let key = boxed(alloc, CadType::Basic(Basic::String))?;
-    Ok(CadType::Dictionary(key, boxed(alloc, t)?))
-}
-
-fn reference(
-    alloc: Global,
-    authorization: Authorization,
-    t: CadType,
-) -> Result<CadType, AllocError> {
-    Ok(CadType::Reference(authorization, boxed(alloc, t)?))
-}
-
-fn capability(alloc: Global, t: CadType) -> Result<CadType, AllocError> {
-    Ok(CadType::CapabilityOf(boxed(alloc, t)?))
-}
-
-fn declaration(
-    alloc: Global,
-    name: &str,
-    sort: Sort,
-    fields: Types,
-    interfaces: &[&str],
-) -> Result<Declared, AllocError> {
+/// A declaration of a line: its name, its sort, its interfaces and the types of its fields.
+fn declaration(alloc: Global, line: &str) -> Result<Declared, AllocError> {
+    let mut words = line.split(' ');
+    let id = id(alloc, words.next().unwrap_or(""))?;
+    let sort = sort(words.next().unwrap_or(""));
+    let interfaces = ids(alloc, words.next().unwrap_or(""))?;
+    let mut fields = Types::new(alloc);
+    for word in words {
+        fields.push(typed(alloc, word)?)?;
+    }
     Ok(Declared {
-        id: id(alloc, name)?,
+        id,
         sort,
         fields,
-        interfaces: ids(alloc, interfaces)?,
+        interfaces,
     })
 }
 
-fn bare(
-    alloc: Global,
-    name: &str,
-    sort: Sort,
-    interfaces: &[&str],
-) -> Result<Declared, AllocError> {
-    declaration(alloc, name, sort, Types::new(alloc), interfaces)
+fn declarations(alloc: Global, lines: &str) -> Result<Vec<Declared>, AllocError> {
+    let mut declared = Vec::new(alloc);
+    for line in lines.lines() {
+        declared.push(declaration(alloc, line)?)?;
+    }
+    Ok(declared)
 }
 
-/// The kinds of these declarations, if they are closed and nest as they must.
-fn kinds(alloc: Global, declared: Vec<Declared>) -> Result<Option<Kinds>, AllocError> {
+/// The kinds of declarations, if they are closed and nest as they must.
+fn kinds(alloc: Global, lines: &str) -> Result<Option<Kinds>, AllocError> {
+    let declared = declarations(alloc, lines)?;
     if is_closed(declared.as_slice()) && all_nest(declared.as_slice()) {
         return Ok(Some(Kinds::new(alloc, declared)?));
     }
@@ -100,15 +136,12 @@ fn kinds(alloc: Global, declared: Vec<Declared>) -> Result<Option<Kinds>, AllocE
 }
 
 /// A struct with an interface, a resource with two, one of which has the other, and these interfaces.
-fn interfaces(alloc: Global) -> Result<Option<Kinds>, AllocError> {
-    let mut all = Vec::new(alloc);
-    all.push(bare(alloc, "S", Sort::Struct, &["SI"])?)?;
-    all.push(bare(alloc, "R", Sort::Resource, &["RJ", "RI"])?)?;
-    all.push(bare(alloc, "SI", Sort::StructInterface, &["SI"])?)?;
-    all.push(bare(alloc, "RI", Sort::ResourceInterface, &["RI"])?)?;
-    all.push(bare(alloc, "RJ", Sort::ResourceInterface, &["RJ", "RI"])?)?;
-    kinds(alloc, all)
-}
+const INTERFACES: &str = "\
+S S SI\n\
+R R RJ,RI\n\
+SI SI SI\n\
+RI RI RI\n\
+RJ RI RJ,RI";
 
 fn below(kinds: &Kinds, a: &CadType, b: &CadType) -> Option<bool> {
     a.nesting(DEEPEST)?;
@@ -116,260 +149,167 @@ fn below(kinds: &Kinds, a: &CadType, b: &CadType) -> Option<bool> {
     Some(is_subtype(kinds, a, b))
 }
 
-fn add_plain_types(alloc: Global, types: &mut Vec<CadType>) -> Result<(), AllocError> {
-    types.push(CadType::Basic(Basic::Never))?;
-    types.push(int())?;
-    types.push(CadType::Basic(Basic::Path))?;
-    types.push(CadType::Basic(Basic::StoragePath))?;
-    types.push(CadType::Basic(Basic::AnyStruct))?;
-    types.push(CadType::Basic(Basic::AnyResource))?;
-    types.push(optional(alloc, int())?)?;
-    types.push(optional(alloc, CadType::Basic(Basic::Never))?)?;
-    types.push(optional(alloc, declared(alloc, "R")?)?)?;
-    Ok(())
-}
-
-fn add_containers(alloc: Global, types: &mut Vec<CadType>) -> Result<(), AllocError> {
-    types.push(array(alloc, int())?)?;
-    types.push(array(alloc, CadType::Basic(Basic::Never))?)?;
-    types.push(array(alloc, CadType::Basic(Basic::AnyResource))?)?;
-    types.push(array(alloc, CadType::Basic(Basic::AnyStruct))?)?;
-    types.push(array(alloc, declared(alloc, "R")?)?)?;
-    types.push(dictionary(alloc, int())?)?;
-    types.push(dictionary(alloc, CadType::Basic(Basic::Never))?)?;
-    types.push(dictionary(alloc, CadType::Basic(Basic::AnyResource))?)?;
-    Ok(())
-}
-
-fn add_declared_types(alloc: Global, types: &mut Vec<CadType>) -> Result<(), AllocError> {
-    types.push(declared(alloc, "S")?)?;
-    types.push(declared(alloc, "R")?)?;
-    types.push(intersection(alloc, &["SI"])?)?;
-    types.push(intersection(alloc, &["RI"])?)?;
-    types.push(intersection(alloc, &["RJ"])?)?;
-    types.push(intersection(alloc, &["RI", "RJ"])?)?;
-    Ok(())
-}
-
-fn add_references(alloc: Global, types: &mut Vec<CadType>) -> Result<(), AllocError> {
-    let e = Authorization::All(ids(alloc, &["E"])?);
-    let either = Authorization::Any(ids(alloc, &["E", "F"])?);
-    let both = Authorization::All(ids(alloc, &["E", "F"])?);
-    types.push(reference(alloc, Authorization::Unauthorized, declared(alloc, "R")?)?)?;
-    types.push(reference(alloc, e, declared(alloc, "R")?)?)?;
-    types.push(reference(alloc, either, declared(alloc, "R")?)?)?;
-    types.push(reference(alloc, both, intersection(alloc, &["RI"])?)?)?;
-    types.push(reference(
-        alloc,
-        Authorization::Unauthorized,
-        intersection(alloc, &["RI"])?,
-    )?)?;
-    Ok(())
-}
-
-fn add_capabilities(alloc: Global, types: &mut Vec<CadType>) -> Result<(), AllocError> {
-    let e = Authorization::All(ids(alloc, &["E"])?);
-    let plain = reference(alloc, Authorization::Unauthorized, declared(alloc, "R")?)?;
-    let entitled = reference(alloc, e, declared(alloc, "R")?)?;
-    let narrow = reference(
-        alloc,
-        Authorization::Unauthorized,
-        intersection(alloc, &["RI"])?,
-    )?;
-    types.push(CadType::Capability)?;
-    types.push(capability(alloc, plain)?)?;
-    types.push(capability(alloc, entitled)?)?;
-    types.push(capability(alloc, narrow)?)?;
-    Ok(())
-}
-
-/// For each of the types below which of them it is. The rows are those of the least relation with the rules, closed under
+/// Types, and for each of them which of them it is below. The rows are those of the least relation with the rules, closed under
 /// steps between by a program of its own.
-const BELOW: [&str; 32] = [
-    "11111111111111111111111111111111",
-    ".1..1...........................",
-    "..1.1...........................",
-    "..111...........................",
-    "....1...........................",
-    ".....1..........................",
-    "....1.1.........................",
-    "....1.111.......................",
-    "........1.......................",
-    "....1....1..1...................",
-    "....11...11111..................",
-    ".....1.....1....................",
-    "....1.......1...................",
-    ".....1.....1.1..................",
-    "....1.........1.................",
-    "....11........111...............",
-    ".....1..........1...............",
-    "....1............1.1............",
-    ".....1............1.111.........",
-    "....1..............1............",
-    ".....1..............1...........",
-    ".....1..............111.........",
-    ".....1..............111.........",
-    "....1..................1...1....",
-    "....1..................111.1....",
-    "....1..................1.1.1....",
-    "....1.....................11....",
-    "....1......................1....",
-    "....1.......................1...",
-    "....1.......................11.1",
-    "....1.......................1111",
-    "....1.......................1..1",
-];
+const BELOW: &str = "\
+Never 11111111111111111111111111111111\n\
+Int .1..1...........................\n\
+Path ..1.1...........................\n\
+StoragePath ..111...........................\n\
+AnyStruct ....1...........................\n\
+AnyResource .....1..........................\n\
+?/Int ....1.1.........................\n\
+?/Never ....1.111.......................\n\
+?/R ........1.......................\n\
+[/Int ....1....1..1...................\n\
+[/Never ....11...11111..................\n\
+[/AnyResource .....1.....1....................\n\
+[/AnyStruct ....1.......1...................\n\
+[/R .....1.....1.1..................\n\
+:/Int ....1.........1.................\n\
+:/Never ....11........111...............\n\
+:/AnyResource .....1..........1...............\n\
+S ....1............1.1............\n\
+R .....1............1.111.........\n\
+{SI} ....1..............1............\n\
+{RI} .....1..............1...........\n\
+{RJ} .....1..............111.........\n\
+{RI,RJ} .....1..............111.........\n\
+&/R ....1..................1...1....\n\
++/R ....1..................111.1....\n\
+|/R ....1..................1.1.1....\n\
+*/{RI} ....1.....................11....\n\
+&/{RI} ....1......................1....\n\
+Capability ....1.......................1...\n\
+C&/R ....1.......................11.1\n\
+C+/R ....1.......................1111\n\
+C&/{RI} ....1.......................1..1";
+
+/// The types at the heads of the lines.
+fn types(alloc: Global, lines: &str) -> Result<Vec<CadType>, AllocError> {
+    let mut types = Vec::new(alloc);
+    for line in lines.lines() {
+        let (word, _row) = line.split_once(' ').unwrap_or((line, ""));
+        types.push(typed(alloc, word)?)?;
+    }
+    Ok(types)
+}
+
+fn is_row(kinds: &Kinds, a: &CadType, types: &[CadType], row: &str) -> bool {
+    for (b, answer) in types.iter().zip(row.as_bytes()) {
+        if below(kinds, a, b) != Some(*answer == b'1') {
+            return false;
+        }
+    }
+    types.len() == row.len()
+}
 
 #[test]
 fn types_stand_in_their_order(rt: HostRuntime) -> Result<(), Fail> {
-    let alloc = rt.alloc();
-    let kinds = interfaces(alloc)?.ok_or("the interfaces are closed")?;
-    let mut types = Vec::new(alloc);
-    add_plain_types(alloc, &mut types)?;
-    add_containers(alloc, &mut types)?;
-    add_declared_types(alloc, &mut types)?;
-    add_references(alloc, &mut types)?;
-    add_capabilities(alloc, &mut types)?;
+    let kinds = kinds(rt.alloc(), INTERFACES)?.ok_or("the interfaces are closed")?;
+    let types = types(rt.alloc(), BELOW)?;
     assert_eq!(rt; types.len(), 32);
-    for (a, row) in types.iter().zip(BELOW.iter()) {
-        for (b, answer) in types.iter().zip(row.as_bytes()) {
-            let is_below = below(&kinds, a, b).ok_or("the types nest little")?;
-            assert_eq!(rt; is_below, *answer == b'1', "{a:?} {b:?}");
-        }
+    for (a, line) in types.iter().zip(BELOW.lines()) {
+        let (_word, row) = line.split_once(' ').unwrap_or((line, ""));
+        assert!(rt; is_row(&kinds, a, types.as_slice(), row), "{line}");
     }
     Ok(())
 }
 
-fn classes(kinds: &Kinds, t: &CadType) -> Option<(bool, bool, bool)> {
-    t.nesting(DEEPEST)?;
-    Some((
+/// Whether the type is storable, importable and exportable: three digits.
+fn is_judged(kinds: &Kinds, t: &CadType, answers: &str) -> bool {
+    if t.nesting(DEEPEST).is_none() {
+        return false;
+    }
+    let judged = [
         is_storable(kinds, t),
         is_importable(kinds, t),
         is_exportable(kinds, t),
-    ))
-}
-
-fn fields(alloc: Global, first: CadType, second: CadType) -> Result<Types, AllocError> {
-    let mut fields = Types::new(alloc);
-    fields.push(first)?;
-    fields.push(second)?;
-    Ok(fields)
+    ];
+    for (mark, answer) in judged.iter().zip(answers.as_bytes()) {
+        if *mark != (*answer == b'1') {
+            return false;
+        }
+    }
+    answers.len() == 3
 }
 
 /// Declarations that come back to themselves, with and without what is in no class.
-fn recursive(alloc: Global) -> Result<Option<Kinds>, AllocError> {
-    let mut all = Vec::new(alloc);
-    let tree = fields(alloc, array(alloc, declared(alloc, "Tree")?)?, int())?;
-    all.push(declaration(alloc, "Tree", Sort::Struct, tree, &[])?)?;
-    let borrowed = reference(alloc, Authorization::Unauthorized, int())?;
-    let bad = fields(alloc, array(alloc, declared(alloc, "Bad")?)?, borrowed)?;
-    all.push(declaration(alloc, "Bad", Sort::Struct, bad, &[])?)?;
-    let ping = fields(alloc, array(alloc, declared(alloc, "Pong")?)?, int())?;
-    all.push(declaration(alloc, "Ping", Sort::Struct, ping, &[])?)?;
-    let pong = fields(
-        alloc,
-        optional(alloc, declared(alloc, "Ping")?)?,
-        CadType::Basic(Basic::Void),
-    )?;
-    all.push(declaration(alloc, "Pong", Sort::Struct, pong, &[])?)?;
-    let ring = fields(alloc, declared(alloc, "Ring")?, int())?;
-    all.push(declaration(alloc, "Ring", Sort::Resource, ring, &[])?)?;
-    let list = fields(alloc, optional(alloc, declared(alloc, "List")?)?, int())?;
-    all.push(declaration(alloc, "List", Sort::Resource, list, &[])?)?;
-    let sent = fields(alloc, declared(alloc, "Tree")?, declared(alloc, "Ring")?)?;
-    all.push(declaration(alloc, "Sent", Sort::Event, sent, &[])?)?;
-    all.push(bare(alloc, "Color", Sort::Enum, &[])?)?;
-    all.push(bare(alloc, "Lib", Sort::Contract, &[])?)?;
-    kinds(alloc, all)
-}
+const RECURSIVE: &str = "\
+Tree S . [/Tree Int\n\
+Bad S . [/Bad &/Int\n\
+Ping S . [/Pong Int\n\
+Pong S . ?/Ping Void\n\
+Ring R . Ring Int\n\
+List R . ?/List Int\n\
+Sent V . Tree Ring\n\
+Color E .\n\
+Lib C .";
+
+/// Types, and for each whether it is storable, importable and exportable.
+const CLASSES: &str = "\
+Tree 111\n\
+Bad 000\n\
+Ping 000\n\
+Pong 000\n\
+Ring 101\n\
+List 100\n\
+Sent 101\n\
+Color 111\n\
+Lib 100\n\
+Address 111\n\
+PublicPath 111\n\
+AnyStruct 111\n\
+AnyResource 100\n\
+Never 100\n\
+Type 100\n\
+Void 001\n\
+Account 000\n\
+Controller 000\n\
+C&/Int 100\n\
+[&/Int 000\n\
+{SI} 100\n\
+:/Tree 111\n\
+?/Void 000\n\
+?/Ring 100";
 
 #[test]
-fn recursive_types_are_judged(rt: HostRuntime) -> Result<(), Fail> {
-    let kinds = recursive(rt.alloc())?.ok_or("there are no interfaces")?;
-    let rows = [
-        ("Tree", (true, true, true)),
-        ("Bad", (false, false, false)),
-        ("Ping", (false, false, false)),
-        ("Pong", (false, false, false)),
-        ("Ring", (true, false, true)),
-        ("List", (true, false, false)),
-        ("Sent", (true, false, true)),
-        ("Color", (true, true, true)),
-        ("Lib", (true, false, false)),
-    ];
-    for (name, answer) in rows {
-        let t = declared(rt.alloc(), name)?;
-        let judged = classes(&kinds, &t).ok_or("the type nests little")?;
-        assert!(rt; judged == answer, "{name} {judged:?}");
+fn types_are_judged(rt: HostRuntime) -> Result<(), Fail> {
+    let kinds = kinds(rt.alloc(), RECURSIVE)?.ok_or("there are no interfaces")?;
+    for line in CLASSES.lines() {
+        let (word, answers) = line.split_once(' ').unwrap_or((line, ""));
+        let t = typed(rt.alloc(), word)?;
+        assert!(rt; is_judged(&kinds, &t, answers), "{line}");
     }
     Ok(())
 }
 
-#[test]
-fn basic_types_are_judged(rt: HostRuntime) -> Result<(), Fail> {
-    let kinds = recursive(rt.alloc())?.ok_or("there are no interfaces")?;
-    let rows = [
-        (Basic::Number(Kind::Address), (true, true, true)),
-        (Basic::PublicPath, (true, true, true)),
-        (Basic::AnyStruct, (true, true, true)),
-        (Basic::AnyResource, (true, false, false)),
-        (Basic::Never, (true, false, false)),
-        (Basic::Meta, (true, false, false)),
-        (Basic::Void, (false, false, true)),
-        (Basic::Account, (false, false, false)),
-        (Basic::StorageCapabilityController, (false, false, false)),
-    ];
-    for (basic, answer) in rows {
-        let judged = classes(&kinds, &CadType::Basic(basic)).ok_or("the type nests little")?;
-        assert!(rt; judged == answer, "{basic:?} {judged:?}");
-    }
-    Ok(())
-}
-
-#[test]
-fn containers_are_judged(rt: HostRuntime) -> Result<(), Fail> {
-    let alloc = rt.alloc();
-    let kinds = recursive(alloc)?.ok_or("there are no interfaces")?;
-    let borrowed = reference(alloc, Authorization::Unauthorized, int())?;
-    assert!(rt;
-        classes(&kinds, &capability(alloc, borrowed.clone()?)?) == Some((true, false, false))
-    );
-    assert!(rt; classes(&kinds, &array(alloc, borrowed)?) == Some((false, false, false)));
-    assert!(rt; classes(&kinds, &intersection(alloc, &["SI"])?) == Some((true, false, false)));
-    assert!(rt;
-        classes(&kinds, &dictionary(alloc, declared(alloc, "Tree")?)?) == Some((true, true, true))
-    );
-    assert!(rt;
-        classes(&kinds, &optional(alloc, CadType::Basic(Basic::Void))?)
-            == Some((false, false, false))
-    );
-    assert!(rt;
-        classes(&kinds, &optional(alloc, declared(alloc, "Ring")?)?) == Some((true, false, false))
-    );
-    Ok(())
-}
-
-/// A type under as many optionals.
-fn nested(alloc: Global, inside: CadType, depth: u32) -> Result<CadType, AllocError> {
-    let mut t = inside;
-    for _ in 0..depth {
-        t = optional(alloc, t)?;
+/// A type as deep as that inside types of the signs in turn.
+fn nested(alloc: Global, signs: &[u8; 4], name: &str, depth: usize) -> Result<CadType, AllocError> {
+    let mut t = named(alloc, name)?;
+    for i in 0..depth {
+        t = around(alloc, signs[i % 4], t)?;
     }
     Ok(t)
 }
 
 #[test]
 fn walks_go_512_deep(rt: HostRuntime) -> Result<(), Fail> {
-    let kinds = recursive(rt.alloc())?.ok_or("there are no interfaces")?;
-    let never = nested(rt.alloc(), CadType::Basic(Basic::Never), DEEPEST)?;
-    let tree = nested(rt.alloc(), declared(rt.alloc(), "Tree")?, DEEPEST)?;
-    let ring = nested(rt.alloc(), declared(rt.alloc(), "Ring")?, DEEPEST)?;
-    assert!(rt; below(&kinds, &never, &tree) == Some(true));
-    assert!(rt; below(&kinds, &tree, &never) == Some(false));
-    assert!(rt; below(&kinds, &ring, &CadType::Basic(Basic::AnyStruct)) == Some(false));
-    assert!(rt; classes(&kinds, &tree) == Some((true, true, true)));
-    if ring.nesting(DEEPEST).is_some() {
-        assert!(rt; is_resource(&kinds, &ring));
+    let kinds = kinds(rt.alloc(), RECURSIVE)?.ok_or("there are no interfaces")?;
+    let ring = nested(rt.alloc(), b"?[:&", "Ring", 512)?;
+    let never = nested(rt.alloc(), b"?[:&", "Never", 512)?;
+    assert!(rt; below(&kinds, &never, &ring) == Some(true));
+    assert!(rt; below(&kinds, &ring, &never) == Some(false));
+    assert!(rt; below(&kinds, &ring, &ring) == Some(true));
+    let rings = nested(rt.alloc(), b"[:[:", "Ring", 512)?;
+    assert!(rt; below(&kinds, &rings, &CadType::Basic(Basic::AnyResource)) == Some(true));
+    assert!(rt; below(&kinds, &rings, &CadType::Basic(Basic::AnyStruct)) == Some(false));
+    assert!(rt; is_judged(&kinds, &rings, "100"));
+    let trees = nested(rt.alloc(), b"?[:[", "Tree", 512)?;
+    assert!(rt; is_judged(&kinds, &trees, "111"));
+    assert_eq!(rt; trees.nesting(DEEPEST), Some(512));
+    if rings.nesting(DEEPEST).is_some() {
+        assert!(rt; is_resource(&kinds, &rings));
     }
     Ok(())
 }
@@ -377,17 +317,18 @@ fn walks_go_512_deep(rt: HostRuntime) -> Result<(), Fail> {
 #[test]
 fn declarations_are_tested(rt: HostRuntime) -> Result<(), Fail> {
     let alloc = rt.alloc();
-    let mut open = Vec::new(alloc);
-    open.push(bare(alloc, "R", Sort::Resource, &["RJ"])?)?;
-    open.push(bare(alloc, "RJ", Sort::ResourceInterface, &["RI"])?)?;
+    let open = declarations(alloc, "R R RJ\nRJ RI RI")?;
     assert!(rt; !is_closed(open.as_slice()));
-    let deep = fields(alloc, nested(alloc, int(), 513)?, int())?;
-    let mut high = Vec::new(alloc);
-    high.push(declaration(alloc, "High", Sort::Struct, deep, &[])?)?;
+    let mut high = declarations(alloc, "High S .")?;
+    assert!(rt; all_nest(high.as_slice()));
+    for d in &mut high {
+        d.fields.push(nested(alloc, b"????", "Int", 513)?)?;
+    }
     assert!(rt; !all_nest(high.as_slice()));
-    let kinds = interfaces(alloc)?.ok_or("the interfaces are closed")?;
+    let kinds = kinds(alloc, INTERFACES)?.ok_or("the interfaces are closed")?;
     assert!(rt; kinds.find(&id(alloc, "R")?).is_some());
     assert_eq!(rt; kinds.interfaces(&id(alloc, "R")?).len(), 2);
+    assert_eq!(rt; kinds.declared().len(), 5);
     assert!(rt; kinds.is_resource(&id(alloc, "RI")?));
     Ok(())
 }

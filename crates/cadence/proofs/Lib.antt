@@ -1,6 +1,8 @@
 pub mod Holding
 pub mod Splits
-pub mod Says
-pub mod Runs
-pub mod Replies
-pub mod Uniques
+pub mod Batches
+pub mod Feeds
+pub mod Lines_of
+pub mod Prefixes
+pub mod Saids
+pub mod Comings

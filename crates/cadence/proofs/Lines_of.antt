@@ -1,8 +1,8 @@
 -- The line of an answer has one line feed, its last byte.
-use Rattle.std.proofs.Common.{◌≡◌, ℕ, zero, suc, ◌+◌, ◌-◌, ◌/◌, ◌%◌, ◌^◌, ◌≤◌, ◌==◌, Bool, true, false, cond, if◌then◌else◌, List, [], ◌∷◌, ◌++◌, length, replicate, codes, nat_lt, refl, sym, ◌∙◌, ap, arith}
+use Rattle.std.proofs.Common.{◌≡◌, ◌⊎◌, inl, inr, ℕ, zero, suc, ◌+◌, ◌-◌, ◌/◌, ◌%◌, ◌^◌, ◌≤◌, ◌==◌, Bool, true, false, cond, if◌then◌else◌, List, [], ◌∷◌, ◌++◌, length, replicate, codes, nat_lt, refl, sym, ◌∙◌, ap, arith}
 use Rattle.std.specs.Fmt.{decimal, digits, digits_onto, digit_glyph}
 use Rattle.std.specs.Char.{digit_char}
-use Rattle.std.proofs.lemmas.Bool.Decides.{nat_tests}
+use Rattle.std.proofs.lemmas.Bool.Decides.{eqb_tells}
 use Rattle.cad_syntax.specs.declared.num.Num.{Num}
 use Rattle.cad_syntax.specs.declared.kind.Kind.{Kind}
 use Rattle.cad_syntax.specs.Addresses.{hex_digits, address_text}
@@ -15,19 +15,26 @@ use Rattle.cadence.proofs.Feeds.{feeds_append}
 abbrev more : Bool → ℕ → ℕ
 more c n = if c then suc n else n
 
+apart : (a b : ℕ) → (a ≡ b → ⊥) → (a == b) ≡ false
+apart a b other = by (eqb_tells a b)
+  where
+    by : ((a == b) ≡ true) × (a ≡ b) ⊎ ((a == b) ≡ false) × (a ≡ b → ⊥) → (a == b) ≡ false
+    by (inl same) = absurd (other same.1)
+    by (inr differs) = differs.0
+
 glyph_by : (c : Bool) (d : ℕ) → ((if c then 48 + d else 87 + d) == 10) ≡ false
-glyph_by true d = refl
-glyph_by false d = refl
+glyph_by true d = apart (48 + d) 10 (λ e. omega (arith, e))
+glyph_by false d = apart (87 + d) 10 (λ e. omega (arith, e))
+
+either : (c : Bool) (x y : List ℕ) → line_feeds x ≡ 0 → line_feeds y ≡ 0 → line_feeds (if c then x else y) ≡ 0
+either true x y h k = h
+either false x y h k = k
 
 onto_none : (k n : ℕ) (acc : List ℕ) → line_feeds acc ≡ 0 → line_feeds (digits_onto k 10 false n acc) ≡ 0
-onto_by : (c : Bool) (k n : ℕ) (acc : List ℕ) → line_feeds acc ≡ 0
-    → line_feeds (if c then digit_glyph false (n % 10) ∷ acc else digits_onto k 10 false (n / 10) (digit_glyph false (n % 10) ∷ acc)) ≡ 0
-
 onto_none zero n acc h = h
-onto_none (suc k) n acc h = onto_by (n / 10 == 0) k n acc h
-
-onto_by true k n acc h = ap (λ c. more c (line_feeds acc)) (glyph_by (nat_lt (n % 10) 10) (n % 10)) ∙ h
-onto_by false k n acc h = onto_none k (n / 10) (digit_glyph false (n % 10) ∷ acc) (ap (λ c. more c (line_feeds acc)) (glyph_by (nat_lt (n % 10) 10) (n % 10)) ∙ h)
+onto_none (suc k) n acc h =
+    let longer : line_feeds (digit_glyph false (n % 10) ∷ acc) ≡ 0 = ap (λ c. more c (line_feeds acc)) (glyph_by (nat_lt (n % 10) 10) (n % 10)) ∙ h in
+    either (n / 10 == 0) (digit_glyph false (n % 10) ∷ acc) (digits_onto k 10 false (n / 10) (digit_glyph false (n % 10) ∷ acc)) longer (onto_none k (n / 10) (digit_glyph false (n % 10) ∷ acc) longer)
 
 decimal_none : (n : ℕ) → line_feeds (decimal n) ≡ 0
 unfolding digits

@@ -9,7 +9,9 @@ use Rattle.cad_tape.specs.Reading.{IsQuiet}
 use Rattle.cad_accounts.specs.Registers.{Map}
 use Rattle.cad_accounts.specs.Accounts.{Accounts, StandsFor}
 use Rattle.cad_store.specs.declared.store.Store.{Store}
-use Rattle.cad_store.specs.Stores.{DiskHolds, held, IsOn, Keeps}
+use Rattle.cad_store.specs.declared.place.Place.{Place}
+use Rattle.cad_store.specs.declared.place.Place.TheVariants.{Behind, Onto}
+use Rattle.cad_store.specs.Stores.{DiskHolds, held, IsAt, IsOn, Keeps}
 use Rattle.cadence.specs.Answer.{Answer, Answers, answer_line}
 use Rattle.cadence.specs.Served.{AnswersAll, Served, ServedSome, Broken}
 use Rattle.cadence.specs.Crashes.{DiskStands, HasPrefix, IsPrefix, Survives, line_feeds, acknowledged}
@@ -20,6 +22,17 @@ use Rattle.cadence.proofs.Batches.{served_none, served_then, some_then, some_mor
 use Rattle.cadence.proofs.Feeds.{feeds_append, feeds_front}
 use Rattle.cadence.proofs.Lines_of.{one_feed}
 use Rattle.cadence.proofs.Prefixes.{quiet_stands, prefix_none, survives_more, survives_then}
+
+-- what is put leaves the tapes
+place_put : (bytes : List ℕ) (m : List Event) (place : Place) → IsAt m place → IsAt (put bytes ∷ m) place
+place_put bytes m (Behind tape at) h = record { used = h.used; ends = h.ends; fits = h.fits }
+place_put bytes m (Onto tape) h = (record { not_used = h.0.not_used; not_pick = h.0.not_pick; whole = h.0.whole }, h.1)
+
+on_put : (bytes : List ℕ) (m : List Event) (store : Store) → IsOn m store → IsOn (put bytes ∷ m) store
+on_put bytes m store h = record { holds = h.holds; place = place_put bytes m store.place h.place }
+
+quiet_put : (bytes : List ℕ) (m : List Event) → IsQuiet m → IsQuiet (put bytes ∷ m)
+quiet_put bytes m h = record { clean = h.clean; clean_pick = h.clean_pick }
 
 -- a store on its tapes, which stand for the accounts that it holds
 pub on_stands : (m : List Event) (store : Store) (w : Accounts) → IsOn m store → StandsFor (held store) w → DiskStands (reads m) w
@@ -137,9 +150,9 @@ module _ (w v : Accounts) (c : List ℕ) (a : Answer) (answers : Answers w c a v
       accounts = v;
       served = one_served (output new) (ap output made ∙ ap (λ o. o ++ text) same ∙ ap (λ t. output old ++ t) is);
       stands = holds;
-      on = subst (λ m. IsOn m store) (sym made) on;
+      on = subst (λ m. IsOn m store) (sym made) (on_put text mid store on);
       survives = put_survives text new is made;
-      quiet = λ quiet. subst IsQuiet (sym made) (stays quiet);
+      quiet = λ quiet. subst IsQuiet (sym made) (quiet_put text mid (stays quiet));
     }
 
     pub put_broke : (text : List ℕ) (new : List Event) → text ≡ answer_line a → BreaksPut text mid new → Halted WriteFault w (c ∷ []) old new
@@ -169,3 +182,19 @@ module _ (w v : Accounts) (c : List ℕ) (a : Answer) (answers : Answers w c a v
     halts = (w, record { count = 0; within = omega arith; served = record { answers = []; are = refl; output = same ∙ sym (append-nil (output old)) } });
     survives = λ quiet. commit_ran before behind new is_w is_v (ran quiet);
   }
+
+  -- a command that writes nothing
+  pub stays_said : (text : List ℕ) (new : List Event) (store : Store) → text ≡ answer_line a → new ≡ put text ∷ old → StandsFor (held store) w → StandsFor (held store) v → IsOn old store → Said w (c ∷ []) old new store
+  stays_said text new store is made is_w is_v on = put_said old refl (stays_ran (on_stands old store w on is_w)) (λ quiet. quiet) (on_stands old store v on is_v) text new store is made is_v on
+
+  pub stays_broke : (text : List ℕ) (new : List Event) (store : Store) → text ≡ answer_line a → BreaksPut text old new → StandsFor (held store) w → StandsFor (held store) v → IsOn old store → Halted WriteFault w (c ∷ []) old new
+  stays_broke text new store is made is_w is_v on = put_broke old refl (stays_ran (on_stands old store w on is_w)) (λ quiet. quiet) (on_stands old store v on is_v) text new is made
+
+  -- a command whose commit was written
+  pub commit_said : (before : Map) (mid new : List Event) (text : List ℕ) (store : Store) → output mid ≡ output old → StandsFor before w → StandsFor (held store) v → (IsQuiet old → Ran old mid (Keeps old before (held store)))
+      → (IsQuiet old → IsQuiet mid) → IsOn mid store → text ≡ answer_line a → new ≡ put text ∷ mid → Said w (c ∷ []) old new store
+  commit_said before mid new text store same is_w is_v ran stays on is made = put_said mid same (λ quiet. commit_ran before (held store) mid is_w is_v (ran quiet)) stays (on_stands mid store v on is_v) text new store is made is_v on
+
+  pub commit_told : (before : Map) (mid new : List Event) (text : List ℕ) (store : Store) → output mid ≡ output old → StandsFor before w → StandsFor (held store) v → (IsQuiet old → Ran old mid (Keeps old before (held store)))
+      → (IsQuiet old → IsQuiet mid) → IsOn mid store → text ≡ answer_line a → BreaksPut text mid new → Halted WriteFault w (c ∷ []) old new
+  commit_told before mid new text store same is_w is_v ran stays on is made = put_broke mid same (λ quiet. commit_ran before (held store) mid is_w is_v (ran quiet)) stays (on_stands mid store v on is_v) text new is made

@@ -35,7 +35,7 @@ error_number DivisionByZero = 103
 
 -- what a run with this value is answered
 pub data Runs : Result ℤ NumError → Answer → Type 0 where
-  done : {z : Result ℤ NumError} {n : Num} → z ≡ Ok (value_of n) → n.kind ≡ Int → Runs z (result n)
+  gives : {z : Result ℤ NumError} {n : Num} → z ≡ Ok (value_of n) → n.kind ≡ Int → Runs z (result n)
   fails : {z : Result ℤ NumError} {e : NumError} → z ≡ Err e → Runs z (failed (error_number e))
 
 -- The first factor of a sum: 1 where none is loaded, else the number that was stored, which is stored there no more.
@@ -51,11 +51,11 @@ pub data Outcome : Type 0 where
 -- a save by a signer with an account
 pub data Saves (w : Accounts) (signer : ℕ) (s : Save) : Outcome → Type 0 where
   nothing_there : {path : List ℕ} → s.load ≡ Some path → stored_at w signer path ≡ None → Saves w signer s (stays (failed 106))
-  fails : {z : ℤ} {v : Accounts} {e : NumError} → Loads w signer s.load z v → saved_value z s.first s.others ≡ Err e
+  out_of_range : {z : ℤ} {v : Accounts} {e : NumError} → Loads w signer s.load z v → saved_value z s.first s.others ≡ Err e
     → Saves w signer s (stays (failed (error_number e)))
   occupied : {z x : ℤ} {v : Accounts} → Loads w signer s.load z v → saved_value z s.first s.others ≡ Ok x
     → stored_at v signer s.to ≢ None → Saves w signer s (stays (failed 111))
-  saved : {z : ℤ} {v : Accounts} {n : Num} → Loads w signer s.load z v → saved_value z s.first s.others ≡ Ok (value_of n) → n.kind ≡ Int
+  saved : {z : ℤ} {v : Accounts} (n : Num) → Loads w signer s.load z v → saved_value z s.first s.others ≡ Ok (value_of n) → n.kind ≡ Int
     → stored_at v signer s.to ≡ None → Saves w signer s (leads done (stored_as signer s.to (Some (Number n)) v))
 
 -- what a request comes to
@@ -72,7 +72,7 @@ most_bytes = 2 ^ 30
 
 -- accounts take the place of the old ones where they aren't too large
 pub data Commits (w : Accounts) : Outcome → Answer → Accounts → Type 0 where
-  stays : {a : Answer} → Commits w (stays a) a w
+  unchanged : {a : Answer} → Commits w (stays a) a w
   fits : {a : Answer} {v : Accounts} {size : ℕ} → HasSize v size → size ≤ most_bytes → Commits w (leads a v) a v
   full : {a : Answer} {v : Accounts} {size : ℕ} → HasSize v size → most_bytes < size → Commits w (leads a v) (failed 130) w
 

@@ -1,9 +1,11 @@
 pub mod Lines
 pub mod Words
 pub mod Held
-pub mod Views
 pub mod Answer
 pub mod Served
+pub mod Crashes
+pub mod Views
+pub mod Outcomes
 pub mod Progress
 pub mod Ending
 pub mod Statuses

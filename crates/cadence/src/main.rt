@@ -3,13 +3,14 @@
 
 mod laws;
 mod line;
-mod mark;
+mod outcome;
+mod prepare;
+
 mod reply;
-mod request;
-mod script;
+
 mod serve;
 mod status;
-mod sum;
+
 #[cfg(test)]
 mod tests;
 mod words;

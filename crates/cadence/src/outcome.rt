@@ -1,6 +1,7 @@
 // What requests come to.
-ghost use Rattle.std.specs.Prelude.{◌≡◌, ◌≤◌, ◌↔◌, List, ℕ, IfOk, IfSome, IsTrue, option_map};
+ghost use Rattle.std.specs.Prelude.{◌≡◌, ◌≤◌, ◌↔◌, List, ℕ, IfOk, IfSome, IsTrue, MatchResult, option_map};
 ghost use Rattle.std.specs.List.{AllByRecursion};
+ghost use Rattle.cad_accounts.specs.Registers.{Map};
 ghost use Rattle.cad_accounts.specs.Layers.{original, current};
 ghost use Rattle.cad_accounts.specs.Accounts.{Accounts, StandsFor, Has};
 ghost use Rattle.cad_accounts.specs.Worlds.{AreSound, HasAccount};
@@ -94,6 +95,16 @@ fn first_factor(
     }
 }
 
+// Whether something is stored already, and not memory ran out.
+fn refused(stop: ValueStop) -> Result<Outcome, AllocError>
+    ensures { MatchResult result (λ o. (o ≡ Outcome.Stays (Reply.Failed 111)) × (value : Value) × (stop ≡ ValueStop.Occupied value)) (λ _. Unit {0}) }
+{
+    match stop {
+        ValueStop::Occupied(_value) => Ok(Outcome::Stays(Reply::Failed(111))),
+        ValueStop::Memory(_value) => Err(AllocError),
+    }
+}
+
 // A save of a value.
 fn value_outcome(
     mut world: World<'_, Store>,
@@ -103,13 +114,12 @@ fn value_outcome(
 ) -> Result<Outcome, AllocError>
     requires there { HasAccount (current world) signer.0 }
     requires int { value.kind ≡ Kind.Int }
-    ensures saves { IfOk result (λ o. (v : Accounts) → StandsFor (current world) v → Puts o (original world) v signer.0 to.now.0 value) }
+    ensures saves { IfOk result (λ o. (v : Accounts) → StandsFor (current world.entry) v → Puts o (original world.entry) v signer.0 to.now.0 value) }
     ensures int { IfOk result ComesInt }
 {
     match world.save_value(signer, to, Value::Number(value)) {
         Ok(()) => Ok(Outcome::Leads(Reply::Done, world.changes())),
-        Err(ValueStop::Occupied(_)) => Ok(Outcome::Stays(Reply::Failed(111))),
-        Err(ValueStop::Memory(_)) => Err(AllocError),
+        Err(stop) => refused(stop),
     }
 }
 
@@ -122,7 +132,7 @@ fn sum_outcome(
     requires there { HasAccount (current world) signer.0 }
     requires first { AllByRecursion (λ n. n ≤ greatest) save.now.first.items }
     requires others { AllByRecursion IsProduct (products_of save.now.others.items) }
-    ensures saves { IfOk result (λ o. (w : Accounts) → StandsFor (current world) w → ComesBy o (original world) (Saves w signer.0 (save_of save.now))) }
+    ensures saves { IfOk result (λ o. (w : Accounts) → StandsFor (current world.entry) w → ComesBy o (original world.entry) (Saves w signer.0 (save_of save.now))) }
     ensures int { IfOk result ComesInt }
 {
     let Some(start) = first_factor(&mut world, signer, &save.load)? else {

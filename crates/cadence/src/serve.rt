@@ -1,5 +1,5 @@
 // The run: lines come in, and a reply goes out for each command.
-ghost use Rattle.std.specs.Prelude.{◌≡◌, ◌≢◌, ◌≤◌, ◌<◌, ◌+◌, ◌^◌, ◌++◌, ◌↔◌, [], ◌∷◌, List, ℕ, ⊥, length, take, IfOk, IfErr, OnOk, OnErr, Ok};
+ghost use Rattle.std.specs.Prelude.{◌≡◌, ◌≢◌, ◌≤◌, ◌<◌, ◌+◌, ◌^◌, ◌++◌, ◌↔◌, [], ◌∷◌, List, ℕ, length, take, IfOk, IfErr, OnOk, OnErr, Ok};
 ghost use Rattle.cad_host.specs.Disk.{Event, output, reads, Puts};
 ghost use Rattle.cad_host.specs.Faults.{Rose, IsCaused};
 ghost use Rattle.cad_wire.specs.declared.entry.Entry.{Entry};

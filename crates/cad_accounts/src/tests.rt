@@ -1,0 +1,168 @@
+use super::*;
+use cad_syntax::{Bytes, Items};
+use cad_wire::{Entry, Key};
+use std::alloc::{AllocError, Global};
+use std::test::*;
+
+// One account: the number of accounts and the next identity, and the account's next controller.
+const HEAD: [u8; 16] = [0, 0, 0, 0, 0, 0, 0, 1, 0, 0, 0, 0, 0, 0, 0, 1];
+
+const FIRST: [u8; 9] = [1, 0, 0, 0, 0, 0, 0, 0, 1];
+
+const SECOND: [u8; 9] = [1, 0, 0, 0, 0, 0, 0, 0, 2];
+
+const ONE: [u8; 8] = [0, 0, 0, 0, 0, 0, 0, 1];
+
+// The key of what account 1 stores at x.
+const X: [u8; 10] = [4, 0, 0, 0, 0, 0, 0, 0, 1, b'x'];
+
+const SEVEN: [u8; 19] = [4, 0, 0, 0, 0, 0, 0, 0, 0, 0, 0, 0, 0, 0, 0, 0, 0, 0, 7];
+
+fn bytes_of(alloc: Global, bytes: &[u8]) -> Result<Bytes, AllocError> {
+    Items::from_slice(alloc, bytes)
+}
+
+fn key_of(alloc: Global, bytes: &[u8]) -> Result<Key, AllocError> {
+    Ok(Key(bytes_of(alloc, bytes)?))
+}
+
+fn put(
+    alloc: Global,
+    registers: &mut MapRegisters,
+    key: &[u8],
+    value: &[u8],
+) -> Result<(), AllocError> {
+    let key = key_of(alloc, key)?;
+    let value = bytes_of(alloc, value)?;
+    registers.set(key, value)
+}
+
+fn one_account(alloc: Global) -> Result<MapRegisters, AllocError> {
+    let mut registers = MapRegisters::new(alloc);
+    put(alloc, &mut registers, &FIRST, &ONE)?;
+    put(alloc, &mut registers, &[0], &HEAD)?;
+    Ok(registers)
+}
+
+#[test]
+fn sets(rt: HostRuntime) -> Result<(), Fail> {
+    let mut registers = one_account(rt.alloc())?;
+    assert_eq!(rt; registers.len(), 2);
+    put(rt.alloc(), &mut registers, &FIRST, &[9])?;
+    assert_eq!(rt; registers.len(), 2);
+    let key = key_of(rt.alloc(), &FIRST)?;
+    let found = registers.get(&key).ok_or("it is there")?;
+    assert_eq!(rt; found, [9].as_slice());
+    let other = key_of(rt.alloc(), &SECOND)?;
+    assert!(rt; registers.get(&other).is_none());
+    Ok(())
+}
+
+#[test]
+fn in_byte_order(rt: HostRuntime) -> Result<(), Fail> {
+    let registers = one_account(rt.alloc())?;
+    let first = registers.key_at(0).ok_or("there is one")?;
+    assert_eq!(rt; first.0.as_slice(), [0].as_slice());
+    let second = registers.key_at(1).ok_or("there are two")?;
+    assert_eq!(rt; second.0.as_slice(), FIRST.as_slice());
+    assert!(rt; registers.key_at(2).is_none());
+    assert_eq!(rt; registers.as_slice().len(), 2);
+    Ok(())
+}
+
+fn remove(alloc: Global, registers: &mut MapRegisters, key: &[u8]) -> Result<(), AllocError> {
+    let key = key_of(alloc, key)?;
+    if key.0.len() > 9 {
+        return Err(AllocError);
+    }
+    registers.reserve(1)?;
+    registers.change(Entry { key, value: None });
+    Ok(())
+}
+
+#[test]
+fn removes(rt: HostRuntime) -> Result<(), Fail> {
+    let mut registers = one_account(rt.alloc())?;
+    remove(rt.alloc(), &mut registers, &[0])?;
+    assert_eq!(rt; registers.len(), 1);
+    assert_eq!(rt; registers.size(), 41);
+    let first = registers.key_at(0).ok_or("one is left")?;
+    assert_eq!(rt; first.0.as_slice(), FIRST.as_slice());
+    remove(rt.alloc(), &mut registers, &[0])?;
+    assert_eq!(rt; registers.len(), 1);
+    Ok(())
+}
+
+#[test]
+fn sizes(rt: HostRuntime) -> Result<(), Fail> {
+    let none = MapRegisters::new(rt.alloc());
+    assert_eq!(rt; none.size(), 15);
+    let one = one_account(rt.alloc())?;
+    assert_eq!(rt; one.size(), 67);
+    Ok(())
+}
+
+#[test]
+fn sound(rt: HostRuntime) -> Result<(), Fail> {
+    let none = MapRegisters::new(rt.alloc());
+    assert!(rt; is_sound(rt.alloc(), &none)?);
+    let one = one_account(rt.alloc())?;
+    assert!(rt; is_sound(rt.alloc(), &one)?);
+    assert!(rt; is_sound_with(rt.alloc(), &X, &SEVEN)?);
+    Ok(())
+}
+
+// Whether one account is sound with one more register.
+fn is_sound_with(alloc: Global, key: &[u8], value: &[u8]) -> Result<bool, AllocError> {
+    let mut registers = one_account(alloc)?;
+    put(alloc, &mut registers, key, value)?;
+    is_sound(alloc, &registers)
+}
+
+#[test]
+fn unsound_heads(rt: HostRuntime) -> Result<(), Fail> {
+    // the next identity is 2; there are two accounts
+    let mut head = HEAD;
+    head[15] = 2;
+    assert!(rt; !is_sound_with(rt.alloc(), &[0], &head)?);
+    let mut head = HEAD;
+    head[7] = 2;
+    assert!(rt; !is_sound_with(rt.alloc(), &[0], &head)?);
+    assert!(rt; !is_sound_with(rt.alloc(), &[0], &ONE)?);
+    Ok(())
+}
+
+#[test]
+fn unsound_controllers(rt: HostRuntime) -> Result<(), Fail> {
+    assert!(rt; !is_sound_with(rt.alloc(), &SECOND, &ONE)?);
+    assert!(rt; !is_sound_with(rt.alloc(), &FIRST, &[0; 8])?);
+    assert!(rt; !is_sound_with(rt.alloc(), &FIRST, &[1])?);
+    Ok(())
+}
+
+#[test]
+fn unsound_values(rt: HostRuntime) -> Result<(), Fail> {
+    // a byte of another kind, and one more byte
+    let mut value = SEVEN;
+    value[0] = 2;
+    assert!(rt; !is_sound_with(rt.alloc(), &X, &value)?);
+    let mut value = SEVEN;
+    value[1] = 1;
+    assert!(rt; !is_sound_with(rt.alloc(), &X, &value)?);
+    assert!(rt; !is_sound_with(rt.alloc(), &X, &[2, 1])?);
+    Ok(())
+}
+
+#[test]
+fn unsound_keys(rt: HostRuntime) -> Result<(), Fail> {
+    // no text, an account that isn't there, and other keys
+    let mut key = X;
+    key[9] = 255;
+    assert!(rt; !is_sound_with(rt.alloc(), &key, &SEVEN)?);
+    let mut key = X;
+    key[8] = 2;
+    assert!(rt; !is_sound_with(rt.alloc(), &key, &SEVEN)?);
+    assert!(rt; !is_sound_with(rt.alloc(), &[5, 1], &ONE)?);
+    assert!(rt; !is_sound_with(rt.alloc(), &[], &ONE)?);
+    Ok(())
+}

@@ -1,0 +1,12 @@
+use Rattle.std.proofs.Common.{◌∙◌, Err, ap, subst, sym}
+use Rattle.cad_syntax.specs.Lexes.{Lexes}
+use Rattle.cad_forms.specs.Views.{products_of}
+use Rattle.cad_forms.proofs.Scripts.{code_exactly, lexed_as}
+use Rattle.cad_forms.proofs.script.script_sum.Goals as goal
+
+pub returns-in-Ok : goal.returns-in-Ok
+returns-in-Ok c = code_exactly (λ v. products_of v.items) c.one_lexing.ensures c.args.code.now c.as_slice.result.now
+    (lexed_as _ _ _ _ c.as_bytes.ensures.value c.as_slice.ensures c.in-Ok.ensures.found) c.read_script.result c.read_script.ensures
+
+pub returns-in-Err-At : goal.returns-in-Err-At
+returns-in-Err-At c = λ sum s. c.lex.ensures.none c.in-Err-At.field-0-0 (c.in-Err-At.is ∙ ap Err c.in-Err-At.field-0-is) s.tokens (subst (λ t. Lexes t s.tokens) (sym c.as_bytes.ensures.value) s.lexes)

@@ -1,0 +1,12 @@
+use Rattle.std.proofs.Common.{sym, ◌∙◌, ap, subst, refl, IfOk, Result, Ok, Err}
+use Rattle.cad_accounts.specs.Registers.{at, Leads}
+use Rattle.cad_accounts.specs.Layers.{original, current}
+use Rattle.cadence.proofs.Comings.{puts_refused}
+use Rattle.cadence.proofs.outcome.value_outcome.Goals as goal
+
+pub returns-in-Ok-clause-saves : goal.returns-in-Ok-clause-saves
+returns-in-Ok-clause-saves c = λ v stands. let m = c.in-Ok.ensures.saved v stands in
+    (refl, m.0, current c.save_value.new.self, subst (λ base. Leads base (current c.save_value.new.self) c.changes.result) (ap at c.save_value.ensures.below) c.changes.ensures, m.1)
+
+pub returns-in-Err-clause-saves : goal.returns-in-Err-clause-saves
+returns-in-Err-clause-saves c = ?
