@@ -10,6 +10,7 @@ pub mod Changes
 pub mod Keys
 pub mod RowLaws
 pub mod Places
+pub mod Existing
 mod Spelled
 mod Following
 mod KeyOrder

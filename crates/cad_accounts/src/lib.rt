@@ -5,8 +5,8 @@ mod laws;
 mod overlay;
 mod registers;
 mod row;
-mod spelling;
 mod sound;
+mod spelling;
 mod stops;
 mod world;
 

@@ -1,6 +1,7 @@
 // What requests come to.
-ghost use Rattle.std.specs.Prelude.{◌≡◌, ◌≤◌, ◌↔◌, List, ℕ, IfOk, IfSome, IsTrue, MatchResult, option_map};
+ghost use Rattle.std.specs.Prelude.{◌≡◌, ◌≤◌, ◌↔◌, List, ℕ, IfOk, IfSome, IsTrue, MatchResult, option_map, pos};
 ghost use Rattle.std.specs.List.{AllByRecursion};
+ghost use Rattle.cad_num.specs.Numbers.{value_of};
 ghost use Rattle.cad_accounts.specs.Registers.{Map};
 ghost use Rattle.cad_accounts.specs.Layers.{original, current};
 ghost use Rattle.cad_accounts.specs.Accounts.{Accounts, StandsFor, Has};
@@ -73,6 +74,13 @@ fn has_account(world: &World<'_, Store>, address: Address) -> Result<bool, Alloc
     Ok(1 <= address.0 && address.0 <= accounts)
 }
 
+fn one() -> Num
+    ensures value { value_of result ≡ pos 1 }
+    ensures kind { result.kind ≡ Kind.Int }
+{
+    Num::new(Kind::Int, false, 1).unwrap()
+}
+
 // The first factor of a sum: 1, or the number that is loaded. None where nothing is stored there.
 fn first_factor(
     world: &mut World<'_, Store>,
@@ -85,7 +93,7 @@ fn first_factor(
     ensures below { world.new.rows ≡ world.old.rows }
 {
     let Some(path) = load else {
-        return Ok(Some(Num::new(Kind::Int, false, 1).unwrap()));
+        return Ok(Some(one()));
     };
     match world.load_value(signer, path) {
         Ok(Some(Value::Number(n))) => Ok(Some(n)),

@@ -1,4 +1,4 @@
-use Rattle.std.proofs.Common.{sym, ◌∙◌, ap, subst, refl}
+use Rattle.std.proofs.Common.{sym, ◌∙◌, ap, subst, Err}
 use Rattle.cad_accounts.specs.Registers.{at, Leads}
 use Rattle.cad_accounts.specs.Layers.{original, current}
 use Rattle.cad_accounts.specs.Accounts.{StandsFor, created}
@@ -19,4 +19,4 @@ returns-in-Ok-clause-comes c = λ w stands.
 
 pub returns-in-Err-Spent-clause-comes : goal.returns-in-Err-Spent-clause-comes
 returns-in-Err-Spent-clause-comes c = λ w stands.
-    spent (c.in-Err-Spent.ensures.spent refl w (subst (λ m. StandsFor m w) (sym (c.over-world.ensures.unchanged ∙ ap at c.over-world.ensures.below)) stands))
+    spent (c.in-Err-Spent.ensures.spent (ap Err c.in-Err-Spent.field-0-is) w (subst (λ m. StandsFor m w) (sym (c.over-world.ensures.unchanged ∙ ap at c.over-world.ensures.below)) stands))

@@ -5,9 +5,6 @@ use Rattle.cad_forms.specs.Request.{script}
 use Rattle.cadence.specs.Answer.{Does, stays, failed, runs, gives, fails}
 use Rattle.cadence.proofs.outcome.script_outcome.Goals as goal
 
-pub value_of_sum-requires-clause-never : goal.value_of_sum-requires-clause-never
-value_of_sum-requires-clause-never c = ?
-
 pub returns-in-Ok-clause-comes : goal.returns-in-Ok-clause-comes
 returns-in-Ok-clause-comes c = λ map w. runs (gives (sym c.in-Ok.ensures.value) c.in-Ok.ensures.kind)
 

@@ -1,4 +1,4 @@
-use Rattle.std.proofs.Common.{sym, ◌∙◌, ap, subst, refl, IfOk, Result, Ok, Err}
+use Rattle.std.proofs.Common.{sym, ◌∙◌, ap, subst, refl}
 use Rattle.cad_accounts.specs.Registers.{at, Leads}
 use Rattle.cad_accounts.specs.Layers.{original, current}
 use Rattle.cadence.proofs.Comings.{puts_refused}
@@ -9,4 +9,5 @@ returns-in-Ok-clause-saves c = λ v stands. let m = c.in-Ok.ensures.saved v stan
     (refl, m.0, current c.save_value.new.self, subst (λ base. Leads base (current c.save_value.new.self) c.changes.result) (ap at c.save_value.ensures.below) c.changes.ensures, m.1)
 
 pub returns-in-Err-clause-saves : goal.returns-in-Err-clause-saves
-returns-in-Err-clause-saves c = ?
+returns-in-Err-clause-saves c =
+    puts_refused c.in-Err.stop c.refused.result (original c.args.world) (current c.args.world) c.args.signer.0 c.args.to.now.0 c.args.value c.in-Err.ensures.refused c.refused.ensures
