@@ -1,5 +1,5 @@
 -- Where the next record goes.
-use Rattle.std.proofs.Common.{◌≡◌, ◌≢◌, ◌⊎◌, ⊎_elim, ℕ, zero, suc, ◌+◌, ◌-◌, ◌%◌, ◌^◌, ◌≤◌, ◌<◌, ◌==◌, Bool, true, false, cond, Option, Some, List, [], ◌∷◌, ◌++◌, length, take, drop, refl, sym, ◌∙◌, ap, subst, arith, length-append}
+use Rattle.std.proofs.Common.{◌≡◌, ◌≢◌, ⊎_elim, ℕ, ◌+◌, ◌-◌, ◌%◌, ◌^◌, ◌≤◌, ◌<◌, ◌==◌, Bool, true, false, cond, Some, List, [], ◌∷◌, ◌++◌, length, take, drop, refl, sym, ◌∙◌, ap, subst, arith, length-append}
 use Rattle.std.proofs.lemmas.List.{take_all}
 use Rattle.std.proofs.lemmas.Bool.{cases_lt}
 use Rattle.std.proofs.lemmas.Bool.Decides.{nat_tests}
@@ -7,8 +7,8 @@ use Rattle.cad_host.specs.declared.host.Tape.{Tape}
 use Rattle.cad_host.specs.declared.host.Tape.TheVariants.{A, B, Pick}
 use Rattle.cad_host.specs.Disk.{Event, reads, same_tape, Ran}
 use Rattle.cad_tape.specs.Framing.{framing, framed, spelled, Ends}
-use Rattle.cad_tape.specs.Reading.{chosen, reading, stored, or_none, ending, pick_of, four_calls, IsPlaced, IsFree, Leaves}
-use Rattle.cad_tape.proofs.Opened.{free_of_empty, free_of_placed, placed_of}
+use Rattle.cad_tape.specs.Reading.{chosen, reading, stored, or_none, ending, pick_of, four_calls, IsPlaced, Leaves}
+use Rattle.cad_tape.proofs.Opened.{free_of_empty, free_of_placed}
 use Rattle.cad_store.specs.declared.place.Place.{Place}
 use Rattle.cad_store.specs.declared.place.Place.TheVariants.{Behind, Onto}
 use Rattle.cad_store.specs.Stores.{IsAt, other, place_behind, recorded}

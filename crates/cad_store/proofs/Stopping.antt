@@ -1,5 +1,5 @@
 -- Why a store could not be opened.
-use Rattle.std.proofs.Common.{◌≡◌, List, ℕ, Option, Some, None, Result, Ok, Err, refl, sym, ◌∙◌, ap, subst}
+use Rattle.std.proofs.Common.{◌≡◌, List, ℕ, None, Result, Err, refl, sym, ◌∙◌, subst}
 use Rattle.std.specs.Prelude.{IsTrue, ◌↔◌, Bool, false}
 use Rattle.cad_host.specs.declared.host.Tape.{Tape}
 use Rattle.cad_host.specs.declared.host.Tape.TheVariants.{Pick}
@@ -9,7 +9,7 @@ use Rattle.cad_tape.specs.Reading.{tape_reading, chosen}
 use Rattle.cad_accounts.specs.Registers.{Map}
 use Rattle.cad_accounts.specs.Worlds.{AreSound}
 use Rattle.cad_store.specs.declared.stops.OpenStop.{OpenStop}
-use Rattle.cad_store.specs.declared.stops.OpenStop.TheVariants.{Failed, BadStore, Memory}
+use Rattle.cad_store.specs.declared.stops.OpenStop.TheVariants.{BadStore}
 use Rattle.cad_store.specs.Stops.{stop_of}
 use Rattle.cad_store.specs.Stores.{DiskHolds}
 use Rattle.cad_store.proofs.Holding.{one_map}

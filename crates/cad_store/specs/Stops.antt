@@ -1,5 +1,5 @@
 -- Why a store could not be opened.
-use Rattle.std.specs.Prelude.{◌≡◌, ℕ, ◌≤◌, Result, Ok, Err}
+use Rattle.std.specs.Prelude.{ℕ, ◌≤◌, Result, Ok, Err}
 use Rattle.cad_host.specs.Faults.{Rose}
 use Rattle.cad_tape.specs.declared.stop.ScanStop.{ScanStop}
 use Rattle.cad_tape.specs.declared.stop.ScanStop.TheVariants as scan

@@ -8,7 +8,7 @@ use Rattle.cad_wire.specs.Body.{body_bytes, IsRecord}
 use Rattle.cad_tape.specs.Framing.{framed}
 use Rattle.cad_tape.specs.Reading.{tape_reading, chosen, pick_of, ending, four_calls, IsPlaced, IsFree}
 use Rattle.cad_accounts.specs.declared.row.Row.{Row}
-use Rattle.cad_accounts.specs.Registers.{Map, at, applied, folded, no_registers}
+use Rattle.cad_accounts.specs.Registers.{Map, at, folded, no_registers}
 use Rattle.cad_accounts.specs.Memory.{rows_of, room}
 use Rattle.cad_store.specs.declared.place.Place.{Place}
 use Rattle.cad_store.specs.declared.place.Place.TheVariants.{Behind, Onto}

@@ -121,7 +121,10 @@ fn reads_registers(rt: HostRuntime) -> Result<(), Fail> {
     let store = open(rt.alloc(), &mut host, ROOM).ok().ok_or("a store")?;
     assert_eq!(rt; store.size(), 67);
     let head = Key(Items::from_slice(rt.alloc(), &[0])?);
-    assert_eq!(rt; store.get(&head), Some([0u8, 0, 0, 0, 0, 0, 0, 1, 0, 0, 0, 0, 0, 0, 0, 1].as_slice()));
+    assert_eq!(rt;
+        store.get(&head),
+        Some([0u8, 0, 0, 0, 0, 0, 0, 1, 0, 0, 0, 0, 0, 0, 0, 1].as_slice())
+    );
     assert!(rt; store.key_at(0) == Some(&head));
     assert!(rt; store.key_at(2).is_none());
     Ok(())
@@ -137,7 +140,9 @@ fn full(rt: HostRuntime) -> Result<(), Fail> {
 #[test]
 fn discarded(rt: HostRuntime) -> Result<(), Fail> {
     let mut host = MemHost::new(rt.alloc(), b"", &[], &[], &[])?;
-    let store = discard_and_add(rt.alloc(), &mut host).ok().ok_or("no fault")?;
+    let store = discard_and_add(rt.alloc(), &mut host)
+        .ok()
+        .ok_or("no fault")?;
     assert_eq!(rt; store.size(), 67);
     assert_eq!(rt; host.tape(Tape::A), TAPE.as_slice());
     Ok(())
@@ -166,9 +171,9 @@ fn behind_a_closed_gate(rt: HostRuntime) -> Result<(), Fail> {
     let store = one_more(rt.alloc(), &mut host).ok().ok_or("no fault")?;
     assert_eq!(rt; store.size(), 93);
     assert_eq!(rt; host.tape(Tape::A).len(), 133);
-    assert_eq!(rt; &host.tape(Tape::A)[..66], &TAPE[..66]);
-    assert_eq!(rt; host.tape(Tape::A)[66], 1);
-    assert_eq!(rt; host.tape(Tape::A)[97], 2);
+    assert!(rt; host.tape(Tape::A).starts_with(&TAPE[..66]));
+    assert_eq!(rt; host.tape(Tape::A).get(66), Some(&1));
+    assert_eq!(rt; host.tape(Tape::A).get(97), Some(&2));
     Ok(())
 }
 

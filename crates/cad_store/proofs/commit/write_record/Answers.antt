@@ -1,5 +1,4 @@
-use Rattle.std.proofs.Common.{◌≡◌, ◌-◌, [], ◌∷◌, ◌++◌, List, ℕ, length, take, drop, subst}
-use Rattle.cad_host.specs.Disk.{Event}
+use Rattle.std.proofs.Common.{◌-◌, length, take, drop, subst}
 use Rattle.cad_store.specs.Stores.{IsAt}
 use Rattle.cad_store.specs.declared.place.Place.{Place}
 use Rattle.cad_store.proofs.Placing.{behind_gate, onto_moments, onto_stored, order_onto, order_behind}

@@ -1,7 +1,6 @@
-use Rattle.std.proofs.Common.{◌≡◌, ◌∷◌, ◌∙◌, List, ap}
+use Rattle.std.proofs.Common.{◌∙◌, List, ap}
 use Rattle.cad_wire.specs.declared.entry.Entry.{Entry}
 use Rattle.cad_wire.specs.Body.{body_bytes}
-use Rattle.cad_tape.specs.Framing.{framed}
 use Rattle.cad_accounts.specs.Registers.{at, applied}
 use Rattle.cad_accounts.specs.Memory.{rows_of}
 use Rattle.cad_store.specs.Stores.{held}
