@@ -4,12 +4,12 @@ use Rattle.std.specs.Str.{IsUtf8}
 use Rattle.serde_json.specs.Data.{Data}
 use Rattle.serde_json.specs.Find.{as_str, as_array}
 use Rattle.serde_json.specs.Read.{read}
-use Rattle.serde_json.specs.View.{view, items_view}
+use Rattle.serde_json.specs.View.{items_view}
 use Rattle.serde_json.specs.declared.value.Value.{Value}
 use Rattle.cad_syntax.specs.Addresses.{address_of}
 use Rattle.cad_forms.specs.Sums.{IsSumScript}
 use Rattle.cad_forms.specs.Saves.{Save, IsSaveCode}
-use Rattle.cad_forms.specs.Request.{HasCode, text_at, only_item, only_address, AsksForSum, AsksForAccount, AsksForSave, Request, script, account, save, IsFor, Asks, asks_script, asks_account, asks_save}
+use Rattle.cad_forms.specs.Request.{HasCode, text_at, only_item, only_address, Request, script, account, save, IsFor, Asks, asks_script, asks_account, asks_save}
 
 pub same_some : {A : Type 0} (a b : A) → Some a ≡ Some b → a ≡ b
 same_some a b e = cc e

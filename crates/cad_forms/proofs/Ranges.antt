@@ -1,5 +1,5 @@
 -- The literals of what a line asks for are in range.
-use Rattle.std.proofs.Common.{◌≡◌, ℕ, ◌≤◌, List}
+use Rattle.std.proofs.Common.{ℕ, ◌≤◌, List}
 use Rattle.std.specs.List.{AllByRecursion}
 use Rattle.cad_forms.specs.Sums.{IsProduct, greatest}
 use Rattle.cad_forms.specs.Saves.{Save}

@@ -55,11 +55,10 @@ fn code_of<'a>(request: &'a Value, kind: &str) -> Option<&'a str>
 fn only_address(signers: &Value) -> Option<Address>
     ensures { option_map (λ address. address.0) result ≡ only_address (view signers.now) }
 {
-    let signers = signers.as_array()?;
-    let [only] = signers.as_slice() else {
-        return None;
-    };
-    Address::from_hex(only.as_str()?)
+    match signers.as_array()?.as_slice() {
+        [only] => Address::from_hex(only.as_str()?),
+        _ => None,
+    }
 }
 
 // The only signer.

@@ -1,4 +1,3 @@
-use Rattle.cad_forms.specs.Sums.{kinds_of}
 use Rattle.cad_forms.specs.Saves.{save_head_kinds}
 use Rattle.cad_forms.specs.Views.{products_of}
 use Rattle.std.proofs.Common.{ap}
