@@ -136,15 +136,28 @@ fn declarations(alloc: Global, pair: &str, size: u64) -> Result<Vec<Declared>, A
     Ok(all)
 }
 
-fn count(kinds: &Kinds, a: &CadType, b: &CadType, turns: u64) -> u64
+// One of two types, so that no turn's answer is known from the turn before.
+fn is_one_below(kinds: &Kinds, a: &CadType, other: &CadType, b: &CadType, is_first: bool) -> bool
     requires a_nests { nesting (pure_type a.now) ≤ 512 }
+    requires other_nests { nesting (pure_type other.now) ≤ 512 }
+    requires b_nests { nesting (pure_type b.now) ≤ 512 }
+{
+    if is_first { is_subtype(kinds, a, b) } else { is_subtype(kinds, other, b) }
+}
+
+fn count(kinds: &Kinds, a: &CadType, other: &CadType, b: &CadType, turns: u64) -> u64
+    requires a_nests { nesting (pure_type a.now) ≤ 512 }
+    requires other_nests { nesting (pure_type other.now) ≤ 512 }
     requires b_nests { nesting (pure_type b.now) ≤ 512 }
 {
     let mut count = 0u64;
+    let mut is_first = true;
     for _ in 0..turns {
-        if is_subtype(kinds, a, b) {
+        let is_below = is_one_below(kinds, a, other, b, is_first);
+        if is_below {
             count = count.saturating_add(1);
         }
+        is_first = is_first != is_below;
     }
     count
 }
@@ -156,11 +169,12 @@ fn judged(alloc: Global, pair: &str, size: u64, turns: u64) -> Result<u64> {
     }
     let kinds = Kinds::new(alloc, declared)?;
     let a = lower(alloc, pair, size)?;
+    let other = lower(alloc, pair, size)?;
     let b = upper(alloc, pair, size)?;
-    if a.nesting(DEEPEST).is_none() || b.nesting(DEEPEST).is_none() {
+    if a.nesting(DEEPEST).is_none() || other.nesting(DEEPEST).is_none() || b.nesting(DEEPEST).is_none() {
         bail!("depth");
     }
-    Ok(count(&kinds, &a, &b, turns))
+    Ok(count(&kinds, &a, &other, &b, turns))
 }
 
 fn run(rt: &HostRuntime) -> Result<()> {
@@ -185,9 +199,9 @@ STEADY = 0.2
 
 
 def run_seconds(program, pair, size, turns, below):
-    """The least time of the processor of three runs."""
+    """The least time of the processor of five runs."""
     best = None
-    for _ in range(3):
+    for _ in range(5):
         start = resource.getrusage(resource.RUSAGE_CHILDREN).ru_utime
         answer = subprocess.run([program, pair, str(size), str(turns)], check=True, capture_output=True, text=True).stdout
         seconds = resource.getrusage(resource.RUSAGE_CHILDREN).ru_utime - start
@@ -208,17 +222,18 @@ def call_seconds(program, pair, size, below):
 
 
 def report(program):
-    fast = True
+    """Prints the times; answers whether none grows faster than the square of the size, over all of its sizes."""
+    slow = False
     for pair, sizes, below in PAIRS:
-        last = None
+        times = []
         for size in sizes:
-            seconds = call_seconds(program, pair, size, below)
-            exponent = None if last is None else math.log2(seconds / last)
-            last = seconds
-            growth = "" if exponent is None else f", exponent {exponent:.2f}"
-            print(f"{pair} {size}: {1e6 * seconds:.2f} us{growth}", flush=True)
-            fast = fast and (exponent is None or exponent <= 2.2)
-    return fast
+            times.append(call_seconds(program, pair, size, below))
+            growth = f", exponent {math.log2(times[-1] / times[-2]):.2f}" if len(times) > 1 else ""
+            print(f"{pair} {size}: {1e6 * times[-1]:.2f} us{growth}", flush=True)
+        whole = math.log2(times[-1] / times[0]) / math.log2(sizes[-1] / sizes[0])
+        print(f"{pair}: exponent {whole:.2f} over all")
+        slow = slow or whole > 2.2
+    return not slow
 
 
 def main():

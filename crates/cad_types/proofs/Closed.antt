@@ -1,5 +1,5 @@
 -- The test of closed lists of interfaces.
-use Rattle.std.proofs.Common.{◌≡◌, Bool, true, false, cond, ◌↔◌, IsTrue, Option, Some, None, List, [], ◌∷◌, Contains, refl, ap, sym, ◌∙◌, subst, ◌⊎◌, inl, inr}
+use Rattle.std.proofs.Common.{◌≡◌, Bool, true, false, cond, ◌↔◌, IsTrue, Option, Some, None, List, [], ◌∷◌, Contains, refl, sym, ◌∙◌, subst, ◌⊎◌, inl, inr}
 use Rattle.std.proofs.lemmas.Bool.{false≢true}
 use Rattle.std.specs.List.{list_all}
 use Rattle.cad_syntax.specs.TypeIds.{same_id, has}

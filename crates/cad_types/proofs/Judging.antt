@@ -1,5 +1,5 @@
 -- Judging finds the greatest classes.
-use Rattle.std.proofs.Common.{◌≡◌, ◌≢◌, ℕ, zero, suc, ◌+◌, ◌<◌, ◌≤◌, Bool, true, false, cond, ◌&&◌, ◌||◌, ◌↔◌, IsTrue, Option, Some, None, List, [], ◌∷◌, length, map, refl, ap, sym, ◌∙◌, subst, ◌⊎◌, inl, inr, arith}
+use Rattle.std.proofs.Common.{◌≡◌, ◌≢◌, ℕ, suc, ◌+◌, ◌<◌, ◌≤◌, Bool, true, false, cond, ◌&&◌, ◌||◌, ◌↔◌, IsTrue, Option, Some, None, List, [], ◌∷◌, length, map, refl, ap, sym, ◌∙◌, subst, ◌⊎◌, inl, inr, arith}
 use Rattle.std.proofs.lemmas.Bool.{false≢true}
 use Rattle.std.specs.List.{list_all}
 use Rattle.cad_syntax.specs.TypeIds.{same_id}
@@ -7,7 +7,7 @@ use Rattle.cad_syntax.specs.Types.{PureType, basic, optional, array, dictionary,
 use Rattle.cad_syntax.specs.declared.type_id.TypeId.{TypeId}
 use Rattle.cad_syntax.proofs.Members.{and_both, or_cases, or_right}
 use Rattle.cad_types.specs.Declarations.{Declaration, declaration_of, found}
-use Rattle.cad_types.specs.Classes.{fields_in, has_sort, is_data_sort, is_carried_sort, is_void, storable_rule, importable_rule, carried_rule, exportable_rule, Keeps, InGreatest, Storable, Importable, Exportable}
+use Rattle.cad_types.specs.Classes.{fields_in, has_sort, is_data_sort, is_carried_sort, is_void, storable_rule, importable_rule, carried_rule, exportable_rule, Keeps, Storable, Importable, Exportable}
 use Rattle.cad_types.specs.Judged.{unmarked, marked, storable_by, importable_by, carried_by, exportable_by, is_importable_data, is_exportable_carried, kept, each_kept, refined, IsGreatest, IsJudged}
 use Rattle.cad_types.specs.declared.declared.Declared.{Declared}
 use Rattle.cad_types.specs.declared.marks.Marks.{Marks}

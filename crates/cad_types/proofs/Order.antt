@@ -1,5 +1,5 @@
 -- The order by recursion is reflexive and transitive, and is the least relation with the rules.
-use Rattle.std.proofs.Common.{◌≡◌, Bool, true, false, not, ◌&&◌, ◌||◌, ◌↔◌, IsTrue, List, [], ◌∷◌, Contains, refl, ap, sym, ◌∙◌, subst, ◌⊎◌, inl, inr}
+use Rattle.std.proofs.Common.{◌≡◌, Bool, true, false, not, ◌||◌, ◌↔◌, IsTrue, List, Contains, refl, ap, sym, ◌∙◌, subst, ◌⊎◌, inl, inr}
 use Rattle.std.proofs.lemmas.Bool.{false≢true}
 use Rattle.std.specs.List.{list_any, list_all}
 use Rattle.cad_syntax.specs.TypeIds.{same_id, has}
@@ -7,9 +7,9 @@ use Rattle.cad_syntax.specs.Types.{PureType, basic, optional, array, dictionary,
 use Rattle.cad_syntax.specs.declared.type_id.TypeId.{TypeId}
 use Rattle.cad_syntax.specs.declared.types.Basic.{Basic}
 use Rattle.cad_syntax.specs.declared.types.Basic.TheVariants as b
-use Rattle.cad_syntax.proofs.Members.{contains_first, some_passes, passes_some, each_passes, passes_each, or_cases, or_right, and_both}
-use Rattle.cad_syntax.proofs.Same.{ids_tell, has_tells}
-use Rattle.cad_auth.specs.Grants.{Grants, sets}
+use Rattle.cad_syntax.proofs.Members.{some_passes, passes_some, each_passes, passes_each, or_cases, or_right}
+use Rattle.cad_syntax.proofs.Same.{ids_tell}
+use Rattle.cad_auth.specs.Grants.{sets}
 use Rattle.cad_auth.proofs.Covers.{covers_itself, covers_on, has_to, to_has}
 use Rattle.cad_types.specs.Declarations.{Declaration, interfaces_of, is_any_resource, is_resource_id, resource, IsClosed}
 use Rattle.cad_types.specs.Sub as s

@@ -1,5 +1,5 @@
 -- The loops of judging.
-use Rattle.std.proofs.Common.{◌≡◌, ℕ, zero, suc, ◌+◌, ◌<◌, Bool, true, false, ◌&&◌, ◌||◌, List, [], ◌∷◌, ◌++◌, length, map, drop, get_or, refl, ap, sym, ◌∙◌, add-one, arith}
+use Rattle.std.proofs.Common.{◌≡◌, ℕ, zero, suc, ◌+◌, ◌<◌, Bool, true, false, ◌&&◌, ◌||◌, List, [], ◌∷◌, length, map, drop, get_or, refl, ap, sym, ◌∙◌, add-one, arith}
 use Rattle.std.proofs.lemmas.Bool.{false≢true}
 use mathlib.Core.Bool.{beq}
 use Rattle.std.specs.List.{list_any, AllZip}
@@ -11,7 +11,7 @@ use Rattle.cad_syntax.proofs.Same.{Tells}
 use Rattle.cad_syntax.specs.declared.type_id.TypeId.{TypeId}
 use Rattle.cad_types.specs.Declarations.{Declaration, declaration_of, interfaces_of}
 use Rattle.cad_types.specs.Below.{has_interface}
-use Rattle.cad_types.specs.Judged.{marked, unmarked, each_kept}
+use Rattle.cad_types.specs.Judged.{marked, unmarked}
 use Rattle.cad_types.specs.declared.declared.Declared.{Declared}
 use Rattle.cad_types.specs.declared.marks.Marks.{Marks}
 

@@ -1,9 +1,8 @@
 -- Which types can be stored, which arguments can have and which can be handed out: the greatest classes with these rules. While
 -- a type is judged, the same type met again inside it counts as in the class.
-use Rattle.std.specs.Prelude.{◌≡◌, Bool, true, false, ◌&&◌, ◌||◌, List, [], ◌∷◌, Option, Some, None, map}
+use Rattle.std.specs.Prelude.{◌≡◌, Bool, true, false, ◌&&◌, ◌||◌, List, [], Option, Some, None}
 use Rattle.std.specs.List.{list_all}
 use Rattle.cad_syntax.specs.Types.{PureType, basic, optional, array, dictionary, intersection, declared, reference, capability, capability_of}
-use Rattle.cad_syntax.specs.declared.type_id.TypeId.{TypeId}
 use Rattle.cad_syntax.specs.declared.types.Basic.{Basic}
 use Rattle.cad_syntax.specs.declared.types.Basic.TheVariants as b
 use Rattle.cad_types.specs.Declarations.{Declaration, found}

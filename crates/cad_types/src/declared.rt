@@ -69,7 +69,11 @@ pub(crate) fn are_distinct(declared: &[Declared]) -> bool
 
 /// The declaration at a place, if it is that of the identifier.
 #[tactic(auto, using(crate::proofs::Distinct::first_there))]
-pub(crate) fn find_at<'a>(declared: &'a [Declared], place: usize, id: &TypeId) -> Option<&'a Declared>
+pub(crate) fn find_at<'a>(
+    declared: &'a [Declared],
+    place: usize,
+    id: &TypeId,
+) -> Option<&'a Declared>
     requires distinct { spec.all_distinct (map spec.declaration_of declared.now) ≡ true }
     ensures { IfSome result (λ d. spec.found (map spec.declaration_of declared.now) id.now ≡ Some (spec.declaration_of d.now)) }
 {

@@ -5,8 +5,8 @@ ghost use Rattle.cad_types.specs.Declarations as spec;
 ghost use Rattle.cad_types.specs.Judged.{IsJudged};
 
 use crate::declared::{Declared, Sort, are_distinct, find, find_at};
-use crate::places::Places;
 use crate::marks::{Marks, is_exportable_by, is_importable_by, is_storable_by, judge};
+use crate::places::Places;
 use cad_syntax::{CadType, TypeId};
 use std::alloc::{AllocError, Global};
 
