@@ -10,3 +10,4 @@ pub mod Readies
 pub mod Tellings
 pub mod Runs
 pub mod Openings
+pub mod Uniques
