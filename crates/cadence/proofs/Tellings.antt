@@ -34,9 +34,9 @@ pub sound_as : (m n : Map) (v : Accounts) → ((key : List ℕ) → m key ≡ n 
 sound_as m n v h stands = (v, subst (λ x. StandsFor x v) (sym (same_map m n h)) stands)
 
 module _ (w v : Accounts) (c : List ℕ) (a : Answer) (answers : Answers w c a v) (old mid : List Event) (before : Map) (changes : List Entry) (store : Store)
-         (same : output mid ≡ output old) (is_w : StandsFor before w) (is_v : StandsFor (applied changes before) v)
-         (holds : (key : List ℕ) → held store key ≡ applied changes before key)
-         (moments : IsQuiet old → Ran old mid (Keeps old before (applied changes before))) (stays : IsQuiet old → IsQuiet mid) (on : IsOn mid store) where
+    (same : output mid ≡ output old) (is_w : StandsFor before w) (is_v : StandsFor (applied changes before) v)
+    (holds : (key : List ℕ) → held store key ≡ applied changes before key)
+    (moments : IsQuiet old → Ran old mid (Keeps old before (applied changes before))) (stays : IsQuiet old → IsQuiet mid) (on : IsOn mid store) where
   stands : StandsFor (held store) v
   stands = subst (λ m. StandsFor m v) (sym (same_map (held store) (applied changes before) holds)) is_v
 

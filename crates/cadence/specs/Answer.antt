@@ -52,11 +52,11 @@ pub data Outcome : Type 0 where
 pub data Saves (w : Accounts) (signer : ℕ) (s : Save) : Outcome → Type 0 where
   nothing_there : {path : List ℕ} → s.load ≡ Some path → stored_at w signer path ≡ None → Saves w signer s (stays (failed 106))
   out_of_range : {z : ℤ} {v : Accounts} {e : NumError} → Loads w signer s.load z v → saved_value z s.first s.others ≡ Err e
-    → Saves w signer s (stays (failed (error_number e)))
+      → Saves w signer s (stays (failed (error_number e)))
   occupied : {z x : ℤ} {v : Accounts} → Loads w signer s.load z v → saved_value z s.first s.others ≡ Ok x
-    → stored_at v signer s.to ≢ None → Saves w signer s (stays (failed 111))
+      → stored_at v signer s.to ≢ None → Saves w signer s (stays (failed 111))
   saved : {z : ℤ} {v : Accounts} (n : Num) → Loads w signer s.load z v → saved_value z s.first s.others ≡ Ok (value_of n) → n.kind ≡ Int
-    → stored_at v signer s.to ≡ None → Saves w signer s (leads done (stored_as signer s.to (Some (Number n)) v))
+      → stored_at v signer s.to ≡ None → Saves w signer s (leads done (stored_as signer s.to (Some (Number n)) v))
 
 -- what a request comes to
 pub data Does (w : Accounts) : Request → Outcome → Type 0 where
@@ -81,7 +81,7 @@ pub data Answers (w : Accounts) (line : List ℕ) : Answer → Accounts → Type
   too_long : longest < length line → Answers w line (bad 27) w
   no_form : length line ≤ longest → ((request : Request) → Asks line request → ⊥) → Answers w line (bad 29) w
   asks : {request : Request} {outcome : Outcome} {a : Answer} {v : Accounts} → length line ≤ longest → Asks line request
-    → Does w request outcome → Commits w outcome a v → Answers w line a v
+      → Does w request outcome → Commits w outcome a v → Answers w line a v
 
 -- the answer's line
 abbrev pub answer_line : Answer → List ℕ

@@ -5,12 +5,9 @@ mod laws;
 mod line;
 mod outcome;
 mod prepare;
-
 mod reply;
-
 mod serve;
 mod status;
-
 #[cfg(test)]
 mod tests;
 mod words;

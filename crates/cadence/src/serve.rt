@@ -108,12 +108,7 @@ fn answer<H: Host>(
 }
 
 // Answers the line that has ended, where it is a command.
-fn say<H: Host>(
-    alloc: Global,
-    host: &mut H,
-    store: &mut Store,
-    line: &Line,
-) -> Result<(), Status>
+fn say<H: Host>(alloc: Global, host: &mut H, store: &mut Store, line: &Line) -> Result<(), Status>
     requires sound { AreSound (held store.old) }
     requires room { room_of store.old ≡ most_bytes }
     requires on { H.tells → IsOn (H.trace host.old) store.old }

@@ -13,9 +13,13 @@ create_account-requires c = subst AreSound (sym (c.over-world.ensures.unchanged 
 pub returns-in-Ok-clause-comes : goal.returns-in-Ok-clause-comes
 returns-in-Ok-clause-comes c = λ w stands.
     let there = subst (λ m. StandsFor m w) (sym (c.over-world.ensures.unchanged ∙ ap at c.over-world.ensures.below)) stands in
-    let m = c.in-Ok.ensures.made w there in
-    (created w, current c.create_account.new.self, account_made w c.in-Ok.address.0 m.0 m.1,
-    subst (λ base. Leads base (current c.create_account.new.self) c.changes.result) (ap at (c.create_account.ensures.below ∙ c.over-world.ensures.below)) c.changes.ensures, m.2)
+    let m = c.in-Ok.ensures.made w there in (
+      created w,
+      current c.create_account.new.self,
+      account_made w c.in-Ok.address.0 m.0 m.1,
+      subst (λ base. Leads base (current c.create_account.new.self) c.changes.result) (ap at (c.create_account.ensures.below ∙ c.over-world.ensures.below)) c.changes.ensures,
+      m.2,
+    )
 
 pub returns-in-Err-Spent-clause-comes : goal.returns-in-Err-Spent-clause-comes
 returns-in-Err-Spent-clause-comes c = λ w stands.

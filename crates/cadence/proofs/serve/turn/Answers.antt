@@ -35,5 +35,12 @@ returns-clause-going g c tell w input base going =
 
 pub returns-clause-left : goal.returns-clause-left
 returns-clause-left g c tell =
-    omega (arith, ap length (c.in-Ok.ensures.bytes tell), length-append (take c.in-Ok.count c.take_some.new.buffer) (g.H.Host.left c.take_some.new.host), length-take c.in-Ok.count c.take_some.new.buffer,
-    ap length (c.feed.ensures.left tell), c.in-Ok.ensures.count, c.requires.fits)
+    omega (
+      arith,
+      ap length (c.in-Ok.ensures.bytes tell),
+      length-append (take c.in-Ok.count c.take_some.new.buffer) (g.H.Host.left c.take_some.new.host),
+      length-take c.in-Ok.count c.take_some.new.buffer,
+      ap length (c.feed.ensures.left tell),
+      c.in-Ok.ensures.count,
+      c.requires.fits,
+    )
