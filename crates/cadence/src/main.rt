@@ -1,6 +1,8 @@
 //! Cadence on one machine: command lines come in, and one reply line goes out for each.
 #![tactic(auto)]
 
+#[cfg(test)]
+mod account_tests;
 mod laws;
 mod line;
 mod outcome;

@@ -1,0 +1,136 @@
+// Accounts over a host in memory.
+use crate::serve::serve;
+use crate::status::Status;
+use cad_host::{Host, MemHost, Tape};
+use cad_syntax::{Items, Text};
+use std::alloc::{AllocError, Global};
+use std::test::Fail;
+
+const ACCOUNT: &str = "{\"kind\":\"account\"}\n";
+
+const SAVE: &str =
+    "{\"kind\":\"transaction\",\"signers\":[\"0x1\"],\"code\":\"transaction { prepare(a: auth(Storage) &Account) { a.storage.save(40 + 2, to: /storage/x) } }\"}\n";
+
+const MOVE: &str =
+    "{\"kind\":\"transaction\",\"signers\":[\"0x1\"],\"code\":\"transaction { prepare(a: auth(Storage) &Account) { a.storage.save(a.storage.load<Int>(from: /storage/x)! + 1, to: /storage/y) } }\"}\n";
+
+const FIRST: &str = "{\"address\":\"0x0000000000000001\",\"reply\":\"ok\"}\n";
+
+const SECOND: &str = "{\"address\":\"0x0000000000000002\",\"reply\":\"ok\"}\n";
+
+const DONE: &str = "{\"destroyed\":[],\"events\":[],\"made\":[],\"reply\":\"ok\"}\n";
+
+const NOTHING: &str = "{\"error\":\"106\",\"reply\":\"failed\"}\n";
+
+const OCCUPIED: &str = "{\"error\":\"111\",\"reply\":\"failed\"}\n";
+
+const NO_ACCOUNT: &str = "{\"error\":\"26\",\"reply\":\"bad\"}\n";
+
+// The tape with the record of one account.
+const TAPE: [u8; 67] = [
+    1, 0, 0, 0, 0, 0, 0, 0, 57, 1, 0, 0, 0, 2, 0, 0, 0, 1, 0, 1, 0, 0, 0, 16, 0, 0, 0, 0, 0, 0, 0,
+    1, 0, 0, 0, 0, 0, 0, 0, 1, 0, 0, 0, 9, 1, 0, 0, 0, 0, 0, 0, 0, 1, 1, 0, 0, 0, 8, 0, 0, 0, 0, 0,
+    0, 0, 1, 0,
+];
+
+// Runs the program on a host.
+fn run(alloc: Global, host: &mut MemHost) -> Result<Status, AllocError> {
+    let mut words = Items::new(alloc);
+    words.push(Text::from_str(alloc, "run")?)?;
+    words.push(Text::from_str(alloc, "accounts")?)?;
+    Ok(serve(alloc, words.as_slice(), host))
+}
+
+// A host with these tapes.
+fn with_tapes(
+    alloc: Global,
+    input: &str,
+    a: &[u8],
+    b: &[u8],
+    pick: &[u8],
+) -> Result<MemHost, AllocError> {
+    let mut host = MemHost::new(alloc, input.as_bytes(), &[], &[], &[])?;
+    host.fill(Tape::A, a)?;
+    host.fill(Tape::B, b)?;
+    host.fill(Tape::Pick, pick)?;
+    Ok(host)
+}
+
+#[test]
+fn keeps_numbers(rt: HostRuntime) -> Result<(), Fail> {
+    let alloc = rt.alloc();
+    let input = format!(in alloc; "{SAVE}{ACCOUNT}{SAVE}{SAVE}{MOVE}{MOVE}")?;
+    let mut host = MemHost::new(alloc, input.as_bytes(), &[], &[], &[])?;
+    assert_eq!(rt; run(alloc, &mut host)?, Status::Done);
+    let want = format!(in alloc; "{NO_ACCOUNT}{FIRST}{DONE}{OCCUPIED}{DONE}{NOTHING}")?;
+    assert_eq!(rt; host.output(), want.as_bytes());
+    let mut next = with_tapes(
+        alloc,
+        ACCOUNT,
+        host.tape(Tape::A),
+        host.tape(Tape::B),
+        host.tape(Tape::Pick),
+    )?;
+    assert_eq!(rt; run(alloc, &mut next)?, Status::Done);
+    assert_eq!(rt; next.output(), SECOND.as_bytes());
+    Ok(())
+}
+
+#[test]
+fn writes_one_record(rt: HostRuntime) -> Result<(), Fail> {
+    let alloc = rt.alloc();
+    let mut host = MemHost::new(alloc, ACCOUNT.as_bytes(), &[], &[], &[])?;
+    assert_eq!(rt; run(alloc, &mut host)?, Status::Done);
+    assert_eq!(rt; host.tape(Tape::A), TAPE.as_slice());
+    assert!(rt; host.tape(Tape::B).is_empty());
+    assert_eq!(rt; host.tape(Tape::Pick), [1u8].as_slice());
+    Ok(())
+}
+
+#[test]
+fn ends_at_a_disk_fault(rt: HostRuntime) -> Result<(), Fail> {
+    let alloc = rt.alloc();
+    for call in 0..7u64 {
+        let mut host = MemHost::new(alloc, ACCOUNT.as_bytes(), &[], &[], &[call])?;
+        assert_eq!(rt; run(alloc, &mut host)?, Status::DiskFault);
+        assert!(rt; host.output().is_empty());
+    }
+    let mut host = MemHost::new(alloc, ACCOUNT.as_bytes(), &[], &[], &[7])?;
+    assert_eq!(rt; run(alloc, &mut host)?, Status::Done);
+    assert_eq!(rt; host.output(), FIRST.as_bytes());
+    Ok(())
+}
+
+#[test]
+fn refuses_bad_stores(rt: HostRuntime) -> Result<(), Fail> {
+    let alloc = rt.alloc();
+    for length in [40usize, 66] {
+        let mut host = with_tapes(alloc, ACCOUNT, &TAPE[..length], &[], &[1])?;
+        assert_eq!(rt; run(alloc, &mut host)?, Status::BadStore);
+        assert!(rt; host.output().is_empty());
+    }
+    Ok(())
+}
+
+#[test]
+fn survives_crashes(rt: HostRuntime) -> Result<(), Fail> {
+    let alloc = rt.alloc();
+    let input = format!(in alloc; "{ACCOUNT}{SAVE}{MOVE}{ACCOUNT}")?;
+    let mut host = MemHost::new(alloc, input.as_bytes(), &[], &[], &[])?;
+    assert_eq!(rt; run(alloc, &mut host)?, Status::Done);
+    for fill in [0u8, 1, 255] {
+        for moment in 0..=host.now() {
+            let left = host.crash(moment, fill)?;
+            let mut next = with_tapes(
+                alloc,
+                ACCOUNT,
+                left.tape(Tape::A),
+                left.tape(Tape::B),
+                left.tape(Tape::Pick),
+            )?;
+            assert_eq!(rt; run(alloc, &mut next)?, Status::Done);
+            assert_eq!(rt; next.output().len(), FIRST.len());
+        }
+    }
+    Ok(())
+}
