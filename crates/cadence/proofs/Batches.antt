@@ -1,9 +1,9 @@
 -- Answers to commands, one after another.
-use Rattle.std.proofs.Common.{◌≡◌, ℕ, suc, ◌+◌, ◌≤◌, List, [], ◌∷◌, ◌++◌, length, take, min, refl, sym, ◌∙◌, ap, subst, arith, append_assoc, length-append}
+use Rattle.std.proofs.Common.{◌≡◌, ℕ, suc, ◌+◌, List, [], ◌∷◌, ◌++◌, length, take, min, refl, sym, ◌∙◌, ap, subst, arith, append_assoc, length-append}
 use Rattle.std.proofs.lemmas.List.{append-nil, take-append-le, take_min}
 use Rattle.std.proofs.Math.Seq.{take-append-add, take-length}
 use Rattle.cad_accounts.specs.Accounts.{Accounts}
-use Rattle.cadence.specs.Answer.{Answer, Answers, answer_line}
+use Rattle.cadence.specs.Answer.{Answer, answer_line}
 use Rattle.cadence.specs.Served.{AnswersAll, answer_lines, Served, ServedSome, Broken, Begun}
 
 pub all_append : (w u v : Accounts) (xs ys : List (List ℕ)) (answers others : List Answer) → AnswersAll w xs answers u → AnswersAll u ys others v → AnswersAll w (xs ++ ys) (answers ++ others) v

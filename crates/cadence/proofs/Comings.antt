@@ -1,5 +1,5 @@
 -- What the program's values say of requests.
-use Rattle.std.proofs.Common.{◌≡◌, ◌≢◌, ℕ, ℤ, pos, ◌+◌, ◌≤◌, ◌<◌, List, Option, Some, None, Result, Ok, Err, IfOk, MatchResult, option_map, refl, sym, ◌∙◌, ap, subst, arith, Bool, true, false}
+use Rattle.std.proofs.Common.{◌≡◌, ℕ, ℤ, pos, ◌+◌, ◌≤◌, ◌<◌, List, Option, Some, None, Result, Ok, Err, IfOk, MatchResult, refl, sym, ◌∙◌, subst, Bool, true, false}
 use Rattle.cad_syntax.specs.declared.kind.Kind.TheVariants.{Int}
 use Rattle.cad_syntax.specs.declared.num.Num.{Num}
 use Rattle.cad_num.specs.declared.error.NumError.{NumError}
@@ -8,7 +8,7 @@ use Rattle.cad_values.specs.declared.value.Value.{Value}
 use Rattle.cad_values.specs.declared.value.Value.TheVariants.{Number}
 use Rattle.cad_accounts.specs.declared.stops.ValueStop.{ValueStop}
 use Rattle.cad_accounts.specs.declared.stops.ValueStop.TheVariants.{Occupied}
-use Rattle.cad_accounts.specs.Registers.{Map, Leads}
+use Rattle.cad_accounts.specs.Registers.{Map}
 use Rattle.cad_accounts.specs.Accounts.{Accounts, StandsFor, Has, created, stored_at, stored_as, most_accounts}
 use Rattle.cad_accounts.specs.Worlds.{HasAccount, IsRefused}
 use Rattle.cad_forms.specs.Saves.{Save, saved_value}
@@ -18,7 +18,6 @@ use Rattle.cad_forms.specs.Sums.{IsProduct, greatest}
 use Rattle.cad_forms.specs.Request.{script, account, save, Asks, asks_script, asks_save}
 use Rattle.cadence.specs.Answer as answer
 use Rattle.cadence.specs.Answer.{Answer, Loads, none, loaded, Saves, nothing_there, out_of_range, occupied, saved, Does, made, no_account, saves, error_number}
-use Rattle.cadence.specs.Views.{answer_of}
 use Rattle.cadence.specs.declared.outcome.Outcome.{Outcome}
 use Rattle.cadence.specs.declared.outcome.Outcome.TheVariants.{Stays, Leads as Leading}
 use Rattle.cadence.specs.declared.reply.Reply.TheVariants.{Failed}

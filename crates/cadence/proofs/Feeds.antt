@@ -1,10 +1,8 @@
 -- A reply is one line.
-use Rattle.std.proofs.Common.{◌≡◌, ℕ, zero, suc, ◌+◌, ◌≤◌, ◌==◌, Bool, true, false, cond, if◌then◌else◌, List, [], ◌∷◌, ◌++◌, length, take, refl, sym, ◌∙◌, ap, subst, arith, append_assoc}
-use Rattle.cad_accounts.specs.Accounts.{Accounts}
-use Rattle.cadence.specs.Answer.{Answer, Answers, answer_line}
-use Rattle.cadence.specs.Served.{AnswersAll, answer_lines}
+use Rattle.std.proofs.Common.{◌≡◌, ℕ, zero, suc, ◌+◌, ◌≤◌, ◌==◌, Bool, true, false, if◌then◌else◌, List, [], ◌∷◌, ◌++◌, length, take, refl, ◌∙◌, ap, arith}
+use Rattle.cadence.specs.Answer.{Answer, answer_line}
+use Rattle.cadence.specs.Served.{answer_lines}
 use Rattle.cadence.specs.Crashes.{line_feeds}
-use Rattle.cadence.proofs.Batches.{all_length}
 
 abbrev more : Bool → ℕ → ℕ
 more c n = if c then suc n else n

@@ -1,15 +1,13 @@
 -- A run on accounts that the tapes stand for.
-use Rattle.std.proofs.Common.{◌≡◌, ◌⊎◌, inl, inr, ℕ, ◌<◌, ◌≤◌, ◌^◌, ◌-◌, List, [], Err, refl, sym, ap, subst, arith}
-use Rattle.cad_host.specs.declared.host.Tape.{Tape}
+use Rattle.std.proofs.Common.{◌≡◌, inl, inr, ℕ, ◌≤◌, List, [], Err, refl, sym, subst, arith}
 use Rattle.cad_host.specs.Disk.{Event, output, reads}
 use Rattle.cad_host.specs.Faults.{Rose}
-use Rattle.cad_accounts.specs.Registers.{Map}
 use Rattle.cad_accounts.specs.Accounts.{Accounts, StandsFor}
 use Rattle.cad_store.specs.declared.store.Store.{Store}
 use Rattle.cad_store.specs.declared.stops.OpenStop.{OpenStop}
 use Rattle.cad_store.specs.declared.stops.OpenStop.TheVariants as stop
 use Rattle.cad_store.specs.Stops.{BlamesDisk}
-use Rattle.cad_store.specs.Stores.{DiskHolds, held, IsOn}
+use Rattle.cad_store.specs.Stores.{held, IsOn}
 use Rattle.cad_store.proofs.Holding.{one_map}
 use Rattle.cadence.specs.Lines.{commands}
 use Rattle.cadence.specs.Served.{Served}

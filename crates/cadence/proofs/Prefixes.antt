@@ -1,19 +1,15 @@
 -- What a crash leaves of a run, command by command.
-use Rattle.std.proofs.Common.{◌≡◌, ◌⊎◌, inl, inr, ℕ, suc, ◌+◌, ◌-◌, ◌≤◌, List, [], ◌∷◌, ◌++◌, length, take, Some, refl, sym, ◌∙◌, ap, subst, arith, append_assoc, length-append}
+use Rattle.std.proofs.Common.{◌≡◌, ℕ, ◌+◌, List, [], ◌++◌, length, take, refl, sym, ◌∙◌, ap, subst, arith, length-append}
 use Rattle.std.proofs.lemmas.List.{take-append-le}
 use Rattle.std.proofs.Math.Seq.{take-append-add}
 use Rattle.cad_host.specs.declared.host.Tape.{Tape}
-use Rattle.cad_host.specs.declared.host.Tape.TheVariants.{Pick}
-use Rattle.cad_host.specs.Disk.{Event, output, reads, state, IsDisk, Ran}
-use Rattle.cad_host.proofs.Images.{clean_only}
-use Rattle.cad_host.proofs.Ran.{ran_as, ran_on, ran_none}
-use Rattle.cad_tape.specs.Reading.{IsQuiet, chosen, tape_reading}
-use Rattle.cad_accounts.specs.Registers.{Map}
-use Rattle.cad_accounts.specs.Accounts.{Accounts, StandsFor}
+use Rattle.cad_host.specs.Disk.{Event, output, reads, IsDisk}
+use Rattle.cad_host.proofs.Ran.{ran_as, ran_on}
+use Rattle.cad_tape.specs.Reading.{IsQuiet}
+use Rattle.cad_accounts.specs.Accounts.{Accounts}
 use Rattle.cad_store.proofs.Holding.{quiet as quiet_image}
-use Rattle.cadence.specs.Answer.{Answer, answer_line}
 use Rattle.cadence.specs.Served.{AnswersAll, answer_lines, Served}
-use Rattle.cadence.specs.Crashes.{DiskStands, HasPrefix, IsPrefix, Survives, line_feeds, acknowledged}
+use Rattle.cadence.specs.Crashes.{DiskStands, IsPrefix, Survives, line_feeds}
 use Rattle.cadence.proofs.Batches.{all_append, all_length}
 use Rattle.cadence.proofs.Feeds.{feeds_append, feeds_lines}
 use Rattle.cadence.proofs.Lines_of.{one_feed}

@@ -1,8 +1,8 @@
 -- What is ready in answer to a line.
-use Rattle.std.proofs.Common.{◌≡◌, ℕ, ◌≤◌, ◌<◌, Bool, true, false, ltb, List, [], ◌∷◌, length, Result, Ok, Err, IfOk, refl, sym, ◌∙◌, ap, subst}
+use Rattle.std.proofs.Common.{◌≡◌, ℕ, ◌≤◌, ◌<◌, true, false, ltb, List, [], length, Result, Ok, Err, IfOk, refl, sym, ◌∙◌, subst}
 use Rattle.std.proofs.lemmas.List.{take_all}
 use Rattle.std.proofs.lemmas.Bool.Decides.{nat_tests}
-use Rattle.std.proofs.Common.{arith, take}
+use Rattle.std.proofs.Common.{arith}
 use Rattle.cad_wire.specs.declared.entry.Entry.{Entry}
 use Rattle.cad_accounts.specs.declared.row.Row.{Row}
 use Rattle.cad_accounts.specs.Registers.{Map, at, applied, are_rising, size_of, Leads}
@@ -10,7 +10,6 @@ use Rattle.cad_accounts.specs.Accounts.{Accounts, StandsFor, AreRegisters, HasSi
 use Rattle.cad_accounts.proofs.Existing.{rows_exist}
 use Rattle.cad_forms.specs.Request.{Request, Asks}
 use Rattle.cad_store.specs.declared.store.Store.{Store}
-use Rattle.cad_store.specs.Stores.{rows_in, held}
 use Rattle.cadence.specs.Answer as answer
 use Rattle.cadence.specs.Answer.{Answer, Answers, too_long, no_form, asks, Does, Commits, unchanged, fits, full, most_bytes, bad, answer_line}
 use Rattle.cadence.specs.Held.{Holds, longest}
@@ -19,7 +18,7 @@ use Rattle.cadence.specs.Views.{answer_of}
 use Rattle.cadence.specs.declared.line.Line.{Line}
 use Rattle.cadence.specs.declared.reply.Reply as own
 use Rattle.cadence.specs.declared.outcome.Outcome.{Outcome}
-use Rattle.cadence.specs.declared.outcome.Outcome.TheVariants.{Stays, Leads as Leading}
+use Rattle.cadence.specs.declared.outcome.Outcome.TheVariants.{Leads as Leading}
 use Rattle.cadence.specs.declared.prepare.Prepared.{Prepared}
 use Rattle.cadence.specs.declared.prepare.Prepared.TheVariants.{Reply, Commit}
 

@@ -1,17 +1,16 @@
 -- A run goes on, byte by byte.
-use Rattle.std.proofs.Common.{◌≡◌, ◌⊎◌, inl, inr, ℕ, ◌+◌, ◌^◌, ◌<◌, ◌≤◌, ◌==◌, true, false, List, [], ◌∷◌, ◌++◌, length, take, drop, get_or, Result, Ok, Err, OnOk, IfErr, refl, sym, ◌∙◌, ap, subst, append_assoc, arith, length-append}
+use Rattle.std.proofs.Common.{◌≡◌, ◌⊎◌, inl, inr, ℕ, ◌+◌, ◌^◌, ◌<◌, ◌≤◌, ◌==◌, true, false, List, [], ◌∷◌, ◌++◌, length, take, drop, get_or, refl, sym, ◌∙◌, ap, subst, append_assoc, arith, length-append}
 use Rattle.std.proofs.lemmas.List.{append-nil, take_more, take_all, drop_more, take-append-drop}
 use Rattle.std.proofs.lemmas.Bool.Decides.{eqb_tells}
 use Rattle.std.proofs.lemmas.List.Elements.{filter-append}
-use Rattle.cad_host.specs.Disk.{Event, output, reads}
-use Rattle.cad_host.specs.Faults.{Rose}
+use Rattle.cad_host.specs.Disk.{Event, output}
 use Rattle.cad_accounts.specs.Accounts.{Accounts, StandsFor}
 use Rattle.cad_store.specs.declared.store.Store.{Store}
 use Rattle.cad_store.specs.Stores.{held, IsOn}
 use Rattle.cadence.specs.Lines.{commands_among, is_command, commands, lines}
 use Rattle.cadence.specs.Held.{Holds}
 use Rattle.cadence.specs.Served.{Served, Begun, Finished}
-use Rattle.cadence.specs.Crashes.{DiskStands, Survives}
+use Rattle.cadence.specs.Crashes.{Survives}
 use Rattle.cadence.specs.Progress.{Said, Halts, Halted, Going, Goes, Stops}
 use Rattle.cadence.specs.declared.line.Line.{Line}
 use Rattle.cadence.specs.declared.status.Status.{Status}

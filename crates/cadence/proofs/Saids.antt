@@ -1,10 +1,10 @@
 -- One command, and commands in turn: what is said, and what a crash leaves.
-use Rattle.std.proofs.Common.{◌≡◌, ◌⊎◌, inl, inr, ℕ, suc, ◌+◌, ◌≤◌, List, [], ◌∷◌, ◌++◌, length, take, Result, Ok, Err, OnOk, refl, sym, ◌∙◌, ap, subst, arith, length-append}
+use Rattle.std.proofs.Common.{◌≡◌, ◌⊎◌, inl, inr, ℕ, List, [], ◌∷◌, ◌++◌, length, take, Result, Ok, Err, OnOk, refl, sym, ◌∙◌, ap, subst, arith}
 use Rattle.std.proofs.lemmas.List.{append-nil}
 use Rattle.std.proofs.Math.Seq.{take-length}
 use Rattle.cad_host.specs.declared.host.Tape.{Tape}
 use Rattle.cad_host.specs.Disk.{Event, put, output, reads, IsDisk, Ran, Puts, BreaksPut}
-use Rattle.cad_host.proofs.Ran.{ran_as, ran_on, ran_none, ran_same, ran_one, ran_end}
+use Rattle.cad_host.proofs.Ran.{ran_as, ran_on, ran_none, ran_one, ran_end}
 use Rattle.cad_tape.specs.Reading.{IsQuiet}
 use Rattle.cad_accounts.specs.Registers.{Map}
 use Rattle.cad_accounts.specs.Accounts.{Accounts, StandsFor}
@@ -13,12 +13,12 @@ use Rattle.cad_store.specs.declared.place.Place.{Place}
 use Rattle.cad_store.specs.declared.place.Place.TheVariants.{Behind, Onto}
 use Rattle.cad_store.specs.Stores.{DiskHolds, held, IsAt, IsOn, Keeps}
 use Rattle.cadence.specs.Answer.{Answer, Answers, answer_line}
-use Rattle.cadence.specs.Served.{AnswersAll, Served, ServedSome, Broken}
+use Rattle.cadence.specs.Served.{Served, Broken}
 use Rattle.cadence.specs.Crashes.{DiskStands, HasPrefix, IsPrefix, Survives, line_feeds, acknowledged}
 use Rattle.cadence.specs.Progress.{Said, Halts, Halted}
 use Rattle.cadence.specs.declared.status.Status.{Status}
 use Rattle.cadence.specs.declared.status.Status.TheVariants.{Done, Usage, ReadFault, WriteFault, DiskFault, Memory, BadStore, InputBound}
-use Rattle.cadence.proofs.Batches.{served_none, served_then, some_then, some_more, broken_then, broken_more, some_of}
+use Rattle.cadence.proofs.Batches.{served_none, served_then, some_then, some_more, broken_then, broken_more}
 use Rattle.cadence.proofs.Feeds.{feeds_append, feeds_front}
 use Rattle.cadence.proofs.Lines_of.{one_feed}
 use Rattle.cadence.proofs.Prefixes.{quiet_stands, prefix_none, survives_more, survives_then}

@@ -1,5 +1,5 @@
 -- A command is answered, or answering stops.
-use Rattle.std.proofs.Common.{◌≡◌, ℕ, List, [], ◌∷◌, Bool, true, false, cond, not, Result, Ok, Err, OnOk, IfErr, refl, sym, ◌∙◌, ap, subst}
+use Rattle.std.proofs.Common.{◌≡◌, ℕ, List, [], ◌∷◌, Bool, true, false, cond, not, Result, Ok, Err, OnOk, IfErr, sym, ◌∙◌, ap, subst}
 use Rattle.cad_host.specs.Disk.{Event, put, output, Puts, Ran, BreaksPut}
 use Rattle.cad_tape.specs.Reading.{IsQuiet}
 use Rattle.cad_wire.specs.declared.entry.Entry.{Entry}
@@ -11,11 +11,11 @@ use Rattle.cad_store.specs.Stores.{held, IsOn, Keeps}
 use Rattle.cadence.specs.Answer.{Answer, Answers, answer_line}
 use Rattle.cadence.specs.Progress.{Said, Halted}
 use Rattle.cadence.specs.declared.status.Status.{Status}
-use Rattle.cadence.specs.declared.status.Status.TheVariants.{WriteFault, DiskFault}
+use Rattle.cadence.specs.declared.status.Status.TheVariants.{WriteFault}
 use Rattle.cadence.specs.Lines.{is_command}
 use Rattle.cadence.specs.Held.{Holds}
 use Rattle.cadence.specs.declared.line.Line.{Line}
-use Rattle.cadence.proofs.Saids.{said_none, stays_said, stays_broke, commit_said, commit_told, commit_broke}
+use Rattle.cadence.proofs.Saids.{said_none, commit_said, commit_told}
 
 -- the reply was put, or it broke
 pub told_said : {T E : Type 0} (r : Result T E) (X : Type 0) (text : List ℕ) (mid new : List Event) → Puts text r mid new → (new ≡ put text ∷ mid → X) → OnOk r X

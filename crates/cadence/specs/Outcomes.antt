@@ -1,7 +1,6 @@
 -- What the program's values say of a request.
 use Rattle.std.specs.Prelude.{◌≡◌, ◌≢◌, ℕ, List, Option, Some, None}
 use Rattle.cad_syntax.specs.declared.num.Num.{Num}
-use Rattle.cad_syntax.specs.declared.text.Text.{Text}
 use Rattle.cad_num.specs.Numbers.{value_of}
 use Rattle.cad_values.specs.declared.value.Value.TheVariants.{Number}
 use Rattle.cad_wire.specs.declared.entry.Entry.{Entry}

@@ -1,6 +1,6 @@
 use Rattle.std.proofs.Common.{sym, ◌∙◌, ap, subst, Err}
 use Rattle.cad_accounts.specs.Registers.{at, Leads}
-use Rattle.cad_accounts.specs.Layers.{original, current}
+use Rattle.cad_accounts.specs.Layers.{current}
 use Rattle.cad_accounts.specs.Accounts.{StandsFor, created}
 use Rattle.cad_accounts.specs.Worlds.{AreSound}
 use Rattle.cadence.specs.Answer.{spent}

@@ -1,5 +1,4 @@
 use Rattle.std.proofs.Common.{sym, subst}
-use Rattle.cad_forms.specs.Sums.{sum_value}
 use Rattle.cad_forms.specs.Views.{products_of}
 use Rattle.cad_forms.specs.Request.{script}
 use Rattle.cadence.specs.Answer.{Does, stays, failed, runs, gives, fails}

@@ -1,4 +1,4 @@
-use Rattle.std.proofs.Common.{sym, ◌∙◌, ap, subst, refl}
+use Rattle.std.proofs.Common.{ap, subst, refl}
 use Rattle.cad_accounts.specs.Registers.{at, Leads}
 use Rattle.cad_accounts.specs.Layers.{original, current}
 use Rattle.cadence.proofs.Comings.{puts_refused}

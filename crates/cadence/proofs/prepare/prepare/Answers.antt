@@ -1,4 +1,4 @@
-use Rattle.std.proofs.Common.{List, ℕ, sym, subst}
+use Rattle.std.proofs.Common.{subst}
 use Rattle.cad_store.specs.Stores.{held}
 use Rattle.cad_forms.specs.Request.{Request, Asks}
 use Rattle.cad_forms.specs.Views.{request_of}

@@ -1,7 +1,6 @@
 use Rattle.std.proofs.Common.{◌≡◌, ◌≤◌, take}
 use Rattle.cad_accounts.specs.Worlds.{AreSound}
 use Rattle.cad_store.specs.Stores.{held, room_of, IsOn}
-use Rattle.cadence.specs.Answer.{most_bytes}
 use Rattle.cadence.specs.Progress.{Goes}
 use Rattle.cadence.proofs.serve.feed.Given as goal
 

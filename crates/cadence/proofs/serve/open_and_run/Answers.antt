@@ -1,10 +1,8 @@
-use Rattle.std.proofs.Common.{◌≡◌, sym, ◌∙◌, subst, ap, Err}
+use Rattle.std.proofs.Common.{sym, ◌∙◌, subst, ap, Err}
 use Rattle.cad_host.specs.Disk.{reads}
 use Rattle.cad_store.specs.declared.store.Store.{Store}
-use Rattle.cad_store.specs.Stores.{held}
 use Rattle.cadence.specs.Crashes.{DiskStands}
 use Rattle.cadence.specs.Ending.{Ends, HasRun, IsCausedBy}
-use Rattle.cadence.specs.declared.status.Status.TheVariants.{BadStore, Usage}
 use Rattle.cadence.proofs.Saids.{on_stands}
 use Rattle.cadence.proofs.Openings.{store_stands, ends_from, stop_ends, bad_stop, stop_runs, stop_is_no_usage, run_cause, no_bad_store, no_usage, open_cause}
 use Rattle.cadence.proofs.serve.open_and_run.Goals as goal

@@ -1,8 +1,7 @@
-use Rattle.std.proofs.Common.{◌≡◌, sym, subst}
+use Rattle.std.proofs.Common.{sym, subst}
 use Rattle.cad_host.specs.Disk.{output}
 use Rattle.cadence.specs.Lines.{commands}
 use Rattle.cadence.specs.Ending.{Leaves, IsCausedBy, HasRun}
-use Rattle.cadence.specs.declared.status.Status.TheVariants.{Done, Usage, ReadFault, WriteFault, DiskFault, Memory, BadStore, InputBound}
 use Rattle.cadence.proofs.Batches.{begun_none}
 use Rattle.cadence.proofs.Saids.{survives_none}
 use Rattle.cadence.proofs.Runs.{ends_begin}

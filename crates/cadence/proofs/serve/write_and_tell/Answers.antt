@@ -1,6 +1,6 @@
 use Rattle.std.proofs.Common.{◌∷◌, []}
 use Rattle.cad_accounts.specs.Registers.{applied}
-use Rattle.cad_store.specs.Stores.{held, IsOn}
+use Rattle.cad_store.specs.Stores.{held}
 use Rattle.cadence.specs.Progress.{Said, Halted}
 use Rattle.cadence.proofs.Saids.{commit_broke, on_told}
 use Rattle.cadence.proofs.Tellings.{told_said, told_stops, wrote_said, wrote_broke}
