@@ -1,5 +1,5 @@
 // Registers in memory, and the interface to any.
-ghost use Rattle.std.specs.Prelude.{◌≡◌, ◌+◌, ◌<◌, ◌≤◌, ◌^◌, ◌-◌, min, [], List, ℕ, true, length, map, slice_get, option_map, sum_by, IfOk, OnOk, OnErr, Some, IsTrue, ◌↔◌};
+ghost use Rattle.std.specs.Prelude.{◌≡◌, ◌+◌, ◌<◌, ◌≤◌, ◌^◌, ◌-◌, min, [], List, ℕ, true, length, map, slice_get, option_map, sum_by, OnOk, OnErr, Some, IsTrue, ◌↔◌};
 ghost use Rattle.cad_wire.specs.Body.{Fits};
 ghost use Rattle.cad_accounts.specs.declared.row.Row.{Row};
 ghost use Rattle.cad_accounts.specs.Registers.{at, are_rising, changed, size_of};

@@ -1,5 +1,5 @@
 // Whether registers are those of sound accounts.
-ghost use Rattle.std.specs.Prelude.{◌≡◌, ◌≢◌, ◌↔◌, ◌+◌, ◌<◌, ◌≤◌, ◌^◌, ◌++◌, List, ℕ, IsTrue, length, drop, slice_get, option_map, IfOk, IfSome, IfNone, Some};
+ghost use Rattle.std.specs.Prelude.{◌≡◌, ◌≢◌, ◌↔◌, ◌+◌, ◌<◌, ◌≤◌, ◌^◌, ◌++◌, List, ℕ, IsTrue, drop, slice_get, option_map, IfOk, IfSome, IfNone, Some};
 ghost use Rattle.cad_syntax.specs.declared.kind.Kind.TheVariants.{Int};
 ghost use Rattle.cad_wire.specs.Fields.{number_field};
 ghost use Rattle.cad_accounts.specs.Registers.{at};

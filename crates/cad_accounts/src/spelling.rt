@@ -1,5 +1,5 @@
 // The keys and the bytes of registers.
-ghost use Rattle.std.specs.Prelude.{◌≡◌, ◌++◌, IfOk, OnOk};
+ghost use Rattle.std.specs.Prelude.{◌≡◌, ◌++◌, IfOk};
 ghost use Rattle.std.specs.Str.{IsUtf8};
 ghost use Rattle.cad_wire.specs.Fields.{number_field};
 ghost use Rattle.cad_accounts.specs.Accounts as spec;

@@ -1,5 +1,5 @@
 // Accounts over registers.
-ghost use Rattle.std.specs.Prelude.{◌≡◌, ◌≢◌, ◌+◌, ◌<◌, ◌≤◌, List, ℕ, ◌↔◌, IfOk, OnOk, IfSome, IfErr, OnErr, Some, None, Err, option_map, IsTrue};
+ghost use Rattle.std.specs.Prelude.{◌≡◌, ◌≢◌, ◌+◌, ◌<◌, List, ℕ, ◌↔◌, IfOk, OnOk, IfSome, IfErr, OnErr, Some, None, Err, option_map, IsTrue};
 ghost use Rattle.cad_wire.specs.Fields.{number_at};
 ghost use Rattle.cad_accounts.specs.Registers.{Leads, at, changed};
 ghost use Rattle.cad_accounts.specs.Layers.{original, current, with_account};

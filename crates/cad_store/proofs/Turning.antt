@@ -1,11 +1,11 @@
--- Entries and records that change registers, one after another.
+-- Entries that change registers, one after another.
 use Rattle.std.proofs.Common.{◌≡◌, ℕ, ◌+◌, List, [], ◌∷◌, length, refl, sym, ◌∙◌, ap, subst, arith}
 use Rattle.std.specs.Prelude.{All}
 use Rattle.std.proofs.lemmas.List.Elements.{All-from_recursion}
 use Rattle.cad_wire.specs.declared.entry.Entry.{Entry}
 use Rattle.cad_wire.specs.Body.{Fits}
 use Rattle.cad_wire.proofs.BodyLaws.{All-by_recursion}
-use Rattle.cad_accounts.specs.Registers.{Map, changed, applied, folded}
+use Rattle.cad_accounts.specs.Registers.{Map, changed, applied}
 
 -- these entries are left of all, and have yet to change the map
 pub record Turns (all : List Entry) (first m : Map) (left : List Entry) (count : ℕ) : Type 0 where
@@ -38,28 +38,3 @@ fits_first x left rest e h = (All-by_recursion Fits (x ∷ rest) (subst (λ (es 
 
 pub fits_rest : (x : Entry) (left rest : List Entry) → left ≡ x ∷ rest → All Fits left → All Fits rest
 fits_rest x left rest e h = All-from_recursion Fits rest (All-by_recursion Fits (x ∷ rest) (subst (λ (es : List Entry). All Fits es) e h)).1
-
--- the same of records
-pub record Folds (all : List (List Entry)) (first m : Map) (left : List (List Entry)) (count : ℕ) : Type 0 where
-  pub is : (key : List ℕ) → folded left m key ≡ folded all first key
-  pub count_is : count ≡ length left
-
-pub folds_begin : (all left : List (List Entry)) (m : Map) (count : ℕ) → left ≡ all → count ≡ length left → Folds all m m left count
-folds_begin all left m count e n = record { is = λ key. ap (λ (es : List (List Entry)). folded es m key) e; count_is = n }
-
-pub folds_on : (all : List (List Entry)) (first m n : Map) (x : List Entry) (left rest : List (List Entry)) (count less : ℕ) → Folds all first m left count → left ≡ x ∷ rest → less + 1 ≡ count → ((key : List ℕ) → n key ≡ applied x m key) → Folds all first n rest less
-folds_on all first m n x left rest count less t e c new =
-    let same : n ≡ applied x m = λ i key. new key i in
-    record {
-      is = λ key. ap (λ (f : Map). folded rest f key) same ∙ ap (λ (es : List (List Entry)). folded es m key) (sym e) ∙ t.is key;
-      count_is = omega (arith, t.count_is, ap length e, c);
-    }
-
-no_records : (left : List (List Entry)) → 0 ≡ length left → left ≡ []
-no_records [] e = refl
-no_records (x ∷ left) e = absurd (omega arith)
-
-pub folds_end : (all : List (List Entry)) (first m : Map) (left : List (List Entry)) (count : ℕ) → Folds all first m left count → count ≡ 0 → (key : List ℕ) → m key ≡ folded all first key
-folds_end all first m left count t zero key =
-    let none : left ≡ [] = no_records left (sym zero ∙ t.count_is) in
-    ap (λ (es : List (List Entry)). folded es m key) (sym none) ∙ t.is key

@@ -1,12 +1,10 @@
 // Opening a store.
-ghost use Rattle.std.specs.Prelude.{◌≡◌, ◌≤◌, ◌<◌, ◌^◌, ◌↔◌, List, ℕ, length, IsTrue, IfOk, OnOk, Err, None};
+ghost use Rattle.std.specs.Prelude.{◌≡◌, ◌≤◌, ◌^◌, IfOk, Err, None};
 ghost use Rattle.cad_host.specs.declared.host.Tape.TheVariants.{Pick};
 ghost use Rattle.cad_host.specs.Disk.{reads};
 ghost use Rattle.cad_host.specs.Faults.{IsCaused};
-ghost use Rattle.cad_wire.specs.Body.{Fits};
 ghost use Rattle.cad_tape.specs.Reading.{chosen, tape_reading};
-ghost use Rattle.cad_accounts.specs.Registers.{Map, at, changed, applied, folded};
-ghost use Rattle.cad_accounts.specs.Memory.{rows_of};
+ghost use Rattle.cad_accounts.specs.Registers.{Map};
 ghost use Rattle.cad_accounts.specs.Worlds.{AreSound};
 ghost use Rattle.cad_store.specs.Stops.{BlamesDisk};
 ghost use Rattle.cad_store.specs.Stores.{DiskHolds, held, room_of, place_behind, IsOn};
@@ -14,12 +12,10 @@ ghost use Rattle.cad_store.specs.Stores.{DiskHolds, held, room_of, place_behind,
 use crate::place::Place;
 use crate::stops::OpenStop;
 use crate::store::Store;
-use cad_accounts::{MapRegisters, is_sound};
+use cad_accounts::{fold_records, is_sound};
 use cad_host::{Failed, Host, Tape};
-use cad_syntax::{Bytes, Items};
 use cad_tape::scan;
-use cad_wire::{Entries, Entry};
-use std::alloc::{AllocError, Global};
+use std::alloc::Global;
 
 fn chosen_by(bytes: &[u8]) -> Tape
     ensures { result ≡ chosen bytes.now }
@@ -55,43 +51,6 @@ fn tape_in_use<H: Host>(host: &mut H) -> Result<Tape, Failed>
     Ok(chosen_by(&first[..count]))
 }
 
-fn fits_string(bytes: &Bytes) -> bool
-    ensures { IsTrue result ↔ (length bytes.now < 2 ^ 32) }
-{
-    bytes.len() <= u32::MAX as usize
-}
-
-fn fits(entry: &Entry) -> bool
-    ensures { IsTrue result → Fits entry.now }
-{
-    match &entry.value {
-        None => fits_string(&entry.key.0),
-        Some(value) => fits_string(&entry.key.0) && fits_string(value),
-    }
-}
-
-fn apply(registers: &mut MapRegisters, entries: Entries) -> Result<(), AllocError>
-    ensures { OnOk result ((key : List ℕ) → at (rows_of registers.new) key ≡ applied entries (at (rows_of registers.old)) key) }
-{
-    for entry in entries.into_vec() {
-        if !fits(&entry) {
-            return Err(AllocError);
-        }
-        registers.reserve(1)?;
-        registers.change(entry);
-    }
-    Ok(())
-}
-
-fn fold(registers: &mut MapRegisters, records: Items<Entries>) -> Result<(), AllocError>
-    ensures { OnOk result ((key : List ℕ) → at (rows_of registers.new) key ≡ folded records (at (rows_of registers.old)) key) }
-{
-    for entries in records.into_vec() {
-        apply(registers, entries)?;
-    }
-    Ok(())
-}
-
 // A store of what the tapes read, whatever it is.
 fn read_store<H: Host>(alloc: Global, host: &mut H, room: u64) -> Result<Store, OpenStop>
     ensures on { IfOk result (λ store. H.tells → IsOn (H.trace host.old) store) }
@@ -108,8 +67,7 @@ fn read_store<H: Host>(alloc: Global, host: &mut H, room: u64) -> Result<Store, 
     let length = host.length(tape)?;
     let read = scan(alloc, host, tape)?;
     let place = next_place(tape, length, read.ending);
-    let mut registers = MapRegisters::new(alloc);
-    fold(&mut registers, read.records)?;
+    let registers = fold_records(alloc, read.records)?;
     Ok(Store {
         registers,
         place,
@@ -121,7 +79,8 @@ fn read_store<H: Host>(alloc: Global, host: &mut H, room: u64) -> Result<Store, 
 /// Opens the store on three tapes. An odd first byte of `pick` chooses tape a, another or none tape b; the records of the
 /// chosen tape, one after another, are the registers. `room` is how many bytes a record of all registers may have, with the
 /// gate behind it, after any commit. It writes nothing. Failed only where the disk failed; BadStore where the tape's bytes
-/// aren't those of records, or the registers aren't those of sound accounts.
+/// aren't those of records, or the registers aren't those of sound accounts. Memory where memory runs out, or where there
+/// would be 2^32 registers or more.
 pub fn open<H: Host>(alloc: Global, host: &mut H, room: u64) -> Result<Store, OpenStop>
     requires { room ≤ 2 ^ 30 }
     ensures sound { IfOk result (λ store. AreSound (held store)) }

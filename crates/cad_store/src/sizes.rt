@@ -1,5 +1,5 @@
 // What changes add to the size of a record of all registers. None where a sum is 2^64 or more.
-ghost use Rattle.std.specs.Prelude.{◌≡◌, length, IfSome, Some};
+ghost use Rattle.std.specs.Prelude.{◌≡◌, ◌≤◌, ◌^◌, length, IfSome, Some, None};
 ghost use Rattle.cad_accounts.specs.Registers.{at};
 ghost use Rattle.cad_accounts.specs.Memory.{rows_of};
 ghost use Rattle.cad_store.specs.Sizes.{value_size, added, replaced};
@@ -8,14 +8,16 @@ use cad_accounts::{MapRegisters, Registers};
 use cad_wire::{Entry, Key};
 
 fn size_of_entry(key: &Key, value: &[u8]) -> Option<u64>
-    ensures { IfSome result (λ n. n ≡ value_size key.now.0 (Some value.now)) }
+    ensures is { IfSome result (λ n. n ≡ value_size key.now.0 (Some value.now)) }
+    ensures over { result ≡ None → 2 ^ 64 ≤ value_size key.now.0 (Some value.now) }
 {
     let length = key.0.len() as u64;
     length.checked_add(value.len() as u64)?.checked_add(9)
 }
 
 fn size_of_new(change: &Entry) -> Option<u64>
-    ensures { IfSome result (λ n. n ≡ value_size change.now.key.0 change.now.value) }
+    ensures is { IfSome result (λ n. n ≡ value_size change.now.key.0 change.now.value) }
+    ensures over { result ≡ None → 2 ^ 64 ≤ value_size change.now.key.0 change.now.value }
 {
     match &change.value {
         None => Some(0),
@@ -24,7 +26,8 @@ fn size_of_new(change: &Entry) -> Option<u64>
 }
 
 fn size_of_old(registers: &MapRegisters, key: &Key) -> Option<u64>
-    ensures { IfSome result (λ n. n ≡ value_size key.now.0 (at (rows_of registers.now) key.now.0)) }
+    ensures is { IfSome result (λ n. n ≡ value_size key.now.0 (at (rows_of registers.now) key.now.0)) }
+    ensures over { result ≡ None → 2 ^ 64 ≤ value_size key.now.0 (at (rows_of registers.now) key.now.0) }
 {
     match registers.get(key) {
         None => Some(0),
@@ -34,7 +37,8 @@ fn size_of_old(registers: &MapRegisters, key: &Key) -> Option<u64>
 
 /// How many bytes the entries of the new values have.
 pub fn size_added(changes: &[Entry]) -> Option<u64>
-    ensures { IfSome result (λ n. n ≡ added changes.now) }
+    ensures is { IfSome result (λ n. n ≡ added changes.now) }
+    ensures over { result ≡ None → 2 ^ 64 ≤ added changes.now }
 {
     let mut sum = 0u64;
     for change in changes {
@@ -45,7 +49,8 @@ pub fn size_added(changes: &[Entry]) -> Option<u64>
 
 /// How many the entries of the values that they replace have.
 pub fn size_replaced(registers: &MapRegisters, changes: &[Entry]) -> Option<u64>
-    ensures { IfSome result (λ n. n ≡ replaced (at (rows_of registers.now)) changes.now) }
+    ensures is { IfSome result (λ n. n ≡ replaced (at (rows_of registers.now)) changes.now) }
+    ensures over { result ≡ None → 2 ^ 64 ≤ replaced (at (rows_of registers.now)) changes.now }
 {
     let mut sum = 0u64;
     for change in changes {

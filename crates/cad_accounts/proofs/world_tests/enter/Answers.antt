@@ -1,6 +1,6 @@
 use Rattle.std.proofs.Common.{List, sym, ap, subst, ◌∙◌}
 use Rattle.cad_accounts.specs.declared.row.Row.{Row}
-use Rattle.cad_accounts.specs.Registers.{Map, at}
+use Rattle.cad_accounts.specs.Registers.{at}
 use Rattle.cad_accounts.specs.Worlds.{AreSound}
 use Rattle.cad_accounts.proofs.world_tests.enter.Goals as goal
 

@@ -6,8 +6,6 @@ use Rattle.cad_host.specs.Disk.{Event, reads}
 use Rattle.cad_tape.specs.Framing.{framing, Ends}
 use Rattle.cad_tape.specs.Reading.{tape_reading, chosen, or_none}
 use Rattle.cad_tape.specs.declared.stop.ScanStop.{ScanStop}
-use Rattle.cad_accounts.specs.declared.row.Row.{Row}
-use Rattle.cad_accounts.specs.Registers.{at, folded}
 use Rattle.cad_store.specs.declared.place.Place.{Place}
 use Rattle.cad_store.specs.declared.stops.OpenStop.TheVariants.{BadStore}
 use Rattle.cad_store.specs.Stores.{IsAt}
@@ -32,7 +30,7 @@ returns-clause-on g c = λ tell.
       holds = record {
         records = read.records;
         reading = ap (λ (t : Tape). tape_reading (reads m t)) (sym used) ∙ reading;
-        is = λ key. sym (c.in_ok-fold.ensures key ∙ ap (λ (rows : List Row). folded read.records (at rows) key) c.new-registers.ensures);
+        is = λ key. sym (c.in_ok-registers.ensures key);
       };
       place = subst (λ (p : Place). IsAt m p) (sym c.next_place-place.ensures) place;
     }
