@@ -35,7 +35,7 @@ stop_ends stop.Failed w input left old new same h good = record {
 }
 stop_ends stop.BadStore w input left old new same h good = absurd (good refl)
 stop_ends stop.Memory w input left old new same h good = record {
-  leaves = (w, record { count = 0; within = omega arith; served = subst (λ m. Served w [] (output old) (output m) w) (sym same) (served_none w (output old)) }, subst (λ m. DiskStands (reads m) w) (sym same) h);
+  leaves = (w, record { count = 0; within = omega arith; served = subst (λ m. Served w [] (output old) (output m) w) (sym same) (served_none w (output old)) }, subst (λ m. DiskStands (reads m) w) (sym same) h, record { first = []; rest = commands input; are = refl; wrote = (refl, same) });
   survives = subst (λ m. Survives w (commands input) old m) (sym same) (survives_none w (commands input) old h);
 }
 
