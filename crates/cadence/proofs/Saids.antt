@@ -15,13 +15,13 @@ use Rattle.cad_store.specs.declared.place.Place.TheVariants.{Behind, Onto}
 use Rattle.cad_store.specs.Stores.{DiskHolds, held, IsAt, IsOn, Keeps}
 use Rattle.cadence.specs.Answer.{Answer, Answers, answer_line}
 use Rattle.cadence.specs.Served.{AnswersAll, Served, ServedSome, Broken}
-use Rattle.cadence.specs.Writing.{Written, nothing, Wrote, WroteSome, WroteBroken}
+use Rattle.cadence.specs.Writing.{Written, nothing, Wrote, WroteSome, WroteBroken, WroteStopped}
 use Rattle.cadence.specs.Crashes.{DiskStands, HasPrefix, IsPrefix, Survives, line_feeds, acknowledged}
 use Rattle.cadence.specs.Progress.{Said, Halts, Halted}
 use Rattle.cadence.specs.declared.status.Status.{Status}
 use Rattle.cadence.specs.declared.status.Status.TheVariants.{Done, Usage, ReadFault, WriteFault, DiskFault, Memory, BadStore, InputBound}
 use Rattle.cadence.proofs.Batches.{served_none, served_then, some_then, some_more, broken_then, broken_more, some_of}
-use Rattle.cadence.proofs.Writings.{wrote_then, some_none, wrote_some_then, wrote_some_more, wrote_broken_then, wrote_broken_more}
+use Rattle.cadence.proofs.Writings.{wrote_then, some_none, wrote_some_then, wrote_some_more, wrote_broken_then, wrote_broken_more, wrote_stopped_then, wrote_stopped_more}
 use Rattle.cadence.proofs.Feeds.{feeds_append, feeds_front}
 use Rattle.cadence.proofs.Lines_of.{one_feed}
 use Rattle.cadence.proofs.Prefixes.{quiet_stands, prefix_none, survives_more, survives_then}
@@ -66,19 +66,19 @@ said_then w xs ys old mid new s t h k = record {
   quiet = λ quiet. k.quiet (h.quiet quiet);
 }
 
-halts_then : (status : Status) (w u : Accounts) (xs ys : List (List ℕ)) (old mid new : List Event) → Served w xs (output old) (output mid) u → Wrote w xs old mid u → Halts status u ys mid new → Halts status w (xs ++ ys) old new
-halts_then Done w u xs ys old mid new s r h = absurd h
-halts_then Usage w u xs ys old mid new s r h = absurd h
-halts_then ReadFault w u xs ys old mid new s r h = absurd h
-halts_then WriteFault w u xs ys old mid new s r h = (h.0, broken_then w u h.0 xs ys (output old) (output mid) (output new) s h.1, h.2, wrote_broken_then w u h.0 xs ys old mid new r h.3)
-halts_then DiskFault w u xs ys old mid new s r h = (h.0, some_then w u h.0 xs ys (output old) (output mid) (output new) s h.1)
-halts_then Memory w u xs ys old mid new s r h = (h.0, some_then w u h.0 xs ys (output old) (output mid) (output new) s h.1, h.2, wrote_some_then w u h.0 xs ys old mid new r h.3)
-halts_then BadStore w u xs ys old mid new s r h = absurd h
-halts_then InputBound w u xs ys old mid new s r h = absurd h
+halts_then : (status : Status) (w u : Accounts) (xs ys : List (List ℕ)) (old mid new : List Event) → Served w xs (output old) (output mid) u → Wrote w xs old mid u → (IsQuiet old → IsQuiet mid) → Halts status u ys mid new → Halts status w (xs ++ ys) old new
+halts_then Done w u xs ys old mid new s r n h = absurd h
+halts_then Usage w u xs ys old mid new s r n h = absurd h
+halts_then ReadFault w u xs ys old mid new s r n h = absurd h
+halts_then WriteFault w u xs ys old mid new s r n h = (h.0, broken_then w u h.0 xs ys (output old) (output mid) (output new) s h.1, h.2, wrote_broken_then w u h.0 xs ys old mid new r h.3)
+halts_then DiskFault w u xs ys old mid new s r n h = (h.0, some_then w u h.0 xs ys (output old) (output mid) (output new) s h.1, wrote_stopped_then w u h.0 xs ys old mid new n r h.2)
+halts_then Memory w u xs ys old mid new s r n h = (h.0, some_then w u h.0 xs ys (output old) (output mid) (output new) s h.1, h.2, wrote_some_then w u h.0 xs ys old mid new r h.3)
+halts_then BadStore w u xs ys old mid new s r n h = absurd h
+halts_then InputBound w u xs ys old mid new s r n h = absurd h
 
 pub halted_then : (status : Status) (w : Accounts) (xs ys : List (List ℕ)) (old mid new : List Event) (s : Store) (h : Said w xs old mid s) → Halted status h.accounts ys mid new → Halted status w (xs ++ ys) old new
 halted_then status w xs ys old mid new s h k = record {
-  halts = halts_then status w h.accounts xs ys old mid new h.served h.wrote k.halts;
+  halts = halts_then status w h.accounts xs ys old mid new h.served h.wrote h.quiet k.halts;
   survives = survives_then w h.accounts xs ys old mid new h.served h.survives h.quiet k.survives;
 }
 
@@ -87,7 +87,7 @@ halts_more Done w xs ys old new h = absurd h
 halts_more Usage w xs ys old new h = absurd h
 halts_more ReadFault w xs ys old new h = absurd h
 halts_more WriteFault w xs ys old new h = (h.0, broken_more w h.0 xs ys (output old) (output new) h.1, h.2, wrote_broken_more w h.0 xs ys old new h.3)
-halts_more DiskFault w xs ys old new h = (h.0, some_more w h.0 xs ys (output old) (output new) h.1)
+halts_more DiskFault w xs ys old new h = (h.0, some_more w h.0 xs ys (output old) (output new) h.1, wrote_stopped_more w h.0 xs ys old new h.2)
 halts_more Memory w xs ys old new h = (h.0, some_more w h.0 xs ys (output old) (output new) h.1, h.2, wrote_some_more w h.0 xs ys old new h.3)
 halts_more BadStore w xs ys old new h = absurd h
 halts_more InputBound w xs ys old new h = absurd h
@@ -200,9 +200,20 @@ module _ (w v : Accounts) (c : List ℕ) (a : Answer) (answers : Answers w c a v
       by disk (inl h) = inl (record { map = before; holds = h; stands = is_w })
       by disk (inr h) = inr (record { map = behind; holds = h; stands = is_v })
 
+  commit_stopped : (before behind : Map) (new : List Event) → output new ≡ output old → (IsQuiet old → Ran old new (Keeps old before behind)) → WroteStopped w (c ∷ []) old new w
+  commit_stopped before behind new same ran = record {
+    first = [];
+    rest = c ∷ [];
+    are = refl;
+    told = old;
+    wrote = (refl, refl);
+    same = same;
+    behind = λ quiet. ran_as (Keeps old before behind) (λ m. output m ≡ output old) old new (λ m k. k.output) (ran quiet);
+  }
+
   pub commit_broke : (before behind : Map) (new : List Event) → output new ≡ output old → StandsFor before w → StandsFor behind v → (IsQuiet old → Ran old new (Keeps old before behind)) → Halted DiskFault w (c ∷ []) old new
   commit_broke before behind new same is_w is_v ran = record {
-    halts = (w, record { count = 0; within = omega arith; served = record { answers = []; are = refl; output = same ∙ sym (append-nil (output old)) } });
+    halts = (w, record { count = 0; within = omega arith; served = record { answers = []; are = refl; output = same ∙ sym (append-nil (output old)) } }, commit_stopped before behind new same ran);
     survives = λ quiet. commit_ran before behind new is_w is_v (ran quiet);
   }
 

@@ -1,9 +1,11 @@
 -- What commands write in turn.
 use Rattle.std.proofs.Common.{◌≡◌, ℕ, List, [], ◌∷◌, ◌++◌, refl, sym, ◌∙◌, ap, subst, append_assoc}
-use Rattle.cad_host.specs.Disk.{Event, put}
+use Rattle.cad_host.specs.Disk.{Event, put, output}
+use Rattle.cad_host.proofs.Ran.{ran_none}
+use Rattle.cad_tape.specs.Reading.{IsQuiet}
 use Rattle.cad_accounts.specs.Accounts.{Accounts}
 use Rattle.cadence.specs.Answer.{answer_line}
-use Rattle.cadence.specs.Writing.{Wrote, WroteSome, WroteBroken}
+use Rattle.cadence.specs.Writing.{Wrote, WroteSome, WroteBroken, WroteStopped}
 
 pub wrote_then : (w u v : Accounts) (xs ys : List (List ℕ)) (o p q : List Event) → Wrote w xs o p u → Wrote u ys p q v → Wrote w (xs ++ ys) o q v
 wrote_then w u v [] ys o p q h k = subst (λ x. Wrote x ys o q v) h.0 (subst (λ m. Wrote u ys m q v) h.1 k)
@@ -54,4 +56,29 @@ wrote_broken_more w v xs ys o p h = record {
   behind = h.behind;
   written = h.written;
   broke = h.broke;
+}
+
+pub stopped_none : (w : Accounts) (cs : List (List ℕ)) (m : List Event) → WroteStopped w cs m m w
+stopped_none w cs m = record { first = []; rest = cs; are = refl; told = m; wrote = (refl, refl); same = refl; behind = λ quiet. ran_none (λ p. output p ≡ output m) m refl }
+
+pub wrote_stopped_then : (w u v : Accounts) (xs ys : List (List ℕ)) (o p q : List Event) → (IsQuiet o → IsQuiet p) → Wrote w xs o p u → WroteStopped u ys p q v → WroteStopped w (xs ++ ys) o q v
+wrote_stopped_then w u v xs ys o p q stays h k = record {
+  first = xs ++ k.first;
+  rest = k.rest;
+  are = ap (λ l. xs ++ l) k.are ∙ sym (append_assoc xs k.first k.rest);
+  told = k.told;
+  wrote = wrote_then w u v xs k.first o p k.told h k.wrote;
+  same = k.same;
+  behind = λ quiet. k.behind (stays quiet);
+}
+
+pub wrote_stopped_more : (w v : Accounts) (xs ys : List (List ℕ)) (o p : List Event) → WroteStopped w xs o p v → WroteStopped w (xs ++ ys) o p v
+wrote_stopped_more w v xs ys o p h = record {
+  first = h.first;
+  rest = h.rest ++ ys;
+  are = ap (λ l. l ++ ys) h.are ∙ append_assoc h.first h.rest ys;
+  told = h.told;
+  wrote = h.wrote;
+  same = h.same;
+  behind = h.behind;
 }

@@ -5,7 +5,7 @@ use Rattle.cad_host.specs.Faults.{Rose}
 use Rattle.cad_accounts.specs.Accounts.{Accounts}
 use Rattle.cadence.specs.Lines.{commands}
 use Rattle.cadence.specs.Served.{Served, ServedSome, Broken, Finished}
-use Rattle.cadence.specs.Writing.{Wrote, WroteSome, WroteBroken}
+use Rattle.cadence.specs.Writing.{Wrote, WroteSome, WroteBroken, WroteStopped}
 use Rattle.cadence.specs.Crashes.{DiskStands, Survives}
 use Rattle.cad_store.specs.declared.stops.OpenStop.{OpenStop}
 use Rattle.cad_store.specs.declared.stops.OpenStop.TheVariants as stop
@@ -25,7 +25,7 @@ Leaves Usage w input left old new = ⊥
 Leaves ReadFault w input left old new =
     (v : Accounts) × (taken : List ℕ) × (input ≡ taken ++ left) × Finished w taken old new v × DiskStands (reads new) v
 Leaves WriteFault w input left old new = (v : Accounts) × Broken w (commands input) (output old) (output new) v × DiskStands (reads new) v × WroteBroken w (commands input) old new v
-Leaves DiskFault w input left old new = (v : Accounts) × ServedSome w (commands input) (output old) (output new) v
+Leaves DiskFault w input left old new = (v : Accounts) × ServedSome w (commands input) (output old) (output new) v × WroteStopped w (commands input) old new v
 Leaves Memory w input left old new = (v : Accounts) × ServedSome w (commands input) (output old) (output new) v × DiskStands (reads new) v × WroteSome w (commands input) old new v
 Leaves BadStore w input left old new = ⊥
 Leaves InputBound w input left old new =

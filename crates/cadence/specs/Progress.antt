@@ -8,7 +8,7 @@ use Rattle.cad_store.specs.Stores.{held, IsOn}
 use Rattle.cadence.specs.Lines.{lines, commands_among, commands}
 use Rattle.cadence.specs.Held.{Holds}
 use Rattle.cadence.specs.Served.{Served, ServedSome, Broken}
-use Rattle.cadence.specs.Writing.{Wrote, WroteSome, WroteBroken}
+use Rattle.cadence.specs.Writing.{Wrote, WroteSome, WroteBroken, WroteStopped}
 use Rattle.cadence.specs.Crashes.{DiskStands, Survives}
 use Rattle.cadence.specs.declared.line.Line.{Line}
 use Rattle.cadence.specs.declared.status.Status.{Status}
@@ -30,7 +30,7 @@ Halts Done w commands old new = ⊥
 Halts Usage w commands old new = ⊥
 Halts ReadFault w commands old new = ⊥
 Halts WriteFault w commands old new = (v : Accounts) × Broken w commands (output old) (output new) v × DiskStands (reads new) v × WroteBroken w commands old new v
-Halts DiskFault w commands old new = (v : Accounts) × ServedSome w commands (output old) (output new) v
+Halts DiskFault w commands old new = (v : Accounts) × ServedSome w commands (output old) (output new) v × WroteStopped w commands old new v
 Halts Memory w commands old new = (v : Accounts) × ServedSome w commands (output old) (output new) v × DiskStands (reads new) v × WroteSome w commands old new v
 Halts BadStore w commands old new = ⊥
 Halts InputBound w commands old new = ⊥

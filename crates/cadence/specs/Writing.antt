@@ -1,8 +1,9 @@
 -- What a run writes, and when its replies are put.
 use Rattle.std.specs.Prelude.{◌≡◌, ◌≢◌, ℕ, List, [], ◌∷◌, ◌++◌}
-use Rattle.cad_host.specs.Disk.{Event, put, BreaksPut}
+use Rattle.cad_host.specs.Disk.{Event, put, output, Ran, BreaksPut}
 use Rattle.cad_wire.specs.declared.entry.Entry.{Entry}
 use Rattle.cad_wire.specs.Body.{body_bytes}
+use Rattle.cad_tape.specs.Reading.{IsQuiet}
 use Rattle.cad_accounts.specs.Registers.{Map, Leads}
 use Rattle.cad_accounts.specs.Accounts.{Accounts, StandsFor}
 use Rattle.cad_store.specs.Stores.{recorded}
@@ -42,3 +43,13 @@ pub record WroteBroken (w : Accounts) (commands : List (List ℕ)) (old new : Li
   pub behind : List Event
   pub written : Written accounts v told behind
   pub broke : BreaksPut (answer_line answer) behind new
+
+-- Those of the first of these commands; then a call of the disk broke, and nothing was put since.
+pub record WroteStopped (w : Accounts) (commands : List (List ℕ)) (old new : List Event) (v : Accounts) : Type 0 where
+  pub first : List (List ℕ)
+  pub rest : List (List ℕ)
+  pub are : commands ≡ first ++ rest
+  pub told : List Event
+  pub wrote : Wrote w first old told v
+  pub same : output new ≡ output told
+  pub behind : IsQuiet old → Ran told new (λ m. output m ≡ output told)

@@ -12,7 +12,7 @@ ghost use Rattle.cadence.specs.Held.{Holds};
 ghost use Rattle.cadence.specs.Words.{IsRun};
 ghost use Rattle.cadence.specs.Answer.{Answer, Answers, answer_line, most_bytes};
 ghost use Rattle.cadence.specs.Served.{Served, ServedSome, Broken, Begun, Finished};
-ghost use Rattle.cadence.specs.Writing.{Wrote, WroteSome, WroteBroken};
+ghost use Rattle.cadence.specs.Writing.{Wrote, WroteSome, WroteBroken, WroteStopped};
 ghost use Rattle.cadence.specs.Crashes.{DiskStands, Survives};
 ghost use Rattle.cadence.specs.Ending.{Ends, HasCause, StopCause, IsCausedBy, HasRun, input_bound, status_of};
 ghost use Rattle.cadence.specs.Progress.{Said, Halted, Going, Goes, Stops};
@@ -409,8 +409,8 @@ pub fn serve<H: Host>(alloc: Global, words: &[Text], host: &mut H) -> Status
 
     // Done: the input was read to its end, the output grew by the reply lines of all commands, in order, and the tapes stand
     // for the accounts that the commands lead to. A command that changes no register wrote nothing, and any other wrote one
-    // record, of exactly the registers that differ, before its reply was put; nothing else was written. So it is under
-    // Memory, WriteFault, ReadFault and InputBound of the commands that were answered.
+    // record, of exactly the registers that differ, before its reply was put; nothing else was written. So it is under each
+    // other status of the commands that were replied to.
     ensures done { H.tells → result ≡ Status.Done → (w : Accounts) → DiskStands (reads (H.trace host.old)) w
         → (v : Accounts) × (H.left host.new ≡ []) × Served w (commands (H.left host.old)) (output (H.trace host.old)) (output (H.trace host.new)) v
         × DiskStands (reads (H.trace host.new)) v × Wrote w (commands (H.left host.old)) (H.trace host.old) (H.trace host.new) v }
@@ -420,12 +420,14 @@ pub fn serve<H: Host>(alloc: Global, words: &[Text], host: &mut H) -> Status
         → Begun w (commands (H.left host.old)) (output (H.trace host.old)) (output (H.trace host.new)) }
 
     // Memory: the tapes stand for the accounts after exactly the commands that were replied to. DiskFault: no command whose
-    // commit failed was replied to. WriteFault: the command whose line broke took effect.
+    // commit failed was replied to, and no command behind it was begun. WriteFault: the command whose line broke took effect,
+    // and what it changes was written before.
     ensures memory { H.tells → result ≡ Status.Memory → (w : Accounts) → DiskStands (reads (H.trace host.old)) w
         → (v : Accounts) × ServedSome w (commands (H.left host.old)) (output (H.trace host.old)) (output (H.trace host.new)) v
         × DiskStands (reads (H.trace host.new)) v × WroteSome w (commands (H.left host.old)) (H.trace host.old) (H.trace host.new) v }
     ensures disk_fault { H.tells → result ≡ Status.DiskFault → (w : Accounts) → DiskStands (reads (H.trace host.old)) w
-        → (v : Accounts) × ServedSome w (commands (H.left host.old)) (output (H.trace host.old)) (output (H.trace host.new)) v }
+        → (v : Accounts) × ServedSome w (commands (H.left host.old)) (output (H.trace host.old)) (output (H.trace host.new)) v
+        × WroteStopped w (commands (H.left host.old)) (H.trace host.old) (H.trace host.new) v }
     ensures write_fault { H.tells → result ≡ Status.WriteFault → (w : Accounts) → DiskStands (reads (H.trace host.old)) w
         → (v : Accounts) × Broken w (commands (H.left host.old)) (output (H.trace host.old)) (output (H.trace host.new)) v
         × DiskStands (reads (H.trace host.new)) v × WroteBroken w (commands (H.left host.old)) (H.trace host.old) (H.trace host.new) v }
