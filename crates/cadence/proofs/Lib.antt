@@ -1,6 +1,7 @@
 pub mod Holding
 pub mod Splits
 pub mod Batches
+pub mod Writings
 pub mod Feeds
 pub mod Lines_of
 pub mod Prefixes

@@ -1,5 +1,5 @@
 -- What is ready in answer to a line.
-use Rattle.std.proofs.Common.{◌≡◌, ℕ, ◌≤◌, ◌<◌, true, false, ltb, List, [], length, Result, Ok, Err, IfOk, refl, sym, ◌∙◌, subst}
+use Rattle.std.proofs.Common.{◌≡◌, ◌≢◌, ℕ, ◌≤◌, ◌<◌, Bool, true, false, ltb, List, [], ◌∷◌, length, Result, Ok, Err, IfOk, refl, sym, ◌∙◌, ap, subst}
 use Rattle.std.proofs.lemmas.List.{take_all}
 use Rattle.std.proofs.lemmas.Bool.Decides.{nat_tests}
 use Rattle.std.proofs.Common.{arith}
@@ -48,6 +48,10 @@ module _ (w v : Accounts) (a : Answer) (changes : List Entry) (new : Map) (befor
   pub stands_applied : StandsFor (applied changes (at before)) v
   stands_applied = subst (λ m. StandsFor m v) (leads_to (at before) new changes h) stands
 
+-- changes that lead to a map lead to what they make
+pub leads_applied : (old new : Map) (changes : List Entry) → Leads old new changes → Leads old (applied changes old) changes
+leads_applied old new changes h = subst (λ m. Leads old m changes) (leads_to old new changes h) h
+
 -- no change leaves the map
 pub stands_unchanged : (v : Accounts) (old new : Map) (changes : List Entry) → changes ≡ [] → Leads old new changes → StandsFor new v → StandsFor old v
 stands_unchanged v old new changes none h stands = subst (λ es. StandsFor (applied es old) v) none (subst (λ m. StandsFor m v) (leads_to old new changes h) stands)
@@ -55,7 +59,7 @@ stands_unchanged v old new changes none h stands = subst (λ es. StandsFor (appl
 -- what is ready may be allowed by more
 pub ready_as : {P Q : Answer → Accounts → Type 0} (p : Prepared) (store : Store) → ((a : Answer) (v : Accounts) → P a v → Q a v) → IsReady p store P → IsReady p store Q
 ready_as (Reply text) store f h = (h.0, h.1, f h.0 h.1 h.2, h.3, h.4)
-ready_as (Commit commit text) store f h = (h.0, h.1, h.2, f h.0 h.1 h.3, h.4, h.5, h.6)
+ready_as (Commit commit text) store f h = (h.0, h.1, h.2, f h.0 h.1 h.3, h.4, h.5, h.6, h.7, h.8)
 
 pub ready_ok : {E : Type 0} {P Q : Answer → Accounts → Type 0} (r : Result Prepared E) (store : Store) → ((a : Answer) (v : Accounts) → P a v → Q a v) → IfOk r (λ p. IsReady p store P) → IfOk r (λ p. IsReady p store Q)
 ready_ok (Ok p) store f h = ready_as p store f h

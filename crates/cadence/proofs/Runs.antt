@@ -10,7 +10,8 @@ use Rattle.cad_store.specs.Stores.{held, IsOn}
 use Rattle.cadence.specs.Lines.{commands_among, is_command, commands, lines}
 use Rattle.cadence.specs.Held.{Holds}
 use Rattle.cadence.specs.Served.{Served, Begun, Finished}
-use Rattle.cadence.specs.Crashes.{Survives}
+use Rattle.cadence.specs.Writing.{Wrote}
+use Rattle.cadence.specs.Crashes.{DiskStands, Survives}
 use Rattle.cadence.specs.Progress.{Said, Halts, Halted, Going, Goes, Stops}
 use Rattle.cadence.specs.declared.line.Line.{Line}
 use Rattle.cadence.specs.declared.status.Status.{Status}
@@ -111,7 +112,7 @@ ends_done a r s w input left base o p g empty bound says =
     let same = all_commands input g.taken g.whole g.pending g.input_is g.lines_are ∙ among g.whole (g.pending ∷ []) in
     let all = said_then w (commands_among g.whole) (commands_among (g.pending ∷ [])) base o p r s g.said (says g.pending g.holds g.said.accounts g.said.stands) in
     record {
-      leaves = (all.accounts, empty, bound, subst (λ cs. Served w cs (output base) (output p) all.accounts) (sym same) all.served, on_stands p s all.accounts all.on all.stands);
+      leaves = (all.accounts, empty, bound, subst (λ cs. Served w cs (output base) (output p) all.accounts) (sym same) all.served, on_stands p s all.accounts all.on all.stands, subst (λ cs. Wrote w cs base p all.accounts) (sym same) all.wrote);
       survives = subst (λ cs. Survives w cs base p) (sym same) all.survives;
     }
 
@@ -139,7 +140,7 @@ going_survives a r w input left base o g = survives_front w input g.taken left b
 -- the input failed
 pub ends_read : (a : Line) (r : Store) (w : Accounts) (input left : List ℕ) (base o : List Event) → Going a r w input base left o → Ends ReadFault w input left base o
 ends_read a r w input left base o g = record {
-  leaves = (g.said.accounts, g.taken, g.input_is, record { whole = g.whole; unfinished = g.pending; lines_are = g.lines_are; served = g.said.served }, on_stands o r g.said.accounts g.said.on g.said.stands);
+  leaves = (g.said.accounts, g.taken, g.input_is, record { whole = g.whole; unfinished = g.pending; lines_are = g.lines_are; served = g.said.served; wrote = g.said.wrote }, on_stands o r g.said.accounts g.said.on g.said.stands);
   survives = going_survives a r w input left base o g;
 }
 
@@ -188,26 +189,27 @@ bound_ends line store w input left left2 buffer base o n g long is small some he
     get_or buffer 0 0,
     omega (arith, long, ap length g.input_is, length-append g.taken left),
     g.input_is ∙ ap (λ l. g.taken ++ l) (is ∙ ap (λ l. l ++ left2) (one_byte n buffer small some held)),
-    record { whole = g.whole; unfinished = g.pending; lines_are = g.lines_are; served = g.said.served },
+    record { whole = g.whole; unfinished = g.pending; lines_are = g.lines_are; served = g.said.served; wrote = g.said.wrote },
     on_stands o store g.said.accounts g.said.on g.said.stands,
   );
   survives = going_survives line store w input left base o g;
 }
 
-finished_begun : (w v : Accounts) (input taken rest base o : List ℕ) → input ≡ taken ++ rest → Finished w taken base o v → Begun w (commands input) base o
+finished_begun : (w v : Accounts) (input taken rest : List ℕ) (base o : List Event) → input ≡ taken ++ rest → Finished w taken base o v → Begun w (commands input) (output base) (output o)
 finished_begun w v input taken rest base o is f =
-    subst (λ cs. Begun w cs base o) (sym (commands_of input taken rest f.whole f.unfinished is f.lines_are)) (begun_more w (commands_among f.whole) (commands_among (onto f.unfinished rest)) base o (begun_all w v (commands_among f.whole) base o f.served))
+    subst (λ cs. Begun w cs (output base) (output o)) (sym (commands_of input taken rest f.whole f.unfinished is f.lines_are))
+    (begun_more w (commands_among f.whole) (commands_among (onto f.unfinished rest)) (output base) (output o) (begun_all w v (commands_among f.whole) (output base) (output o) f.served))
 
 -- under every status the run has begun
 pub ends_begin : (s : Status) (w : Accounts) (input left : List ℕ) (base o : List Event) → Leaves s w input left base o → Begun w (commands input) (output base) (output o)
 ends_begin Done w input left base o e = begun_all w e.0 (commands input) (output base) (output o) e.3
 ends_begin Usage w input left base o e = absurd e
-ends_begin ReadFault w input left base o e = finished_begun w e.0 input e.1 left (output base) (output o) e.2 e.3
+ends_begin ReadFault w input left base o e = finished_begun w e.0 input e.1 left base o e.2 e.3
 ends_begin WriteFault w input left base o e = begun_broken w e.0 (commands input) (output base) (output o) e.1
 ends_begin DiskFault w input left base o e = begun_some w e.0 (commands input) (output base) (output o) e.1
 ends_begin Memory w input left base o e = begun_some w e.0 (commands input) (output base) (output o) e.1
 ends_begin BadStore w input left base o e = absurd e
-ends_begin InputBound w input left base o e = finished_begun w e.0 input e.1 (e.2 ∷ left) (output base) (output o) e.4 e.5
+ends_begin InputBound w input left base o e = finished_begun w e.0 input e.1 (e.2 ∷ left) base o e.4 e.5
 
 -- the cause of a stop is that of the status
 pub stop_cause : (s : Status) (i j o p d e : ℕ) → StopCause s o p d e → HasCause s i j o p d e

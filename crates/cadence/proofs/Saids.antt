@@ -8,17 +8,20 @@ use Rattle.cad_host.proofs.Ran.{ran_as, ran_on, ran_none, ran_one, ran_end}
 use Rattle.cad_tape.specs.Reading.{IsQuiet}
 use Rattle.cad_accounts.specs.Registers.{Map}
 use Rattle.cad_accounts.specs.Accounts.{Accounts, StandsFor}
+use Rattle.cad_accounts.proofs.States.{one_state_lem}
 use Rattle.cad_store.specs.declared.store.Store.{Store}
 use Rattle.cad_store.specs.declared.place.Place.{Place}
 use Rattle.cad_store.specs.declared.place.Place.TheVariants.{Behind, Onto}
 use Rattle.cad_store.specs.Stores.{DiskHolds, held, IsAt, IsOn, Keeps}
 use Rattle.cadence.specs.Answer.{Answer, Answers, answer_line}
-use Rattle.cadence.specs.Served.{Served, Broken}
+use Rattle.cadence.specs.Served.{AnswersAll, Served, ServedSome, Broken}
+use Rattle.cadence.specs.Writing.{Written, nothing, Wrote, WroteSome, WroteBroken, WroteStopped}
 use Rattle.cadence.specs.Crashes.{DiskStands, HasPrefix, IsPrefix, Survives, line_feeds, acknowledged}
 use Rattle.cadence.specs.Progress.{Said, Halts, Halted}
 use Rattle.cadence.specs.declared.status.Status.{Status}
 use Rattle.cadence.specs.declared.status.Status.TheVariants.{Done, Usage, ReadFault, WriteFault, DiskFault, Memory, BadStore, InputBound}
-use Rattle.cadence.proofs.Batches.{served_none, served_then, some_then, some_more, broken_then, broken_more}
+use Rattle.cadence.proofs.Batches.{served_none, served_then, some_then, some_more, broken_then, broken_more, some_of}
+use Rattle.cadence.proofs.Writings.{wrote_then, some_none, wrote_some_then, wrote_some_more, wrote_broken_then, wrote_broken_more, wrote_stopped_then, wrote_stopped_more}
 use Rattle.cadence.proofs.Feeds.{feeds_append, feeds_front}
 use Rattle.cadence.proofs.Lines_of.{one_feed}
 use Rattle.cadence.proofs.Prefixes.{quiet_stands, prefix_none, survives_more, survives_then}
@@ -45,6 +48,7 @@ pub said_none : (w : Accounts) (m : List Event) (store : Store) → StandsFor (h
 said_none w m store stands on = record {
   accounts = w;
   served = served_none w (output m);
+  wrote = (refl, refl);
   stands = stands;
   on = on;
   survives = survives_none w [] m (on_stands m store w on stands);
@@ -55,25 +59,26 @@ pub said_then : (w : Accounts) (xs ys : List (List ℕ)) (old mid new : List Eve
 said_then w xs ys old mid new s t h k = record {
   accounts = k.accounts;
   served = served_then w h.accounts k.accounts xs ys (output old) (output mid) (output new) h.served k.served;
+  wrote = wrote_then w h.accounts k.accounts xs ys old mid new h.wrote k.wrote;
   stands = k.stands;
   on = k.on;
   survives = survives_then w h.accounts xs ys old mid new h.served h.survives h.quiet k.survives;
   quiet = λ quiet. k.quiet (h.quiet quiet);
 }
 
-halts_then : (status : Status) (w u : Accounts) (xs ys : List (List ℕ)) (old mid new : List Event) → Served w xs (output old) (output mid) u → Halts status u ys mid new → Halts status w (xs ++ ys) old new
-halts_then Done w u xs ys old mid new s h = absurd h
-halts_then Usage w u xs ys old mid new s h = absurd h
-halts_then ReadFault w u xs ys old mid new s h = absurd h
-halts_then WriteFault w u xs ys old mid new s h = (h.0, broken_then w u h.0 xs ys (output old) (output mid) (output new) s h.1, h.2)
-halts_then DiskFault w u xs ys old mid new s h = (h.0, some_then w u h.0 xs ys (output old) (output mid) (output new) s h.1)
-halts_then Memory w u xs ys old mid new s h = (h.0, some_then w u h.0 xs ys (output old) (output mid) (output new) s h.1, h.2)
-halts_then BadStore w u xs ys old mid new s h = absurd h
-halts_then InputBound w u xs ys old mid new s h = absurd h
+halts_then : (status : Status) (w u : Accounts) (xs ys : List (List ℕ)) (old mid new : List Event) → Served w xs (output old) (output mid) u → Wrote w xs old mid u → (IsQuiet old → IsQuiet mid) → Halts status u ys mid new → Halts status w (xs ++ ys) old new
+halts_then Done w u xs ys old mid new s r n h = absurd h
+halts_then Usage w u xs ys old mid new s r n h = absurd h
+halts_then ReadFault w u xs ys old mid new s r n h = absurd h
+halts_then WriteFault w u xs ys old mid new s r n h = (h.0, broken_then w u h.0 xs ys (output old) (output mid) (output new) s h.1, h.2, wrote_broken_then w u h.0 xs ys old mid new r h.3)
+halts_then DiskFault w u xs ys old mid new s r n h = (h.0, some_then w u h.0 xs ys (output old) (output mid) (output new) s h.1, wrote_stopped_then w u h.0 xs ys old mid new n r h.2)
+halts_then Memory w u xs ys old mid new s r n h = (h.0, some_then w u h.0 xs ys (output old) (output mid) (output new) s h.1, h.2, wrote_some_then w u h.0 xs ys old mid new r h.3)
+halts_then BadStore w u xs ys old mid new s r n h = absurd h
+halts_then InputBound w u xs ys old mid new s r n h = absurd h
 
 pub halted_then : (status : Status) (w : Accounts) (xs ys : List (List ℕ)) (old mid new : List Event) (s : Store) (h : Said w xs old mid s) → Halted status h.accounts ys mid new → Halted status w (xs ++ ys) old new
 halted_then status w xs ys old mid new s h k = record {
-  halts = halts_then status w h.accounts xs ys old mid new h.served k.halts;
+  halts = halts_then status w h.accounts xs ys old mid new h.served h.wrote h.quiet k.halts;
   survives = survives_then w h.accounts xs ys old mid new h.served h.survives h.quiet k.survives;
 }
 
@@ -81,9 +86,9 @@ halts_more : (status : Status) (w : Accounts) (xs ys : List (List ℕ)) (old new
 halts_more Done w xs ys old new h = absurd h
 halts_more Usage w xs ys old new h = absurd h
 halts_more ReadFault w xs ys old new h = absurd h
-halts_more WriteFault w xs ys old new h = (h.0, broken_more w h.0 xs ys (output old) (output new) h.1, h.2)
-halts_more DiskFault w xs ys old new h = (h.0, some_more w h.0 xs ys (output old) (output new) h.1)
-halts_more Memory w xs ys old new h = (h.0, some_more w h.0 xs ys (output old) (output new) h.1, h.2)
+halts_more WriteFault w xs ys old new h = (h.0, broken_more w h.0 xs ys (output old) (output new) h.1, h.2, wrote_broken_more w h.0 xs ys old new h.3)
+halts_more DiskFault w xs ys old new h = (h.0, some_more w h.0 xs ys (output old) (output new) h.1, wrote_stopped_more w h.0 xs ys old new h.2)
+halts_more Memory w xs ys old new h = (h.0, some_more w h.0 xs ys (output old) (output new) h.1, h.2, wrote_some_more w h.0 xs ys old new h.3)
 halts_more BadStore w xs ys old new h = absurd h
 halts_more InputBound w xs ys old new h = absurd h
 
@@ -94,7 +99,7 @@ halted_more status w xs ys old new h = record { halts = halts_more status w xs y
 -- want of memory between commands
 pub memory_here : (w : Accounts) (cs : List (List ℕ)) (m : List Event) (store : Store) → IsOn m store → StandsFor (held store) w → Halted Memory w cs m m
 memory_here w cs m store on stands = record {
-  halts = (w, record { count = 0; within = omega arith; served = served_none w (output m) }, on_stands m store w on stands);
+  halts = (w, record { count = 0; within = omega arith; served = served_none w (output m) }, on_stands m store w on stands, some_none w cs m);
   survives = survives_none w cs m (on_stands m store w on stands);
 }
 
@@ -131,7 +136,8 @@ module _ (w v : Accounts) (c : List ℕ) (a : Answer) (answers : Answers w c a v
   one_broken p bytes is = record { count = 0; within = omega arith; answers = []; next = a; bytes = bytes; are = (v, answers, refl); output = is }
 
   -- up to here the command took effect, and its reply isn't put
-  module _ (mid : List Event) (same : output mid ≡ output old) (ran : IsQuiet old → Ran old mid (IsPrefix w (c ∷ []) old)) (stays : IsQuiet old → IsQuiet mid) (stands : DiskStands (reads mid) v) where
+  module _ (mid : List Event) (same : output mid ≡ output old) (ran : IsQuiet old → Ran old mid (IsPrefix w (c ∷ []) old)) (stays : IsQuiet old → IsQuiet mid) (stands : DiskStands (reads mid) v)
+      (written : Written w v old mid) where
     images : IsQuiet old → (disk : Tape → List ℕ) → IsDisk mid disk → DiskStands disk v
     images quiet disk image = quiet_stands mid disk v (stays quiet) image stands
 
@@ -149,19 +155,36 @@ module _ (w v : Accounts) (c : List ℕ) (a : Answer) (answers : Answers w c a v
     put_said text new store is made holds on = record {
       accounts = v;
       served = one_served (output new) (ap output made ∙ ap (λ o. o ++ text) same ∙ ap (λ t. output old ++ t) is);
+      wrote = (a, v, mid, answers, written, (refl, made ∙ ap (λ t. put t ∷ mid) is));
       stands = holds;
       on = subst (λ m. IsOn m store) (sym made) (on_put text mid store on);
       survives = put_survives text new is made;
       quiet = λ quiet. subst IsQuiet (sym made) (quiet_put text mid (stays quiet));
     }
 
+    wrote_broken : (text : List ℕ) (new : List Event) → text ≡ answer_line a → BreaksPut text mid new → WroteBroken w (c ∷ []) old new v
+    wrote_broken text new is broken = record {
+      first = [];
+      next = c;
+      rest = [];
+      are = refl;
+      accounts = w;
+      told = old;
+      wrote = (refl, refl);
+      answer = a;
+      answers = answers;
+      behind = mid;
+      written = written;
+      broke = subst (λ t. BreaksPut t mid new) is broken;
+    }
+
     pub put_broke : (text : List ℕ) (new : List Event) → text ≡ answer_line a → BreaksPut text mid new → Halted WriteFault w (c ∷ []) old new
     put_broke text new is (inl made) = record {
-      halts = (v, one_broken (output new) 0 (ap output made ∙ same ∙ sym (append-nil (output old))), subst (λ m. DiskStands (reads m) v) (sym made) stands);
+      halts = (v, one_broken (output new) 0 (ap output made ∙ same ∙ sym (append-nil (output old))), subst (λ m. DiskStands (reads m) v) (sym made) stands, wrote_broken text new is (inl made));
       survives = λ quiet. subst (λ m. Ran old m (IsPrefix w (c ∷ []) old)) (sym made) (ran quiet);
     }
     put_broke text new is (inr broke) = record {
-      halts = (v, one_broken (output new) broke.0 (ap output broke.2 ∙ ap (λ o. o ++ take broke.0 text) same ∙ ap (λ t. output old ++ take broke.0 t) is), subst (λ m. DiskStands (reads m) v) (sym broke.2) stands);
+      halts = (v, one_broken (output new) broke.0 (ap output broke.2 ∙ ap (λ o. o ++ take broke.0 text) same ∙ ap (λ t. output old ++ take broke.0 t) is), subst (λ m. DiskStands (reads m) v) (sym broke.2) stands, wrote_broken text new is (inr broke));
       survives = part_survives text broke.0 new is broke.2;
     }
 
@@ -177,27 +200,40 @@ module _ (w v : Accounts) (c : List ℕ) (a : Answer) (answers : Answers w c a v
       by disk (inl h) = inl (record { map = before; holds = h; stands = is_w })
       by disk (inr h) = inr (record { map = behind; holds = h; stands = is_v })
 
+  commit_stopped : (before behind : Map) (new : List Event) → output new ≡ output old → (IsQuiet old → Ran old new (Keeps old before behind)) → WroteStopped w (c ∷ []) old new w
+  commit_stopped before behind new same ran = record {
+    first = [];
+    rest = c ∷ [];
+    are = refl;
+    told = old;
+    wrote = (refl, refl);
+    same = same;
+    behind = λ quiet. ran_as (Keeps old before behind) (λ m. output m ≡ output old) old new (λ m k. k.output) (ran quiet);
+  }
+
   pub commit_broke : (before behind : Map) (new : List Event) → output new ≡ output old → StandsFor before w → StandsFor behind v → (IsQuiet old → Ran old new (Keeps old before behind)) → Halted DiskFault w (c ∷ []) old new
   commit_broke before behind new same is_w is_v ran = record {
-    halts = (w, record { count = 0; within = omega arith; served = record { answers = []; are = refl; output = same ∙ sym (append-nil (output old)) } });
+    halts = (w, record { count = 0; within = omega arith; served = record { answers = []; are = refl; output = same ∙ sym (append-nil (output old)) } }, commit_stopped before behind new same ran);
     survives = λ quiet. commit_ran before behind new is_w is_v (ran quiet);
   }
 
   -- a command that writes nothing
   pub stays_said : (text : List ℕ) (new : List Event) (store : Store) → text ≡ answer_line a → new ≡ put text ∷ old → StandsFor (held store) w → StandsFor (held store) v → IsOn old store → Said w (c ∷ []) old new store
-  stays_said text new store is made is_w is_v on = put_said old refl (stays_ran (on_stands old store w on is_w)) (λ quiet. quiet) (on_stands old store v on is_v) text new store is made is_v on
+  stays_said text new store is made is_w is_v on = put_said old refl (stays_ran (on_stands old store w on is_w)) (λ quiet. quiet) (on_stands old store v on is_v)
+      (nothing (one_state_lem (held store) v w is_v is_w) refl) text new store is made is_v on
 
   pub stays_broke : (text : List ℕ) (new : List Event) (store : Store) → text ≡ answer_line a → BreaksPut text old new → StandsFor (held store) w → StandsFor (held store) v → IsOn old store → Halted WriteFault w (c ∷ []) old new
-  stays_broke text new store is made is_w is_v on = put_broke old refl (stays_ran (on_stands old store w on is_w)) (λ quiet. quiet) (on_stands old store v on is_v) text new is made
+  stays_broke text new store is made is_w is_v on = put_broke old refl (stays_ran (on_stands old store w on is_w)) (λ quiet. quiet) (on_stands old store v on is_v)
+      (nothing (one_state_lem (held store) v w is_v is_w) refl) text new is made
 
   -- a command whose commit was written
   pub commit_said : (before : Map) (mid new : List Event) (text : List ℕ) (store : Store) → output mid ≡ output old → StandsFor before w → StandsFor (held store) v → (IsQuiet old → Ran old mid (Keeps old before (held store)))
-      → (IsQuiet old → IsQuiet mid) → IsOn mid store → text ≡ answer_line a → new ≡ put text ∷ mid → Said w (c ∷ []) old new store
-  commit_said before mid new text store same is_w is_v ran stays on is made = put_said mid same (λ quiet. commit_ran before (held store) mid is_w is_v (ran quiet)) stays (on_stands mid store v on is_v) text new store is made is_v on
+      → (IsQuiet old → IsQuiet mid) → IsOn mid store → Written w v old mid → text ≡ answer_line a → new ≡ put text ∷ mid → Said w (c ∷ []) old new store
+  commit_said before mid new text store same is_w is_v ran stays on written is made = put_said mid same (λ quiet. commit_ran before (held store) mid is_w is_v (ran quiet)) stays (on_stands mid store v on is_v) written text new store is made is_v on
 
   pub commit_told : (before : Map) (mid new : List Event) (text : List ℕ) (store : Store) → output mid ≡ output old → StandsFor before w → StandsFor (held store) v → (IsQuiet old → Ran old mid (Keeps old before (held store)))
-      → (IsQuiet old → IsQuiet mid) → IsOn mid store → text ≡ answer_line a → BreaksPut text mid new → Halted WriteFault w (c ∷ []) old new
-  commit_told before mid new text store same is_w is_v ran stays on is made = put_broke mid same (λ quiet. commit_ran before (held store) mid is_w is_v (ran quiet)) stays (on_stands mid store v on is_v) text new is made
+      → (IsQuiet old → IsQuiet mid) → IsOn mid store → Written w v old mid → text ≡ answer_line a → BreaksPut text mid new → Halted WriteFault w (c ∷ []) old new
+  commit_told before mid new text store same is_w is_v ran stays on written is made = put_broke mid same (λ quiet. commit_ran before (held store) mid is_w is_v (ran quiet)) stays (on_stands mid store v on is_v) written text new is made
 
 -- the store is still on its tapes
 pub on_told : {T E Tells : Type 0} (r : Result T E) (text : List ℕ) (store : Store) (mid new : List Event) → (Tells → Puts text r mid new) → (Tells → IsOn mid store) → OnOk r (Tells → IsOn new store)

@@ -1,14 +1,16 @@
 -- A command is answered, or answering stops.
-use Rattle.std.proofs.Common.{◌≡◌, ℕ, List, [], ◌∷◌, Bool, true, false, cond, not, Result, Ok, Err, OnOk, IfErr, sym, ◌∙◌, ap, subst}
+use Rattle.std.proofs.Common.{◌≡◌, ◌≢◌, ℕ, List, [], ◌∷◌, Bool, true, false, cond, not, Result, Ok, Err, OnOk, IfErr, refl, sym, ◌∙◌, ap, subst}
 use Rattle.cad_host.specs.Disk.{Event, put, output, Puts, Ran, BreaksPut}
 use Rattle.cad_tape.specs.Reading.{IsQuiet}
 use Rattle.cad_wire.specs.declared.entry.Entry.{Entry}
-use Rattle.cad_accounts.specs.Registers.{Map, applied}
+use Rattle.cad_wire.specs.Body.{body_bytes}
+use Rattle.cad_accounts.specs.Registers.{Map, applied, Leads}
 use Rattle.cad_accounts.specs.Accounts.{Accounts, StandsFor}
 use Rattle.cad_accounts.specs.Worlds.{AreSound}
 use Rattle.cad_store.specs.declared.store.Store.{Store}
-use Rattle.cad_store.specs.Stores.{held, IsOn, Keeps}
+use Rattle.cad_store.specs.Stores.{held, IsOn, Keeps, recorded}
 use Rattle.cadence.specs.Answer.{Answer, Answers, answer_line}
+use Rattle.cadence.specs.Writing.{Written, one_record}
 use Rattle.cadence.specs.Progress.{Said, Halted}
 use Rattle.cadence.specs.declared.status.Status.{Status}
 use Rattle.cadence.specs.declared.status.Status.TheVariants.{WriteFault}
@@ -36,18 +38,22 @@ sound_as m n v h stands = (v, subst (λ x. StandsFor x v) (sym (same_map m n h))
 module _ (w v : Accounts) (c : List ℕ) (a : Answer) (answers : Answers w c a v) (old mid : List Event) (before : Map) (changes : List Entry) (store : Store)
     (same : output mid ≡ output old) (is_w : StandsFor before w) (is_v : StandsFor (applied changes before) v)
     (holds : (key : List ℕ) → held store key ≡ applied changes before key)
-    (moments : IsQuiet old → Ran old mid (Keeps old before (applied changes before))) (stays : IsQuiet old → IsQuiet mid) (on : IsOn mid store) where
+    (moments : IsQuiet old → Ran old mid (Keeps old before (applied changes before))) (stays : IsQuiet old → IsQuiet mid) (on : IsOn mid store)
+    (leads : Leads before (applied changes before) changes) (some : changes ≢ []) (order : mid ≡ recorded (body_bytes changes) old) where
   stands : StandsFor (held store) v
   stands = subst (λ m. StandsFor m v) (sym (same_map (held store) (applied changes before) holds)) is_v
 
   ran : IsQuiet old → Ran old mid (Keeps old before (held store))
   ran quiet = subst (λ m. Ran old mid (Keeps old before m)) (sym (same_map (held store) (applied changes before) holds)) (moments quiet)
 
+  written : Written w v old mid
+  written = one_record is_w is_v leads some order
+
   pub wrote_said : (text : List ℕ) (new : List Event) → text ≡ answer_line a → new ≡ put text ∷ mid → Said w (c ∷ []) old new store
-  wrote_said text new is made = commit_said w v c a answers old before mid new text store same is_w stands ran stays on is made
+  wrote_said text new is made = commit_said w v c a answers old before mid new text store same is_w stands ran stays on written is made
 
   pub wrote_broke : (text : List ℕ) (new : List Event) → text ≡ answer_line a → BreaksPut text mid new → Halted WriteFault w (c ∷ []) old new
-  wrote_broke text new is broke = commit_told w v c a answers old before mid new text store same is_w stands ran stays on is broke
+  wrote_broke text new is broke = commit_told w v c a answers old before mid new text store same is_w stands ran stays on written is broke
 
 pub on_ok : {T E : Type 0} (r : Result T E) (X : Type 0) → X → OnOk r X
 on_ok (Ok t) X x = x

@@ -5,6 +5,7 @@ use Rattle.cad_host.specs.Faults.{Rose}
 use Rattle.cad_accounts.specs.Accounts.{Accounts}
 use Rattle.cadence.specs.Lines.{commands}
 use Rattle.cadence.specs.Served.{Served, ServedSome, Broken, Finished}
+use Rattle.cadence.specs.Writing.{Wrote, WroteSome, WroteBroken, WroteStopped}
 use Rattle.cadence.specs.Crashes.{DiskStands, Survives}
 use Rattle.cad_store.specs.declared.stops.OpenStop.{OpenStop}
 use Rattle.cad_store.specs.declared.stops.OpenStop.TheVariants as stop
@@ -18,17 +19,18 @@ input_bound = 2 ^ 40
 -- Of the input these bytes are left, and the output grew; but for a disk fault the tapes stand for the accounts after the
 -- commands that were replied to.
 abbrev pub Leaves : Status → Accounts → (input left : List ℕ) → (old new : List Event) → Type 0
-Leaves Done w input left old new = (v : Accounts) × (left ≡ []) × (length input ≤ input_bound) × Served w (commands input) (output old) (output new) v × DiskStands (reads new) v
+Leaves Done w input left old new =
+    (v : Accounts) × (left ≡ []) × (length input ≤ input_bound) × Served w (commands input) (output old) (output new) v × DiskStands (reads new) v × Wrote w (commands input) old new v
 Leaves Usage w input left old new = ⊥
 Leaves ReadFault w input left old new =
-    (v : Accounts) × (taken : List ℕ) × (input ≡ taken ++ left) × Finished w taken (output old) (output new) v × DiskStands (reads new) v
-Leaves WriteFault w input left old new = (v : Accounts) × Broken w (commands input) (output old) (output new) v × DiskStands (reads new) v
-Leaves DiskFault w input left old new = (v : Accounts) × ServedSome w (commands input) (output old) (output new) v
-Leaves Memory w input left old new = (v : Accounts) × ServedSome w (commands input) (output old) (output new) v × DiskStands (reads new) v
+    (v : Accounts) × (taken : List ℕ) × (input ≡ taken ++ left) × Finished w taken old new v × DiskStands (reads new) v
+Leaves WriteFault w input left old new = (v : Accounts) × Broken w (commands input) (output old) (output new) v × DiskStands (reads new) v × WroteBroken w (commands input) old new v
+Leaves DiskFault w input left old new = (v : Accounts) × ServedSome w (commands input) (output old) (output new) v × WroteStopped w (commands input) old new v
+Leaves Memory w input left old new = (v : Accounts) × ServedSome w (commands input) (output old) (output new) v × DiskStands (reads new) v × WroteSome w (commands input) old new v
 Leaves BadStore w input left old new = ⊥
 Leaves InputBound w input left old new =
     (v : Accounts) × (taken : List ℕ) × (byte : ℕ) × (length taken ≡ input_bound) × (input ≡ taken ++ byte ∷ left)
-    × Finished w taken (output old) (output new) v × DiskStands (reads new) v
+    × Finished w taken old new v × DiskStands (reads new) v
 
 pub record Ends (status : Status) (w : Accounts) (input left : List ℕ) (old new : List Event) : Type 0 where
   pub leaves : Leaves status w input left old new

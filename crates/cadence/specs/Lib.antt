@@ -3,6 +3,7 @@ pub mod Words
 pub mod Held
 pub mod Answer
 pub mod Served
+pub mod Writing
 pub mod Crashes
 pub mod Views
 pub mod Outcomes

@@ -1,5 +1,5 @@
 -- What the program's values say of a request.
-use Rattle.std.specs.Prelude.{◌≡◌, ◌≢◌, ℕ, List, Option, Some, None}
+use Rattle.std.specs.Prelude.{◌≡◌, ◌≢◌, ℕ, List, [], Option, Some, None}
 use Rattle.cad_syntax.specs.declared.num.Num.{Num}
 use Rattle.cad_num.specs.Numbers.{value_of}
 use Rattle.cad_values.specs.declared.value.Value.TheVariants.{Number}
@@ -48,3 +48,4 @@ abbrev pub IsReady : Prepared → Store → (Answer → Accounts → Type 0) →
 IsReady (prepared.Reply text) store Allowed = (a : Answer) × (v : Accounts) × Allowed a v × (text ≡ answer_line a) × StandsFor (held store) v
 IsReady (prepared.Commit commit text) store Allowed =
     (a : Answer) × (v : Accounts) × (changes : List Entry) × Allowed a v × (text ≡ answer_line a) × IsOut store commit changes × StandsFor (applied changes (held store)) v
+    × Leads (held store) (applied changes (held store)) changes × (changes ≢ [])

@@ -8,6 +8,7 @@ use Rattle.cad_store.specs.Stores.{held, IsOn}
 use Rattle.cadence.specs.Lines.{lines, commands_among, commands}
 use Rattle.cadence.specs.Held.{Holds}
 use Rattle.cadence.specs.Served.{Served, ServedSome, Broken}
+use Rattle.cadence.specs.Writing.{Wrote, WroteSome, WroteBroken, WroteStopped}
 use Rattle.cadence.specs.Crashes.{DiskStands, Survives}
 use Rattle.cadence.specs.declared.line.Line.{Line}
 use Rattle.cadence.specs.declared.status.Status.{Status}
@@ -17,6 +18,7 @@ use Rattle.cadence.specs.declared.status.Status.TheVariants.{Done, Usage, ReadFa
 pub record Said (w : Accounts) (commands : List (List ℕ)) (old new : List Event) (store : Store) : Type 0 where
   pub accounts : Accounts
   pub served : Served w commands (output old) (output new) accounts
+  pub wrote : Wrote w commands old new accounts
   pub stands : StandsFor (held store) accounts
   pub on : IsOn new store
   pub survives : Survives w commands old new
@@ -27,9 +29,9 @@ abbrev pub Halts : Status → Accounts → List (List ℕ) → List Event → Li
 Halts Done w commands old new = ⊥
 Halts Usage w commands old new = ⊥
 Halts ReadFault w commands old new = ⊥
-Halts WriteFault w commands old new = (v : Accounts) × Broken w commands (output old) (output new) v × DiskStands (reads new) v
-Halts DiskFault w commands old new = (v : Accounts) × ServedSome w commands (output old) (output new) v
-Halts Memory w commands old new = (v : Accounts) × ServedSome w commands (output old) (output new) v × DiskStands (reads new) v
+Halts WriteFault w commands old new = (v : Accounts) × Broken w commands (output old) (output new) v × DiskStands (reads new) v × WroteBroken w commands old new v
+Halts DiskFault w commands old new = (v : Accounts) × ServedSome w commands (output old) (output new) v × WroteStopped w commands old new v
+Halts Memory w commands old new = (v : Accounts) × ServedSome w commands (output old) (output new) v × DiskStands (reads new) v × WroteSome w commands old new v
 Halts BadStore w commands old new = ⊥
 Halts InputBound w commands old new = ⊥
 

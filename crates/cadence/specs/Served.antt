@@ -1,9 +1,11 @@
 -- What a run has read and said, and the accounts that it leaves.
 use Rattle.std.specs.Prelude.{◌≡◌, ℕ, suc, ◌≤◌, List, [], ◌∷◌, ◌++◌, length, take}
 use Rattle.std.specs.List.{flat_map}
+use Rattle.cad_host.specs.Disk.{Event, output}
 use Rattle.cad_accounts.specs.Accounts.{Accounts}
 use Rattle.cadence.specs.Lines.{lines, commands_among}
 use Rattle.cadence.specs.Answer.{Answer, Answers, answer_line}
+use Rattle.cadence.specs.Writing.{Wrote}
 
 -- each command has its answer, over the accounts that those before it left
 abbrev pub AnswersAll : Accounts → List (List ℕ) → List Answer → Accounts → Type 0
@@ -47,8 +49,9 @@ pub record Begun (w : Accounts) (commands : List (List ℕ)) (output_old output_
   pub output : output_new ≡ output_old ++ take bytes (answer_lines answers)
 
 -- Of the bytes that were taken, the commands that a line feed ends have their answers, and an unfinished line has none.
-pub record Finished (w : Accounts) (taken output_old output_new : List ℕ) (v : Accounts) : Type 0 where
+pub record Finished (w : Accounts) (taken : List ℕ) (old new : List Event) (v : Accounts) : Type 0 where
   pub whole : List (List ℕ)
   pub unfinished : List ℕ
   pub lines_are : lines taken ≡ whole ++ unfinished ∷ []
-  pub served : Served w (commands_among whole) output_old output_new v
+  pub served : Served w (commands_among whole) (output old) (output new) v
+  pub wrote : Wrote w (commands_among whole) old new v

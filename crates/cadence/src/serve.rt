@@ -3,7 +3,7 @@ ghost use Rattle.std.specs.Prelude.{◌≡◌, ◌≢◌, ◌≤◌, ◌<◌, �
 ghost use Rattle.cad_host.specs.Disk.{Event, output, reads, Puts};
 ghost use Rattle.cad_host.specs.Faults.{Rose, IsCaused};
 ghost use Rattle.cad_wire.specs.declared.entry.Entry.{Entry};
-ghost use Rattle.cad_accounts.specs.Registers.{applied};
+ghost use Rattle.cad_accounts.specs.Registers.{applied, Leads};
 ghost use Rattle.cad_accounts.specs.Accounts.{Accounts, StandsFor};
 ghost use Rattle.cad_accounts.specs.Worlds.{AreSound};
 ghost use Rattle.cad_store.specs.Stores.{held, room_of, IsOn, IsOut};
@@ -12,6 +12,7 @@ ghost use Rattle.cadence.specs.Held.{Holds};
 ghost use Rattle.cadence.specs.Words.{IsRun};
 ghost use Rattle.cadence.specs.Answer.{Answer, Answers, answer_line, most_bytes};
 ghost use Rattle.cadence.specs.Served.{Served, ServedSome, Broken, Begun, Finished};
+ghost use Rattle.cadence.specs.Writing.{Wrote, WroteSome, WroteBroken, WroteStopped};
 ghost use Rattle.cadence.specs.Crashes.{DiskStands, Survives};
 ghost use Rattle.cadence.specs.Ending.{Ends, HasCause, StopCause, IsCausedBy, HasRun, input_bound, status_of};
 ghost use Rattle.cadence.specs.Progress.{Said, Halted, Going, Goes, Stops};
@@ -56,9 +57,11 @@ fn write_and_tell<H: Host>(
     requires on { H.tells → IsOn (H.trace host.old) store.old }
     ensures said { H.tells → (w v : Accounts) (c : List ℕ) (a : Answer) (changes : List Entry) → StandsFor (held store.old) w → Answers w c a v → text.now ≡ answer_line a
         → IsOut store.old commit changes → StandsFor (applied changes (held store.old)) v
+        → Leads (held store.old) (applied changes (held store.old)) changes → changes ≢ []
         → OnOk result (Said w (c ∷ []) (H.trace host.old) (H.trace host.new) store.new) }
     ensures stops { H.tells → (w v : Accounts) (c : List ℕ) (a : Answer) (changes : List Entry) → StandsFor (held store.old) w → Answers w c a v → text.now ≡ answer_line a
         → IsOut store.old commit changes → StandsFor (applied changes (held store.old)) v
+        → Leads (held store.old) (applied changes (held store.old)) changes → changes ≢ []
         → IfErr result (λ s. Halted s w (c ∷ []) (H.trace host.old) (H.trace host.new)) }
     ensures held { OnOk result ((changes : List Entry) → IsOut store.old commit changes → ((key : List ℕ) → held store.new key ≡ applied changes (held store.old) key)) }
     ensures on { OnOk result (H.tells → IsOn (H.trace host.new) store.new) }
@@ -405,35 +408,39 @@ pub fn serve<H: Host>(alloc: Global, words: &[Text], host: &mut H) -> Status
     ensures opened { H.tells → HasRun result → (w : Accounts) × DiskStands (reads (H.trace host.old)) w }
 
     // Done: the input was read to its end, the output grew by the reply lines of all commands, in order, and the tapes stand
-    // for the accounts that the commands lead to.
+    // for the accounts that the commands lead to. A command that changes no register wrote nothing, and any other wrote one
+    // record, of exactly the registers that differ, before its reply was put; nothing else was written. So it is under each
+    // other status of the commands that were replied to.
     ensures done { H.tells → result ≡ Status.Done → (w : Accounts) → DiskStands (reads (H.trace host.old)) w
         → (v : Accounts) × (H.left host.new ≡ []) × Served w (commands (H.left host.old)) (output (H.trace host.old)) (output (H.trace host.new)) v
-        × DiskStands (reads (H.trace host.new)) v }
+        × DiskStands (reads (H.trace host.new)) v × Wrote w (commands (H.left host.old)) (H.trace host.old) (H.trace host.new) v }
 
     // Under every status the output grew by a prefix of the bytes of these lines.
     ensures begun { H.tells → (w : Accounts) → DiskStands (reads (H.trace host.old)) w
         → Begun w (commands (H.left host.old)) (output (H.trace host.old)) (output (H.trace host.new)) }
 
     // Memory: the tapes stand for the accounts after exactly the commands that were replied to. DiskFault: no command whose
-    // commit failed was replied to. WriteFault: the command whose line broke took effect.
+    // commit failed was replied to, and no command behind it was begun. WriteFault: the command whose line broke took effect,
+    // and what it changes was written before.
     ensures memory { H.tells → result ≡ Status.Memory → (w : Accounts) → DiskStands (reads (H.trace host.old)) w
         → (v : Accounts) × ServedSome w (commands (H.left host.old)) (output (H.trace host.old)) (output (H.trace host.new)) v
-        × DiskStands (reads (H.trace host.new)) v }
+        × DiskStands (reads (H.trace host.new)) v × WroteSome w (commands (H.left host.old)) (H.trace host.old) (H.trace host.new) v }
     ensures disk_fault { H.tells → result ≡ Status.DiskFault → (w : Accounts) → DiskStands (reads (H.trace host.old)) w
-        → (v : Accounts) × ServedSome w (commands (H.left host.old)) (output (H.trace host.old)) (output (H.trace host.new)) v }
+        → (v : Accounts) × ServedSome w (commands (H.left host.old)) (output (H.trace host.old)) (output (H.trace host.new)) v
+        × WroteStopped w (commands (H.left host.old)) (H.trace host.old) (H.trace host.new) v }
     ensures write_fault { H.tells → result ≡ Status.WriteFault → (w : Accounts) → DiskStands (reads (H.trace host.old)) w
         → (v : Accounts) × Broken w (commands (H.left host.old)) (output (H.trace host.old)) (output (H.trace host.new)) v
-        × DiskStands (reads (H.trace host.new)) v }
+        × DiskStands (reads (H.trace host.new)) v × WroteBroken w (commands (H.left host.old)) (H.trace host.old) (H.trace host.new) v }
 
     // ReadFault: each command whose line feed was taken has its reply, and an unfinished line has none and isn't run.
     ensures read_fault { H.tells → result ≡ Status.ReadFault → (w : Accounts) → DiskStands (reads (H.trace host.old)) w
         → (v : Accounts) × (taken : List ℕ) × (H.left host.old ≡ taken ++ H.left host.new)
-        × Finished w taken (output (H.trace host.old)) (output (H.trace host.new)) v × DiskStands (reads (H.trace host.new)) v }
+        × Finished w taken (H.trace host.old) (H.trace host.new) v × DiskStands (reads (H.trace host.new)) v }
 
     // InputBound: so of the first 2^40 bytes, and one more was taken. Under Done there were no more than these.
     ensures bound { H.tells → result ≡ Status.InputBound → (w : Accounts) → DiskStands (reads (H.trace host.old)) w
         → (v : Accounts) × (taken : List ℕ) × (byte : ℕ) × (length taken ≡ 2 ^ 40) × (H.left host.old ≡ taken ++ byte ∷ H.left host.new)
-        × Finished w taken (output (H.trace host.old)) (output (H.trace host.new)) v × DiskStands (reads (H.trace host.new)) v }
+        × Finished w taken (H.trace host.old) (H.trace host.new) v × DiskStands (reads (H.trace host.new)) v }
     ensures within { H.tells → result ≡ Status.Done → length (H.left host.old) ≤ 2 ^ 40 }
 
     // A crash at any moment of the call, where nothing was pending when it began, leaves tapes that stand for the accounts

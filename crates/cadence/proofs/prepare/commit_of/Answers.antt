@@ -1,10 +1,10 @@
-use Rattle.std.proofs.Common.{refl, sym, ◌∙◌, ap, subst, Err}
-use Rattle.cad_accounts.specs.Registers.{applied}
+use Rattle.std.proofs.Common.{◌≡◌, false, true, refl, sym, ◌∙◌, ap, subst, Err}
+use Rattle.cad_accounts.specs.Registers.{applied, Leads}
 use Rattle.cad_accounts.specs.Accounts.{StandsFor}
 use Rattle.cad_store.specs.Stores.{rows_in, held, room_of, IsOn}
 use Rattle.cadence.specs.Answer.{failed}
 use Rattle.cadence.specs.Views.{answer_of}
-use Rattle.cadence.proofs.Readies.{commits_fit, commits_full, stands_applied, stands_unchanged}
+use Rattle.cadence.proofs.Readies.{commits_fit, commits_full, leads_applied, stands_applied, stands_unchanged}
 use Rattle.cadence.proofs.prepare.commit_of.Goals as goal
 
 pub returns-then-unchanged-clause-ready : goal.returns-then-unchanged-clause-ready
@@ -28,6 +28,8 @@ returns-in-Ok-clause-ready c = λ w v new is_w h is_v. (
   c.in_ok-text.ensures,
   c.in-Ok.ensures.commit,
   subst (λ m. StandsFor (applied c.args.changes m) v) (sym c.ready.ensures.held) (stands_applied w v (answer_of c.args.reply) c.args.changes new (rows_in c.args.store.now) c.args.store.now.registers.ascending h is_v (room_of c.args.store.now) c.requires.room),
+  subst (λ m. Leads m (applied c.args.changes m) c.args.changes) (sym c.ready.ensures.held) (leads_applied (held c.args.store.now) new c.args.changes h),
+  λ empty. let h : false ≡ true = c.if-unchanged.ensures.1 empty in cc h,
 )
 
 pub returns-in-Err-Full-clause-ready : goal.returns-in-Err-Full-clause-ready

@@ -43,12 +43,12 @@ write_and_tell-requires-clause-on g c = λ tell. c.prepare.ensures.on (g.H.Host.
 pub returns-in-Commit-clause-said : goal.returns-in-Commit-clause-said
 returns-in-Commit-clause-said g c = λ tell pending h w is_w.
     let r = rw c.in-Commit.is at c.in-Ok.ensures.ready w is_w in
-    c.write_and_tell.ensures.said tell w r.1 pending r.0 r.2 (subst (λ m. StandsFor m w) (sym c.prepare.ensures.held) is_w) (r.3 pending h) r.4 r.5 r.6
+    c.write_and_tell.ensures.said tell w r.1 pending r.0 r.2 (subst (λ m. StandsFor m w) (sym c.prepare.ensures.held) is_w) (r.3 pending h) r.4 r.5 r.6 r.7 r.8
 
 pub returns-in-Commit-clause-stops : goal.returns-in-Commit-clause-stops
 returns-in-Commit-clause-stops g c = λ tell pending h w is_w.
     let r = rw c.in-Commit.is at c.in-Ok.ensures.ready w is_w in
-    c.write_and_tell.ensures.stops tell w r.1 pending r.0 r.2 (subst (λ m. StandsFor m w) (sym c.prepare.ensures.held) is_w) (r.3 pending h) r.4 r.5 r.6
+    c.write_and_tell.ensures.stops tell w r.1 pending r.0 r.2 (subst (λ m. StandsFor m w) (sym c.prepare.ensures.held) is_w) (r.3 pending h) r.4 r.5 r.6 r.7 r.8
 
 pub returns-in-Commit-clause-sound : goal.returns-in-Commit-clause-sound
 returns-in-Commit-clause-sound g c =

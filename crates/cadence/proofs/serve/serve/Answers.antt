@@ -19,7 +19,7 @@ returns-then-not-is_run-clause-done g c = λ tell is w disk. cc is
 pub returns-clause-done : goal.returns-clause-done
 returns-clause-done g c = λ tell is w disk.
     let e = subst (λ s. Leaves s w (g.H.Host.left c.args.host.now) (g.H.Host.left c.open_and_run.new.host) (g.H.Host.trace c.args.host.now) (g.H.Host.trace c.open_and_run.new.host)) is (c.open_and_run.ensures.ends tell w disk).leaves in
-    (e.0, e.1, e.3, e.4)
+    (e.0, e.1, e.3, e.4, e.5)
 
 pub returns-then-not-is_run-clause-memory : goal.returns-then-not-is_run-clause-memory
 returns-then-not-is_run-clause-memory g c = λ tell is w disk. cc is

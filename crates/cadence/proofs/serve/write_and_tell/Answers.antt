@@ -7,21 +7,21 @@ use Rattle.cadence.proofs.Tellings.{told_said, told_stops, wrote_said, wrote_bro
 use Rattle.cadence.proofs.serve.write_and_tell.Goals as goal
 
 pub returns-in-Ok-clause-said : goal.returns-in-Ok-clause-said
-returns-in-Ok-clause-said g c = λ tell w v command a changes is_w answers is out is_v.
+returns-in-Ok-clause-said g c = λ tell w v command a changes is_w answers is out is_v leads some.
     told_said c.tell.result (Said w (command ∷ []) (g.H.Host.trace c.args.host.now) (g.H.Host.trace c.tell.new.host) c.commit.new.self) c.args.text.now (g.H.Host.trace c.commit.new.host) (g.H.Host.trace c.tell.new.host) (c.tell.ensures.puts tell)
     (wrote_said w v command a answers (g.H.Host.trace c.args.host.now) (g.H.Host.trace c.commit.new.host) (held c.args.store.now) changes c.commit.new.self (c.commit.ensures.says tell) is_w is_v (c.in-Ok.ensures.ok changes out)
-    (λ quiet. c.commit.ensures.moments tell quiet changes out) (c.in-Ok.ensures.quiet tell) (c.in-Ok.ensures.on tell) c.args.text.now (g.H.Host.trace c.tell.new.host) is)
+    (λ quiet. c.commit.ensures.moments tell quiet changes out) (c.in-Ok.ensures.quiet tell) (c.in-Ok.ensures.on tell) leads some (c.in-Ok.ensures.order tell changes out) c.args.text.now (g.H.Host.trace c.tell.new.host) is)
 
 pub returns-in-Ok-clause-stops : goal.returns-in-Ok-clause-stops
-returns-in-Ok-clause-stops g c = λ tell w v command a changes is_w answers is out is_v.
+returns-in-Ok-clause-stops g c = λ tell w v command a changes is_w answers is out is_v leads some.
     told_stops c.tell.result _ (λ s. Halted s w (command ∷ []) (g.H.Host.trace c.args.host.now) (g.H.Host.trace c.tell.new.host)) c.args.text.now (g.H.Host.trace c.commit.new.host) (g.H.Host.trace c.tell.new.host) c.tell.ensures.cause (c.tell.ensures.puts tell)
     (wrote_broke w v command a answers (g.H.Host.trace c.args.host.now) (g.H.Host.trace c.commit.new.host) (held c.args.store.now) changes c.commit.new.self (c.commit.ensures.says tell) is_w is_v (c.in-Ok.ensures.ok changes out)
-    (λ quiet. c.commit.ensures.moments tell quiet changes out) (c.in-Ok.ensures.quiet tell) (c.in-Ok.ensures.on tell) c.args.text.now (g.H.Host.trace c.tell.new.host) is)
+    (λ quiet. c.commit.ensures.moments tell quiet changes out) (c.in-Ok.ensures.quiet tell) (c.in-Ok.ensures.on tell) leads some (c.in-Ok.ensures.order tell changes out) c.args.text.now (g.H.Host.trace c.tell.new.host) is)
 
 pub returns-in-Ok-clause-on : goal.returns-in-Ok-clause-on
 returns-in-Ok-clause-on g c = on_told c.tell.result c.args.text.now c.commit.new.self (g.H.Host.trace c.commit.new.host) (g.H.Host.trace c.tell.new.host) c.tell.ensures.puts c.in-Ok.ensures.on
 
 pub returns-in-Err-clause-stops : goal.returns-in-Err-clause-stops
-returns-in-Err-clause-stops g c = λ tell w v command a changes is_w answers is out is_v.
+returns-in-Err-clause-stops g c = λ tell w v command a changes is_w answers is out is_v leads some.
     commit_broke w v command a answers (g.H.Host.trace c.args.host.now) (held c.args.store.now) (applied changes (held c.args.store.now)) (g.H.Host.trace c.commit.new.host) (c.commit.ensures.says tell) is_w is_v
     (λ quiet. c.commit.ensures.moments tell quiet changes out)

@@ -1,0 +1,55 @@
+-- What a run writes, and when its replies are put.
+use Rattle.std.specs.Prelude.{◌≡◌, ◌≢◌, ℕ, List, [], ◌∷◌, ◌++◌}
+use Rattle.cad_host.specs.Disk.{Event, put, output, Ran, BreaksPut}
+use Rattle.cad_wire.specs.declared.entry.Entry.{Entry}
+use Rattle.cad_wire.specs.Body.{body_bytes}
+use Rattle.cad_tape.specs.Reading.{IsQuiet}
+use Rattle.cad_accounts.specs.Registers.{Map, Leads}
+use Rattle.cad_accounts.specs.Accounts.{Accounts, StandsFor}
+use Rattle.cad_store.specs.Stores.{recorded}
+use Rattle.cadence.specs.Answer.{Answer, Answers, answer_line}
+
+-- What a command writes: nothing, where it leaves the accounts as they were; or one record, of exactly the registers that
+-- differ, and some do.
+pub data Written (w v : Accounts) (old new : List Event) : Type 0 where
+  nothing : v ≡ w → new ≡ old → Written w v old new
+  one_record : {before behind : Map} {changes : List Entry} → StandsFor before w → StandsFor behind v → Leads before behind changes → changes ≢ []
+      → new ≡ recorded (body_bytes changes) old → Written w v old new
+
+-- All calls of these commands in turn: what each changes is written, and then the line of its answer is put.
+abbrev pub Wrote : Accounts → List (List ℕ) → List Event → List Event → Accounts → Type 0
+Wrote w [] old new v = (v ≡ w) × (new ≡ old)
+Wrote w (command ∷ commands) old new v =
+    (a : Answer) × (u : Accounts) × (mid : List Event) × Answers w command a u × Written w u old mid × Wrote u commands (put (answer_line a) ∷ mid) new v
+
+-- those of the first of these commands
+pub record WroteSome (w : Accounts) (commands : List (List ℕ)) (old new : List Event) (v : Accounts) : Type 0 where
+  pub first : List (List ℕ)
+  pub rest : List (List ℕ)
+  pub are : commands ≡ first ++ rest
+  pub wrote : Wrote w first old new v
+
+-- those of the first of these commands; then what the next one changes is written, and the line of its answer breaks
+pub record WroteBroken (w : Accounts) (commands : List (List ℕ)) (old new : List Event) (v : Accounts) : Type 0 where
+  pub first : List (List ℕ)
+  pub next : List ℕ
+  pub rest : List (List ℕ)
+  pub are : commands ≡ first ++ next ∷ rest
+  pub accounts : Accounts
+  pub told : List Event
+  pub wrote : Wrote w first old told accounts
+  pub answer : Answer
+  pub answers : Answers accounts next answer v
+  pub behind : List Event
+  pub written : Written accounts v told behind
+  pub broke : BreaksPut (answer_line answer) behind new
+
+-- Those of the first of these commands; then a call of the disk broke, and nothing was put since.
+pub record WroteStopped (w : Accounts) (commands : List (List ℕ)) (old new : List Event) (v : Accounts) : Type 0 where
+  pub first : List (List ℕ)
+  pub rest : List (List ℕ)
+  pub are : commands ≡ first ++ rest
+  pub told : List Event
+  pub wrote : Wrote w first old told v
+  pub same : output new ≡ output told
+  pub behind : IsQuiet old → Ran told new (λ m. output m ≡ output told)
