@@ -15,9 +15,13 @@ struct Paths {
     pick: String,
 }
 
-/// The open files.
+/// The open files. The folder is opened for reading before them, three times: where standard streams were closed when the
+/// program began, these take their numbers, and no tape does, so what is put or told fails in the place of going to a tape.
 #[derive(Drop)]
 struct TapeFiles<F> {
+    _first: F,
+    _second: F,
+    _third: F,
     a: F,
     b: F,
     pick: F,
@@ -39,16 +43,22 @@ fn open_file<R: Files>(rt: &R, path: &str) -> io::Result<R::File> {
         .open(rt, path)
 }
 
+/// Opens a folder for reading.
+fn open_folder<R: Files>(rt: &R, path: &str) -> io::Result<R::File> {
+    OpenOptions::new().read(true).open(rt, path)
+}
+
 /// Opens the three files, and makes those that aren't there. Their names then stay, whatever comes.
 fn open_files<R: Files>(rt: &R, paths: &Paths) -> io::Result<TapeFiles<R::File>> {
-    let files = TapeFiles {
+    let mut files = TapeFiles {
+        _first: open_folder(rt, paths.folder.as_str())?,
+        _second: open_folder(rt, paths.folder.as_str())?,
+        _third: open_folder(rt, paths.folder.as_str())?,
         a: open_file(rt, paths.a.as_str())?,
         b: open_file(rt, paths.b.as_str())?,
         pick: open_file(rt, paths.pick.as_str())?,
     };
-    let mut how = OpenOptions::new();
-    how.read(true);
-    how.open(rt, paths.folder.as_str())?.sync_all()?;
+    files._first.sync_all()?;
     Ok(files)
 }
 

@@ -20,12 +20,19 @@ use serve::serve;
 use status::Status;
 use std::alloc::Global;
 use std::env;
+use std::io::ErrorKind;
 use std::process::ExitCode;
 
 // The words behind the program's name. Usage where they aren't text.
 fn given_words(alloc: Global, rt: &HostRuntime) -> Result<Items<Text>, Status> {
-    let Ok(arguments) = env::args(rt) else {
-        return Err(Status::Usage);
+    let arguments = match env::args(rt) {
+        Ok(arguments) => arguments,
+        Err(error) => {
+            return match error.kind() {
+                ErrorKind::OutOfMemory => Err(Status::Memory),
+                _ => Err(Status::Usage),
+            };
+        }
     };
     let mut words = Items::new(alloc);
     for argument in arguments.skip(1) {
