@@ -245,7 +245,7 @@ def replies_to(commands, accounts):
 def questions(accounts):
     """Commands that change nothing and whose replies tell the accounts: which addresses there are, and each number."""
     asked = [("save", address, "nothing", [[1]], "nothing") for address in (max(accounts.count, 1), accounts.count + 1)]
-    paths = sorted(accounts.stored)
+    paths = sorted(path for path in accounts.stored if path[1].isascii() and path[1].isidentifier())
     for address, name in paths:
         value = accounts.stored[address, name]
         asked.append(("save", address, None, [[1]], name))
