@@ -1,5 +1,5 @@
 -- Where the next record goes.
-use Rattle.std.proofs.Common.{◌≡◌, ◌≢◌, ⊎_elim, ℕ, ◌+◌, ◌-◌, ◌%◌, ◌^◌, ◌≤◌, ◌<◌, ◌==◌, Bool, true, false, cond, Some, List, [], ◌∷◌, ◌++◌, length, take, drop, refl, sym, ◌∙◌, ap, subst, arith, length-append}
+use Rattle.std.proofs.Common.{◌≡◌, ◌≢◌, ⊎_elim, ℕ, ◌+◌, ◌-◌, ◌%◌, ◌^◌, ◌≤◌, ◌<◌, ◌==◌, Bool, true, false, cond, Some, Result, Ok, Err, OnErr, List, [], ◌∷◌, ◌++◌, length, take, drop, refl, sym, ◌∙◌, ap, subst, arith, length-append}
 use Rattle.std.proofs.lemmas.List.{take_all}
 use Rattle.std.proofs.lemmas.Bool.{cases_lt}
 use Rattle.std.proofs.lemmas.Bool.Decides.{nat_tests}
@@ -7,11 +7,11 @@ use Rattle.cad_host.specs.declared.host.Tape.{Tape}
 use Rattle.cad_host.specs.declared.host.Tape.TheVariants.{A, B, Pick}
 use Rattle.cad_host.specs.Disk.{Event, reads, same_tape, Ran}
 use Rattle.cad_tape.specs.Framing.{framing, framed, spelled, Ends}
-use Rattle.cad_tape.specs.Reading.{chosen, reading, stored, or_none, ending, pick_of, four_calls, IsPlaced, Leaves}
+use Rattle.cad_tape.specs.Reading.{chosen, reading, stored, or_none, ending, pick_of, four_calls, BreaksFour, IsPlaced, Leaves}
 use Rattle.cad_tape.proofs.Opened.{free_of_empty, free_of_placed}
 use Rattle.cad_store.specs.declared.place.Place.{Place}
 use Rattle.cad_store.specs.declared.place.Place.TheVariants.{Behind, Onto}
-use Rattle.cad_store.specs.Stores.{IsAt, other, place_behind, recorded}
+use Rattle.cad_store.specs.Stores.{IsAt, other, place_behind, recorded, BreaksRecord, onto_other, behind_records}
 
 pub other_differs : (t : Tape) → t ≢ Pick → same_tape (other t) t ≡ false
 other_differs A e = refl
@@ -93,6 +93,20 @@ order_behind m new tape at bytes body p form is =
     is ∙ (λ i. four_calls (sym p.used i) (place i + 1) (form i) (sym p.used i) (place i) (1 ∷ []) m)
     ∙ sym (ap (λ (b : Bool). cond b (calls_onto body m (other used)) (calls_behind body m used (ending (reads m used)))) (not_zero (length (reads m used)) some))
 
+pub breaks_onto : (m new : List Event) (tape : Tape) (bytes body : List ℕ) → IsAt m (Onto tape) → bytes ≡ 1 ∷ framed body → BreaksFour tape 0 bytes Pick 0 (pick_of tape ∷ []) m new → BreaksRecord body m new
+breaks_onto m new tape bytes body at form broken =
+    let used = chosen (reads m Pick) in
+    let tape_is : tape ≡ other used = is_other tape used (chosen_no_pick (reads m Pick)) at.0.not_used at.0.not_pick in
+    onto_other at.1 (subst (λ (t : Tape). BreaksFour t 0 (1 ∷ framed body) Pick 0 (pick_of t ∷ []) m new) tape_is (subst (λ l. BreaksFour tape 0 l Pick 0 (pick_of tape ∷ []) m new) form broken))
+
+pub breaks_behind : (m new : List Event) (tape : Tape) (at : ℕ) (bytes body : List ℕ) → IsPlaced m tape at → bytes ≡ framed body → BreaksFour tape (at + 1) bytes tape at (1 ∷ []) m new → BreaksRecord body m new
+breaks_behind m new tape at bytes body p form broken =
+    let used = chosen (reads m Pick) in
+    let some : 0 < length (reads m used) = subst (λ (t : Tape). 0 < length (reads m t)) (sym p.used) (some_there m tape at p) in
+    let place : at ≡ ending (reads m used) = p.ends.place in
+    behind_records some (subst (λ (t : Tape). BreaksFour t (ending (reads m used) + 1) (framed body) t (ending (reads m used)) (1 ∷ []) m new) (sym p.used)
+    (subst (λ n. BreaksFour tape (n + 1) (framed body) tape n (1 ∷ []) m new) place (subst (λ l. BreaksFour tape (at + 1) l tape at (1 ∷ []) m new) form broken)))
+
 -- where a store begins
 pub begins_onto : (m : List Event) (tape : Tape) → tape ≡ chosen (reads m Pick) → length (reads m tape) ≡ 0 → IsAt m (Onto (other tape))
 begins_onto m tape used none =
@@ -118,3 +132,8 @@ begins m tape long at used is ends fits = ⊎_elim
     let t : (long == 0) ≡ true = is_zero long (omega (arith, none)) in
     subst (λ (b : Bool). IsAt m (cond b (Onto (other tape)) (Behind tape at))) (sym t) (begins_onto m tape used (omega (arith, is, none))))
     (cases_lt 0 long)
+
+-- told where a call failed
+pub told_err : {T E : Type 0} (r : Result T E) (X : Type 0) → X → OnErr r X
+told_err (Ok t) X x = tt
+told_err (Err e) X x = x

@@ -1,12 +1,12 @@
 -- Registers on three tapes.
-use Rattle.std.specs.Prelude.{◌≡◌, ◌⊎◌, ℕ, ◌+◌, ◌≤◌, ◌==◌, List, [], ◌∷◌, length, Some, if◌then◌else◌}
+use Rattle.std.specs.Prelude.{◌≡◌, ◌⊎◌, ℕ, ◌+◌, ◌<◌, ◌≤◌, ◌==◌, List, [], ◌∷◌, length, Some, if◌then◌else◌}
 use Rattle.cad_host.specs.declared.host.Tape.{Tape}
 use Rattle.cad_host.specs.declared.host.Tape.TheVariants.{A, B, Pick}
 use Rattle.cad_host.specs.Disk.{Event, reads, IsDisk, output}
 use Rattle.cad_wire.specs.declared.entry.Entry.{Entry}
 use Rattle.cad_wire.specs.Body.{body_bytes, IsRecord}
 use Rattle.cad_tape.specs.Framing.{framed}
-use Rattle.cad_tape.specs.Reading.{tape_reading, chosen, pick_of, ending, four_calls, IsPlaced, IsFree}
+use Rattle.cad_tape.specs.Reading.{tape_reading, chosen, pick_of, ending, four_calls, BreaksFour, IsPlaced, IsFree}
 use Rattle.cad_accounts.specs.declared.row.Row.{Row}
 use Rattle.cad_accounts.specs.Registers.{Map, at, folded, no_registers}
 use Rattle.cad_accounts.specs.Memory.{rows_of, room}
@@ -69,3 +69,10 @@ recorded body m =
     if length (reads m (chosen (reads m Pick))) == 0
     then four_calls (other (chosen (reads m Pick))) 0 (1 ∷ framed body) Pick 0 (pick_of (other (chosen (reads m Pick))) ∷ []) m
     else four_calls (chosen (reads m Pick)) (ending (reads m (chosen (reads m Pick))) + 1) (framed body) (chosen (reads m Pick)) (ending (reads m (chosen (reads m Pick)))) (1 ∷ []) m
+
+-- one of its four calls broke
+pub data BreaksRecord (body : List ℕ) (m new : List Event) : Type 0 where
+  onto_other : length (reads m (chosen (reads m Pick))) ≡ 0
+      → BreaksFour (other (chosen (reads m Pick))) 0 (1 ∷ framed body) Pick 0 (pick_of (other (chosen (reads m Pick))) ∷ []) m new → BreaksRecord body m new
+  behind_records : 0 < length (reads m (chosen (reads m Pick)))
+      → BreaksFour (chosen (reads m Pick)) (ending (reads m (chosen (reads m Pick))) + 1) (framed body) (chosen (reads m Pick)) (ending (reads m (chosen (reads m Pick)))) (1 ∷ []) m new → BreaksRecord body m new

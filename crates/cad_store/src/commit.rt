@@ -8,7 +8,7 @@ ghost use Rattle.cad_tape.specs.Framing.{framed};
 ghost use Rattle.cad_tape.specs.Reading.{stored, Leaves, IsQuiet};
 ghost use Rattle.cad_accounts.specs.Registers.{at, applied};
 ghost use Rattle.cad_accounts.specs.Memory.{rows_of, room};
-ghost use Rattle.cad_store.specs.Stores.{held, room_of, IsAt, IsOn, IsOut, Keeps, recorded};
+ghost use Rattle.cad_store.specs.Stores.{held, room_of, IsAt, IsOn, IsOut, Keeps, recorded, BreaksRecord};
 
 use crate::place::Place;
 use crate::store::{Commit, Store};
@@ -28,6 +28,7 @@ fn write_record<H: Host>(host: &mut H, place: Place, bytes: &[u8]) -> Result<Pla
     ensures quiet { OnOk result (H.tells → IsQuiet (H.trace host.old) → IsQuiet (H.trace host.new)) }
     ensures order { OnOk result (H.tells → (body : List ℕ) → bytes.now ≡ 1 ∷ framed body →
         H.trace host.new ≡ recorded body (H.trace host.old)) }
+    ensures breaks { OnErr result (H.tells → (body : List ℕ) → bytes.now ≡ 1 ∷ framed body → BreaksRecord body (H.trace host.old) (H.trace host.new)) }
     ensures says { H.tells → output (H.trace host.new) ≡ output (H.trace host.old) }
     ensures cause { IsCaused result (H.disk_faults host.old) (H.disk_faults host.new) }
     ensures stays { H.tells → H.left host.new ≡ H.left host.old }
@@ -76,6 +77,8 @@ impl Store {
         ensures quiet { OnOk result (H.tells → IsQuiet (H.trace host.old) → IsQuiet (H.trace host.new)) }
         ensures order { OnOk result (H.tells → (changes : List Entry) → IsOut self.old commit changes →
             H.trace host.new ≡ recorded (body_bytes changes) (H.trace host.old)) }
+        ensures breaks { OnErr result (H.tells → (changes : List Entry) → IsOut self.old commit changes →
+            BreaksRecord (body_bytes changes) (H.trace host.old) (H.trace host.new)) }
 
         ensures says { H.tells → output (H.trace host.new) ≡ output (H.trace host.old) }
         ensures err { OnErr result (self.new ≡ self.old) }

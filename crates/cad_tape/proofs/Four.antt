@@ -1,8 +1,8 @@
 -- A write and a sync, and another of each: what is left if they end, or break at one of them.
-use Rattle.std.proofs.Common.{◌≡◌, ⊎_elim, ℕ, List, [], ◌∷◌, length, ◌∙◌, subst}
+use Rattle.std.proofs.Common.{◌≡◌, ⊎_elim, ℕ, List, [], ◌∷◌, length, Result, Ok, Err, OnErr, ◌∙◌, subst}
 use Rattle.cad_host.specs.declared.host.Tape.{Tape}
 use Rattle.cad_host.specs.Disk.{Event, wrote, synced, broke, state, IsImage, Ran, BreaksWrite, BreaksSync}
-use Rattle.cad_tape.specs.Reading.{Leaves}
+use Rattle.cad_tape.specs.Reading.{Leaves, BreaksFour}
 use Rattle.cad_host.proofs.Images.{broke_write, broke_sync}
 
 -- a call that broke leaves what it might have left if it had not
@@ -86,3 +86,8 @@ module _ (m0 : List Event) (before behind : List (List ℕ)) (u : Tape) (at : �
 -- the record after the first write, whatever its arguments are called
 pub is1 : (m0 : List Event) (u : Tape) (at : ℕ) (bytes : List ℕ) (at1 : ℕ) (bytes1 : List ℕ) (new : List Event) → at1 ≡ at → bytes1 ≡ bytes → new ≡ wrote u at1 bytes1 ∷ m0 → new ≡ wrote u at bytes ∷ m0
 is1 m0 u at bytes at1 bytes1 new place form is = is ∙ (λ i. wrote u (place i) (form i) ∷ m0)
+
+-- told where the calls failed
+pub four_broke : {T E Tells : Type 0} (r : Result T E) (u : Tape) (at : ℕ) (bytes : List ℕ) (v : Tape) (at_v : ℕ) (bytes_v : List ℕ) (old new : List Event) → (Tells → BreaksFour u at bytes v at_v bytes_v old new) → OnErr r (Tells → BreaksFour u at bytes v at_v bytes_v old new)
+four_broke (Ok t) u at bytes v at_v bytes_v old new f = tt
+four_broke (Err e) u at bytes v at_v bytes_v old new f = f

@@ -2,7 +2,7 @@
 use Rattle.std.specs.Prelude.{◌≡◌, ◌⊎◌, ℕ, ◌%◌, ◌<◌, ◌^◌, ◌==◌, false, List, [], ◌∷◌, length, Option, Some, None, if◌then◌else◌}
 use Rattle.cad_host.specs.declared.host.Tape.{Tape}
 use Rattle.cad_host.specs.declared.host.Tape.TheVariants.{A, B, Pick}
-use Rattle.cad_host.specs.Disk.{same_tape, Event, wrote, synced, state, reads, IsClean, IsDisk, output}
+use Rattle.cad_host.specs.Disk.{same_tape, Event, wrote, synced, state, reads, IsClean, IsDisk, output, BreaksWrite, BreaksSync}
 use Rattle.cad_wire.specs.declared.entry.Entry.{Entry}
 use Rattle.cad_wire.specs.Fields.{◌>>=◌}
 use Rattle.cad_wire.specs.Reading.{entries_of}
@@ -73,3 +73,10 @@ pub record Leaves (old : List Event) (before behind : List (List ℕ)) (m : List
 -- a write and a sync, and another of each
 abbrev pub four_calls : Tape → ℕ → List ℕ → Tape → ℕ → List ℕ → List Event → List Event
 four_calls t at bytes u place more old = synced u ∷ wrote u place more ∷ synced t ∷ wrote t at bytes ∷ old
+
+-- the one of them that broke, and those before it
+pub data BreaksFour (t : Tape) (at : ℕ) (bytes : List ℕ) (u : Tape) (place : ℕ) (more : List ℕ) (old new : List Event) : Type 0 where
+  at_write : BreaksWrite t at bytes old new → BreaksFour t at bytes u place more old new
+  at_sync : BreaksSync t (wrote t at bytes ∷ old) new → BreaksFour t at bytes u place more old new
+  at_second_write : BreaksWrite u place more (synced t ∷ wrote t at bytes ∷ old) new → BreaksFour t at bytes u place more old new
+  at_second_sync : BreaksSync u (wrote u place more ∷ synced t ∷ wrote t at bytes ∷ old) new → BreaksFour t at bytes u place more old new

@@ -1,10 +1,10 @@
 // Writing a record.
-ghost use Rattle.std.specs.Prelude.{◌≡◌, ◌+◌, ◌-◌, ◌^◌, ◌++◌, [], ◌∷◌, List, ℕ, min, length, OnOk, IfOk};
+ghost use Rattle.std.specs.Prelude.{◌≡◌, ◌+◌, ◌-◌, ◌^◌, ◌++◌, [], ◌∷◌, List, ℕ, min, length, OnOk, OnErr, IfOk};
 ghost use Rattle.cad_host.specs.declared.host.Tape.TheVariants.{Pick};
 ghost use Rattle.cad_host.specs.Disk.{output, Ran};
 ghost use Rattle.cad_host.specs.Faults.{IsCaused};
 ghost use Rattle.cad_tape.specs.Framing.{framed};
-ghost use Rattle.cad_tape.specs.Reading.{stored, IsPlaced, IsFree, IsQuiet, pick_of, Leaves, four_calls};
+ghost use Rattle.cad_tape.specs.Reading.{stored, IsPlaced, IsFree, IsQuiet, pick_of, Leaves, four_calls, BreaksFour};
 
 use cad_host::{Failed, Host, Tape};
 use cad_syntax::{Bytes, Items};
@@ -41,6 +41,7 @@ pub fn append<H: Host>(host: &mut H, tape: Tape, at: u64, bytes: &[u8]) -> Resul
     ensures quiet { OnOk result (H.tells → IsQuiet (H.trace host.old) → IsQuiet (H.trace host.new)) }
     ensures order { OnOk result (H.tells →
         H.trace host.new ≡ four_calls tape (at + 1) bytes.now tape at (1 ∷ []) (H.trace host.old)) }
+    ensures breaks { OnErr result (H.tells → BreaksFour tape (at + 1) bytes.now tape at (1 ∷ []) (H.trace host.old) (H.trace host.new)) }
     ensures next { IfOk result (λ next. next ≡ min (at + length bytes.now) (2 ^ 64 - 1)) }
 
     ensures says { H.tells → output (H.trace host.new) ≡ output (H.trace host.old) }
@@ -83,6 +84,7 @@ pub fn checkpoint<H: Host>(host: &mut H, onto: Tape, bytes: &[u8]) -> Result<u64
     ensures quiet { OnOk result (H.tells → IsQuiet (H.trace host.new)) }
     ensures order { OnOk result (H.tells →
         H.trace host.new ≡ four_calls onto 0 bytes.now Pick 0 (pick_of onto ∷ []) (H.trace host.old)) }
+    ensures breaks { OnErr result (H.tells → BreaksFour onto 0 bytes.now Pick 0 (pick_of onto ∷ []) (H.trace host.old) (H.trace host.new)) }
     ensures next { IfOk result (λ next. next + 1 ≡ length bytes.now) }
 
     ensures says { H.tells → output (H.trace host.new) ≡ output (H.trace host.old) }

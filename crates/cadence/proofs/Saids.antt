@@ -1,21 +1,23 @@
 -- One command, and commands in turn: what is said, and what a crash leaves.
-use Rattle.std.proofs.Common.{◌≡◌, ◌⊎◌, inl, inr, ℕ, List, [], ◌∷◌, ◌++◌, length, take, Result, Ok, Err, OnOk, refl, sym, ◌∙◌, ap, subst, arith}
+use Rattle.std.proofs.Common.{◌≡◌, ◌≢◌, ◌⊎◌, inl, inr, ℕ, suc, ◌+◌, ◌≤◌, List, [], ◌∷◌, ◌++◌, length, take, Result, Ok, Err, OnOk, refl, sym, ◌∙◌, ap, subst, arith, length-append}
 use Rattle.std.proofs.lemmas.List.{append-nil}
 use Rattle.std.proofs.Math.Seq.{take-length}
 use Rattle.cad_host.specs.declared.host.Tape.{Tape}
 use Rattle.cad_host.specs.Disk.{Event, put, output, reads, IsDisk, Ran, Puts, BreaksPut}
 use Rattle.cad_host.proofs.Ran.{ran_as, ran_on, ran_none, ran_one, ran_end}
 use Rattle.cad_tape.specs.Reading.{IsQuiet}
-use Rattle.cad_accounts.specs.Registers.{Map}
+use Rattle.cad_wire.specs.declared.entry.Entry.{Entry}
+use Rattle.cad_wire.specs.Body.{body_bytes}
+use Rattle.cad_accounts.specs.Registers.{Map, Leads}
 use Rattle.cad_accounts.specs.Accounts.{Accounts, StandsFor}
 use Rattle.cad_accounts.proofs.States.{one_state_lem}
 use Rattle.cad_store.specs.declared.store.Store.{Store}
 use Rattle.cad_store.specs.declared.place.Place.{Place}
 use Rattle.cad_store.specs.declared.place.Place.TheVariants.{Behind, Onto}
-use Rattle.cad_store.specs.Stores.{DiskHolds, held, IsAt, IsOn, Keeps}
+use Rattle.cad_store.specs.Stores.{DiskHolds, held, IsAt, IsOn, Keeps, BreaksRecord}
 use Rattle.cadence.specs.Answer.{Answer, Answers, answer_line}
 use Rattle.cadence.specs.Served.{AnswersAll, Served, ServedSome, Broken}
-use Rattle.cadence.specs.Writing.{Written, nothing, Wrote, WroteSome, WroteBroken, WroteStopped}
+use Rattle.cadence.specs.Writing.{Written, nothing, Wrote, WroteSome, WroteBroken, WroteStopped, writing}
 use Rattle.cadence.specs.Crashes.{DiskStands, HasPrefix, IsPrefix, Survives, line_feeds, acknowledged}
 use Rattle.cadence.specs.Progress.{Said, Halts, Halted}
 use Rattle.cadence.specs.declared.status.Status.{Status}
@@ -66,19 +68,19 @@ said_then w xs ys old mid new s t h k = record {
   quiet = λ quiet. k.quiet (h.quiet quiet);
 }
 
-halts_then : (status : Status) (w u : Accounts) (xs ys : List (List ℕ)) (old mid new : List Event) → Served w xs (output old) (output mid) u → Wrote w xs old mid u → (IsQuiet old → IsQuiet mid) → Halts status u ys mid new → Halts status w (xs ++ ys) old new
-halts_then Done w u xs ys old mid new s r n h = absurd h
-halts_then Usage w u xs ys old mid new s r n h = absurd h
-halts_then ReadFault w u xs ys old mid new s r n h = absurd h
-halts_then WriteFault w u xs ys old mid new s r n h = (h.0, broken_then w u h.0 xs ys (output old) (output mid) (output new) s h.1, h.2, wrote_broken_then w u h.0 xs ys old mid new r h.3)
-halts_then DiskFault w u xs ys old mid new s r n h = (h.0, some_then w u h.0 xs ys (output old) (output mid) (output new) s h.1, wrote_stopped_then w u h.0 xs ys old mid new n r h.2)
-halts_then Memory w u xs ys old mid new s r n h = (h.0, some_then w u h.0 xs ys (output old) (output mid) (output new) s h.1, h.2, wrote_some_then w u h.0 xs ys old mid new r h.3)
-halts_then BadStore w u xs ys old mid new s r n h = absurd h
-halts_then InputBound w u xs ys old mid new s r n h = absurd h
+halts_then : (status : Status) (w u : Accounts) (xs ys : List (List ℕ)) (old mid new : List Event) → Served w xs (output old) (output mid) u → Wrote w xs old mid u → Halts status u ys mid new → Halts status w (xs ++ ys) old new
+halts_then Done w u xs ys old mid new s r h = absurd h
+halts_then Usage w u xs ys old mid new s r h = absurd h
+halts_then ReadFault w u xs ys old mid new s r h = absurd h
+halts_then WriteFault w u xs ys old mid new s r h = (h.0, broken_then w u h.0 xs ys (output old) (output mid) (output new) s h.1, h.2, wrote_broken_then w u h.0 xs ys old mid new r h.3)
+halts_then DiskFault w u xs ys old mid new s r h = (h.0, some_then w u h.0 xs ys (output old) (output mid) (output new) s h.1, wrote_stopped_then w u h.0 xs ys old mid new r h.2)
+halts_then Memory w u xs ys old mid new s r h = (h.0, some_then w u h.0 xs ys (output old) (output mid) (output new) s h.1, h.2, wrote_some_then w u h.0 xs ys old mid new r h.3)
+halts_then BadStore w u xs ys old mid new s r h = absurd h
+halts_then InputBound w u xs ys old mid new s r h = absurd h
 
 pub halted_then : (status : Status) (w : Accounts) (xs ys : List (List ℕ)) (old mid new : List Event) (s : Store) (h : Said w xs old mid s) → Halted status h.accounts ys mid new → Halted status w (xs ++ ys) old new
 halted_then status w xs ys old mid new s h k = record {
-  halts = halts_then status w h.accounts xs ys old mid new h.served h.wrote h.quiet k.halts;
+  halts = halts_then status w h.accounts xs ys old mid new h.served h.wrote k.halts;
   survives = survives_then w h.accounts xs ys old mid new h.served h.survives h.quiet k.survives;
 }
 
@@ -200,20 +202,21 @@ module _ (w v : Accounts) (c : List ℕ) (a : Answer) (answers : Answers w c a v
       by disk (inl h) = inl (record { map = before; holds = h; stands = is_w })
       by disk (inr h) = inr (record { map = behind; holds = h; stands = is_v })
 
-  commit_stopped : (before behind : Map) (new : List Event) → output new ≡ output old → (IsQuiet old → Ran old new (Keeps old before behind)) → WroteStopped w (c ∷ []) old new w
-  commit_stopped before behind new same ran = record {
+  commit_stopped : (before behind : Map) (changes : List Entry) (new : List Event) → StandsFor before w → StandsFor behind v → Leads before behind changes → changes ≢ [] → BreaksRecord (body_bytes changes) old new
+      → WroteStopped w (c ∷ []) old new w
+  commit_stopped before behind changes new is_w is_v leads some broken = record {
     first = [];
     rest = c ∷ [];
     are = refl;
     told = old;
     wrote = (refl, refl);
-    same = same;
-    behind = λ quiet. ran_as (Keeps old before behind) (λ m. output m ≡ output old) old new (λ m k. k.output) (ran quiet);
+    stopped = writing answers is_w is_v leads some broken;
   }
 
-  pub commit_broke : (before behind : Map) (new : List Event) → output new ≡ output old → StandsFor before w → StandsFor behind v → (IsQuiet old → Ran old new (Keeps old before behind)) → Halted DiskFault w (c ∷ []) old new
-  commit_broke before behind new same is_w is_v ran = record {
-    halts = (w, record { count = 0; within = omega arith; served = record { answers = []; are = refl; output = same ∙ sym (append-nil (output old)) } }, commit_stopped before behind new same ran);
+  pub commit_broke : (before behind : Map) (changes : List Entry) (new : List Event) → output new ≡ output old → StandsFor before w → StandsFor behind v → (IsQuiet old → Ran old new (Keeps old before behind))
+      → Leads before behind changes → changes ≢ [] → BreaksRecord (body_bytes changes) old new → Halted DiskFault w (c ∷ []) old new
+  commit_broke before behind changes new same is_w is_v ran leads some broken = record {
+    halts = (w, record { count = 0; within = omega arith; served = record { answers = []; are = refl; output = same ∙ sym (append-nil (output old)) } }, commit_stopped before behind changes new is_w is_v leads some broken);
     survives = λ quiet. commit_ran before behind new is_w is_v (ran quiet);
   }
 

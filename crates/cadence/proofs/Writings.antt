@@ -1,11 +1,9 @@
 -- What commands write in turn.
 use Rattle.std.proofs.Common.{◌≡◌, ℕ, List, [], ◌∷◌, ◌++◌, refl, sym, ◌∙◌, ap, subst, append_assoc}
-use Rattle.cad_host.specs.Disk.{Event, put, output}
-use Rattle.cad_host.proofs.Ran.{ran_none}
-use Rattle.cad_tape.specs.Reading.{IsQuiet}
+use Rattle.cad_host.specs.Disk.{Event, put}
 use Rattle.cad_accounts.specs.Accounts.{Accounts}
 use Rattle.cadence.specs.Answer.{answer_line}
-use Rattle.cadence.specs.Writing.{Wrote, WroteSome, WroteBroken, WroteStopped}
+use Rattle.cadence.specs.Writing.{Wrote, WroteSome, WroteBroken, WroteStopped, Stopped, opening, writing}
 
 pub wrote_then : (w u v : Accounts) (xs ys : List (List ℕ)) (o p q : List Event) → Wrote w xs o p u → Wrote u ys p q v → Wrote w (xs ++ ys) o q v
 wrote_then w u v [] ys o p q h k = subst (λ x. Wrote x ys o q v) h.0 (subst (λ m. Wrote u ys m q v) h.1 k)
@@ -59,18 +57,21 @@ wrote_broken_more w v xs ys o p h = record {
 }
 
 pub stopped_none : (w : Accounts) (cs : List (List ℕ)) (m : List Event) → WroteStopped w cs m m w
-stopped_none w cs m = record { first = []; rest = cs; are = refl; told = m; wrote = (refl, refl); same = refl; behind = λ quiet. ran_none (λ p. output p ≡ output m) m refl }
+stopped_none w cs m = record { first = []; rest = cs; are = refl; told = m; wrote = (refl, refl); stopped = opening refl }
 
-pub wrote_stopped_then : (w u v : Accounts) (xs ys : List (List ℕ)) (o p q : List Event) → (IsQuiet o → IsQuiet p) → Wrote w xs o p u → WroteStopped u ys p q v → WroteStopped w (xs ++ ys) o q v
-wrote_stopped_then w u v xs ys o p q stays h k = record {
+pub wrote_stopped_then : (w u v : Accounts) (xs ys : List (List ℕ)) (o p q : List Event) → Wrote w xs o p u → WroteStopped u ys p q v → WroteStopped w (xs ++ ys) o q v
+wrote_stopped_then w u v xs ys o p q h k = record {
   first = xs ++ k.first;
   rest = k.rest;
   are = ap (λ l. xs ++ l) k.are ∙ sym (append_assoc xs k.first k.rest);
   told = k.told;
   wrote = wrote_then w u v xs k.first o p k.told h k.wrote;
-  same = k.same;
-  behind = λ quiet. k.behind (stays quiet);
+  stopped = k.stopped;
 }
+
+stopped_more : (w : Accounts) (rest ys : List (List ℕ)) (o p : List Event) → Stopped w o p rest → Stopped w o p (rest ++ ys)
+stopped_more w rest ys o p (opening same) = opening same
+stopped_more w (next ∷ rest) ys o p (writing answers is_w is_v leads some broken) = writing answers is_w is_v leads some broken
 
 pub wrote_stopped_more : (w v : Accounts) (xs ys : List (List ℕ)) (o p : List Event) → WroteStopped w xs o p v → WroteStopped w (xs ++ ys) o p v
 wrote_stopped_more w v xs ys o p h = record {
@@ -79,6 +80,5 @@ wrote_stopped_more w v xs ys o p h = record {
   are = ap (λ l. l ++ ys) h.are ∙ append_assoc h.first h.rest ys;
   told = h.told;
   wrote = h.wrote;
-  same = h.same;
-  behind = h.behind;
+  stopped = stopped_more v h.rest ys h.told p h.stopped;
 }

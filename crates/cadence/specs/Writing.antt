@@ -1,12 +1,11 @@
 -- What a run writes, and when its replies are put.
 use Rattle.std.specs.Prelude.{◌≡◌, ◌≢◌, ℕ, List, [], ◌∷◌, ◌++◌}
-use Rattle.cad_host.specs.Disk.{Event, put, output, Ran, BreaksPut}
+use Rattle.cad_host.specs.Disk.{Event, put, BreaksPut}
 use Rattle.cad_wire.specs.declared.entry.Entry.{Entry}
 use Rattle.cad_wire.specs.Body.{body_bytes}
-use Rattle.cad_tape.specs.Reading.{IsQuiet}
 use Rattle.cad_accounts.specs.Registers.{Map, Leads}
 use Rattle.cad_accounts.specs.Accounts.{Accounts, StandsFor}
-use Rattle.cad_store.specs.Stores.{recorded}
+use Rattle.cad_store.specs.Stores.{recorded, BreaksRecord}
 use Rattle.cadence.specs.Answer.{Answer, Answers, answer_line}
 
 -- What a command writes: nothing, where it leaves the accounts as they were; or one record, of exactly the registers that
@@ -44,12 +43,17 @@ pub record WroteBroken (w : Accounts) (commands : List (List ℕ)) (old new : Li
   pub written : Written accounts v told behind
   pub broke : BreaksPut (answer_line answer) behind new
 
--- Those of the first of these commands; then a call of the disk broke, and nothing was put since.
+-- A call of the disk broke: before any command, or one of those that write what the next command changes.
+pub data Stopped (w : Accounts) (old new : List Event) : List (List ℕ) → Type 0 where
+  opening : {rest : List (List ℕ)} → new ≡ old → Stopped w old new rest
+  writing : {next : List ℕ} {rest : List (List ℕ)} {a : Answer} {v : Accounts} {before behind : Map} {changes : List Entry} → Answers w next a v → StandsFor before w → StandsFor behind v
+      → Leads before behind changes → changes ≢ [] → BreaksRecord (body_bytes changes) old new → Stopped w old new (next ∷ rest)
+
+-- those of the first of these commands; then a call of the disk broke
 pub record WroteStopped (w : Accounts) (commands : List (List ℕ)) (old new : List Event) (v : Accounts) : Type 0 where
   pub first : List (List ℕ)
   pub rest : List (List ℕ)
   pub are : commands ≡ first ++ rest
   pub told : List Event
   pub wrote : Wrote w first old told v
-  pub same : output new ≡ output told
-  pub behind : IsQuiet old → Ran told new (λ m. output m ≡ output told)
+  pub stopped : Stopped v told new rest

@@ -1,10 +1,10 @@
 use Rattle.std.proofs.Common.{◌≡◌, [], ◌∷◌, refl, ◌∙◌, inr, ap, subst, arith}
 use Rattle.cad_host.specs.declared.host.Tape.TheVariants.{Pick}
-use Rattle.cad_host.specs.Disk.{wrote, synced, output, BreaksWrite}
+use Rattle.cad_host.specs.Disk.{wrote, synced, output, BreaksWrite, BreaksSync}
 use Rattle.cad_host.proofs.Kept.{write_output, sync_output}
 use Rattle.cad_tape.specs.Framing.{framed}
-use Rattle.cad_tape.specs.Reading.{stored, pick_of}
-use Rattle.cad_tape.proofs.Four.{is1, end1, end2, end3, end4, done}
+use Rattle.cad_tape.specs.Reading.{stored, pick_of, at_write, at_sync, at_second_write, at_second_sync}
+use Rattle.cad_tape.proofs.Four.{is1, four_broke, end1, end2, end3, end4, done}
 use Rattle.cad_tape.proofs.Onto.{short_body, steps, placed_at, quiet_at}
 use Rattle.cad_tape.proofs.commit.checkpoint.Goals as goal
 
@@ -115,3 +115,31 @@ returns-in_err-sync-2-clause-says g c = λ tell. sync_output Pick (g.H.Host.trac
 pub returns-clause-says : goal.returns-clause-says
 returns-clause-says g c = λ tell. ap output (c.in_ok-sync-2.ensures.story tell)
     ∙ ap output (c.in_ok-write-2.ensures.story tell) ∙ ap output (c.in_ok-sync.ensures.story tell) ∙ ap output (c.in_ok-write.ensures.story tell)
+
+-- the call that broke
+pub returns-in_err-write-clause-breaks : goal.returns-in_err-write-clause-breaks
+returns-in_err-write-clause-breaks g c =
+    four_broke c.from_residual.result c.args.onto 0 c.args.bytes.now Pick 0 (pick_of c.args.onto ∷ []) (g.H.Host.trace c.args.host.now) (g.H.Host.trace c.write.new.self) (λ tell.
+    at_write (c.in_err-write.ensures.story tell))
+
+pub returns-in_err-sync-clause-breaks : goal.returns-in_err-sync-clause-breaks
+returns-in_err-sync-clause-breaks g c =
+    four_broke c.from_residual-in_err-sync.result c.args.onto 0 c.args.bytes.now Pick 0 (pick_of c.args.onto ∷ []) (g.H.Host.trace c.args.host.now) (g.H.Host.trace c.sync.new.self) (λ tell.
+    let e1 = c.in_ok-write.ensures.story tell in
+    at_sync (subst (λ m. BreaksSync c.args.onto m (g.H.Host.trace c.sync.new.self)) e1 (c.in_err-sync.ensures.story tell)))
+
+pub returns-in_err-write-2-clause-breaks : goal.returns-in_err-write-2-clause-breaks
+returns-in_err-write-2-clause-breaks g c =
+    four_broke c.from_residual-in_err-write-2.result c.args.onto 0 c.args.bytes.now Pick 0 (pick_of c.args.onto ∷ []) (g.H.Host.trace c.args.host.now) (g.H.Host.trace c.write-2.new.self) (λ tell.
+    let e1 = c.in_ok-write.ensures.story tell in
+    let e2 = c.in_ok-sync.ensures.story tell ∙ ap (λ m. synced c.args.onto ∷ m) e1 in
+    at_second_write (subst (λ m. BreaksWrite Pick 0 (pick_of c.args.onto ∷ []) m (g.H.Host.trace c.write-2.new.self)) e2
+    (subst (λ p. BreaksWrite Pick 0 (p ∷ []) (g.H.Host.trace c.sync.new.self) (g.H.Host.trace c.write-2.new.self)) c.pick_byte.ensures (c.in_err-write-2.ensures.story tell))))
+
+pub returns-in_err-sync-2-clause-breaks : goal.returns-in_err-sync-2-clause-breaks
+returns-in_err-sync-2-clause-breaks g c =
+    four_broke c.from_residual-in_err-sync-2.result c.args.onto 0 c.args.bytes.now Pick 0 (pick_of c.args.onto ∷ []) (g.H.Host.trace c.args.host.now) (g.H.Host.trace c.sync-2.new.self) (λ tell.
+    let e1 = c.in_ok-write.ensures.story tell in
+    let e2 = c.in_ok-sync.ensures.story tell ∙ ap (λ m. synced c.args.onto ∷ m) e1 in
+    let e3 = c.in_ok-write-2.ensures.story tell ∙ (λ i. wrote Pick 0 (c.pick_byte.ensures i ∷ []) ∷ e2 i) in
+    at_second_sync (subst (λ m. BreaksSync Pick m (g.H.Host.trace c.sync-2.new.self)) e3 (c.in_err-sync-2.ensures.story tell)))

@@ -23,5 +23,5 @@ returns-in-Ok-clause-on g c = on_told c.tell.result c.args.text.now c.commit.new
 
 pub returns-in-Err-clause-stops : goal.returns-in-Err-clause-stops
 returns-in-Err-clause-stops g c = λ tell w v command a changes is_w answers is out is_v leads some.
-    commit_broke w v command a answers (g.H.Host.trace c.args.host.now) (held c.args.store.now) (applied changes (held c.args.store.now)) (g.H.Host.trace c.commit.new.host) (c.commit.ensures.says tell) is_w is_v
-    (λ quiet. c.commit.ensures.moments tell quiet changes out)
+    commit_broke w v command a answers (g.H.Host.trace c.args.host.now) (held c.args.store.now) (applied changes (held c.args.store.now)) changes (g.H.Host.trace c.commit.new.host) (c.commit.ensures.says tell) is_w is_v
+    (λ quiet. c.commit.ensures.moments tell quiet changes out) leads some (c.in-Err.ensures.breaks tell changes out)

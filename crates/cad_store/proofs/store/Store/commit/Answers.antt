@@ -3,9 +3,9 @@ use Rattle.cad_wire.specs.declared.entry.Entry.{Entry}
 use Rattle.cad_wire.specs.Body.{body_bytes}
 use Rattle.cad_accounts.specs.Registers.{at, applied}
 use Rattle.cad_accounts.specs.Memory.{rows_of}
-use Rattle.cad_store.specs.Stores.{held}
+use Rattle.cad_store.specs.Stores.{held, IsOut, BreaksRecord}
 use Rattle.cad_store.proofs.Holding.{keeps, holds_new}
-use Rattle.cad_store.proofs.Placing.{whole_at}
+use Rattle.cad_store.proofs.Placing.{whole_at, told_err}
 use Rattle.cad_store.proofs.store.Store.commit.Goals as goal
 
 pub write_record-requires-clause-form : goal.write_record-requires-clause-form
@@ -38,3 +38,8 @@ returns-clause-on g c = λ tell.
 
 pub returns-clause-order : goal.returns-clause-order
 returns-clause-order g c = λ tell changes out. c.in_ok-next.ensures.order tell (body_bytes changes) (c.as_slice.ensures ∙ out.bytes_are)
+
+pub returns-in_err-next-clause-breaks : goal.returns-in_err-next-clause-breaks
+returns-in_err-next-clause-breaks g c =
+    told_err c.from_residual.result (g.H.Host.tells → (changes : List Entry) → IsOut c.args.self.now c.args.commit changes → BreaksRecord (body_bytes changes) (g.H.Host.trace c.args.host.now) (g.H.Host.trace c.write_record.new.host))
+    (λ tell changes out. c.in_err-next.ensures.breaks tell (body_bytes changes) (c.as_slice.ensures ∙ out.bytes_are))
