@@ -160,13 +160,13 @@ class Folder:
         told = out.count(b"\n") + (not out.endswith(b"\n") and out != b"")
         more = min(told + 1, len(states) - 1) if out.endswith(b"\n") or out == b"" else told
         accounts = model.accounts_in(self.path)
-        hold(accounts in (states[told], states[more]), "after", told, "replies the accounts aren't those of that many commands, or one more")
+        hold(accounts in (states[told], states[more]), "after", told, "replies the accounts are others")
         hold(accounts.registers() == model.registers_in(self.path), "the registers are others than those of the accounts")
         one_more = accounts != states[told]
         tape = model.file_bytes(self.path, model.tape_in_use(self.path))
         places = model.records_in(tape)[1]
         acknowledged = self.records + written[told]
-        hold(len(places) - 1 == acknowledged + one_more, "there are", len(places) - 1, "records, and", acknowledged, "were acknowledged")
+        hold(len(places) - 1 == acknowledged + one_more, len(places) - 1, "records, and", acknowledged, "were acknowledged")
         self.seen["one more"] += one_more
         self.seen["part of a record"] += len(tape) > places[-1] + 1
         if acknowledged:
@@ -208,7 +208,8 @@ class Folder:
         """One run that isn't ended: all is still there."""
         commands = model.questions(self.accounts)
         done = model.run(self.program, self.path, b"".join(map(model.line_of, commands)))
-        hold(done.returncode == 0 and done.stdout == b"".join(model.replies_to(commands, self.accounts)[0]), "the last run's replies are wrong")
+        replies = b"".join(model.replies_to(commands, self.accounts)[0])
+        hold(done.returncode == 0 and done.stdout == replies, "the last run's replies are wrong")
 
 
 def all_runs(options, base, seen):
@@ -244,7 +245,8 @@ def main():
         except (Wrong, model.Damaged, subprocess.TimeoutExpired) as wrong:
             print(f"crashes: WRONG, with --seed {options.seed}: {type(wrong).__name__} {wrong}")
             return 1
-    print(f"crashes: {options.runs} runs held in {time.monotonic() - start:.0f} s; " + ", ".join(f"{what} {count}" for what, count in seen.items()))
+    counts = ", ".join(f"{what} {count}" for what, count in seen.items())
+    print(f"crashes: {options.runs} runs held in {time.monotonic() - start:.0f} s; {counts}")
     return 0
 
 

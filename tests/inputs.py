@@ -88,7 +88,8 @@ def changed_lines(tries):
     hold(done.stdout.count(b"\n") == len(lines), "changed lines: there are", done.stdout.count(b"\n"), "replies to", len(lines))
     accounts = model.accounts_in(folder)
     commands = model.questions(accounts)
-    tries.run("after changed lines", b"".join(map(model.line_of, commands)), "done", b"".join(model.replies_to(commands, accounts)[0]), folder)
+    replies = b"".join(model.replies_to(commands, accounts)[0])
+    tries.run("after changed lines", b"".join(map(model.line_of, commands)), "done", replies, folder)
 
 
 def cut_lines(tries):
@@ -119,7 +120,8 @@ def long_lines(tries):
     many = 150_000
     tries.run("a sum of many terms", model.line_of(("script", [[1]] * many)), "done", result(many))
     tries.run("a product of many factors", model.line_of(("script", [[1] * many])), "done", result(1))
-    tries.run("a literal of many digits", model.line_of(("script", [[1]])).replace(b" 1 ", b" " + b"0" * 500_000 + b"9 "), "done", None)
+    digits = model.line_of(("script", [[1]])).replace(b" 1 ", b" " + b"0" * 500_000 + b"9 ")
+    tries.run("a literal of many digits", digits, "done", None)
 
 
 def deep_lines(tries):
@@ -153,7 +155,8 @@ def odd_lines(tries):
 
 def odd_words(tries):
     folder = str(tries.folder())
-    for words in ([], ["run"], ["run", ""], ["run", "-x"], ["run", folder, "more"], ["go", folder], ["run", b"\xff"], [folder], ["--help"]):
+    many = [["run", ""], ["run", "-x"], ["run", folder, "more"], ["go", folder], ["run", b"\xff"]]
+    for words in [[], ["run"], *many, [folder], ["--help"]]:
         tries.count += 1
         done = subprocess.run([tries.program, *words], input=ACCOUNT, capture_output=True, timeout=60, cwd=folder)
         hold((done.returncode, done.stdout) == (2, b""), "the words", words, "gave status", done.returncode, done.stdout)
@@ -226,15 +229,17 @@ def odd_streams(tries):
 def closed_streams(tries):
     """Streams that are closed from the begin: no tape is opened in their place."""
     folder, pipe = tries.folder(), subprocess.PIPE
-    for closed, status in (("2>&-", "done"), (">&-", "write"), ("<&-", "read"), (">&- 2>&-", "write"), ("<&- 2>&-", "read"), ("<&- >&- 2>&-", "read")):
+    ways = {"2>&-": "done", ">&-": "write", "<&-": "read", ">&- 2>&-": "write", "<&- 2>&-": "read", "<&- >&- 2>&-": "read"}
+    for closed, status in ways.items():
         words = ["sh", "-c", f'exec "$0" run "$1" {closed}', tries.program, str(folder)]
         stream_run(tries, f"streams that are closed ({closed})", status, folder, words, stdin=pipe, stdout=pipe, stderr=pipe)
 
 
 def little_memory(tries):
     """Limits on memory, from too little for the system to start the program: what was replied to is there, and right."""
-    lines = ACCOUNT + SAVE + model.line_of(("script", [[1]] * 50_000)) + ACCOUNT
-    replies, states = model.replies_to([("account",), ("save", 1, None, [[40], [2]], "x"), ("script", [[1]] * 50_000), ("account",)], model.Accounts())
+    commands = [("account",), ("save", 1, None, [[40], [2]], "x"), ("script", [[1]] * 50_000), ("account",)]
+    lines = b"".join(map(model.line_of, commands))
+    replies, states = model.replies_to(commands, model.Accounts())
     for kilobytes in [*range(2000, 4000, 20 if tries.long else 100), *range(4000, 60_000, 1000 if tries.long else 8000)]:
         folder, limit = tries.folder(), (kilobytes << 10, kilobytes << 10)
         done = model.run(tries.program, folder, lines, preexec_fn=lambda: resource.setrlimit(resource.RLIMIT_AS, limit))
@@ -294,11 +299,15 @@ def cut_stores(tries):
     store_run(tries, "no tapes", b"", b"\1")
 
 
+def stored_key(address, name):
+    return b"\4" + model.number_field(address) + name
+
+
 def changed_stores(tries):
     """Each byte of a tape, changed in one bit."""
     accounts = model.Accounts(2, {(1, "x"): 5, (1, "long_name"): model.GREATEST, (2, "x"): 0})
-    rows = accounts.registers()
-    tape = model.record_of(rows) + model.record_of({b"\4" + model.number_field(1) + b"x": None, b"\4" + model.number_field(2) + b"y": rows[b"\4" + model.number_field(2) + b"x"]}) + b"\0"
+    moved = {stored_key(1, b"x"): None, stored_key(2, b"y"): accounts.registers()[stored_key(2, b"x")]}
+    tape = model.record_of(accounts.registers()) + model.record_of(moved) + b"\0"
     hold(not store_run(tries, "a good tape", tape), "a good tape is refused")
     refused = 0
     for at in range(len(tape)):
@@ -313,12 +322,12 @@ def odd_stores(tries):
     one = {b"\0": model.number_field(1) * 2, b"\1" + model.number_field(1): model.number_field(1)}
     value = b"\4\0\0" + b"\0" * 15 + b"\5"
     for what, changes in {
-        "a number's sign is 2": {b"\4" + model.number_field(1) + b"x": b"\4\0\2" + value[3:]},
-        "a number is -0": {b"\4" + model.number_field(1) + b"x": b"\4\0\1" + b"\0" * 16},
-        "a number is -5": {b"\4" + model.number_field(1) + b"x": b"\4\0\1" + value[3:]},
-        "a number is too large": {b"\4" + model.number_field(1) + b"x": b"\4\0\0" + b"\x80" + b"\0" * 15},
-        "a name isn't text": {b"\4" + model.number_field(1) + b"\xff": value},
-        "a number of no account": {b"\4" + model.number_field(2) + b"x": value},
+        "a number's sign is 2": {stored_key(1, b"x"): b"\4\0\2" + value[3:]},
+        "a number is -0": {stored_key(1, b"x"): b"\4\0\1" + b"\0" * 16},
+        "a number is -5": {stored_key(1, b"x"): b"\4\0\1" + value[3:]},
+        "a number is too large": {stored_key(1, b"x"): b"\4\0\0" + b"\x80" + b"\0" * 15},
+        "a name isn't text": {stored_key(1, b"\xff"): value},
+        "a number of no account": {stored_key(2, b"x"): value},
         "an account over the count": {b"\1" + model.number_field(2): model.number_field(1)},
         "a key of another kind": {b"\2": b""},
         "an empty key": {b"": b""},
@@ -328,9 +337,10 @@ def odd_stores(tries):
         "a head of 8 bytes": {b"\0": model.number_field(1)},
     }.items():
         store_run(tries, what, model.record_of(one) + model.record_of(changes) + b"\0")
+    unordered = b"\1\0\0\0\2" + b"\0\0\0\1b\0" + b"\0\0\0\1a\0"
+    store_run(tries, "keys out of order", b"\1" + model.number_field(len(unordered)) + unordered + b"\0")
     store_run(tries, "a length of 2^64-1", b"\1" + b"\xff" * 8 + b"\0" * 100)
     store_run(tries, "a length of 2^63", b"\1\x80" + b"\0" * 107)
-    store_run(tries, "keys out of order", b"\1" + model.number_field(17) + b"\1\0\0\0\2" + b"\0\0\0\1b\0" + b"\0\0\0\1a\0" + b"\0")
     store_run(tries, "2^32-1 entries", b"\1" + model.number_field(5) + b"\1" + b"\xff" * 4 + b"\0")
     for _ in range(2000 if tries.long else 50):
         store_run(tries, "tapes of noise", b"\1" + tries.chance.randbytes(tries.chance.randint(0, 300)))
@@ -347,7 +357,8 @@ def options_of():
     parser.add_argument("program", metavar="PROGRAM")
     parser.add_argument("--long", action="store_true", help="more of each")
     parser.add_argument("--seed", type=int, default=random.randrange(10**6), metavar="N", help="for the random choices")
-    parser.add_argument("--only", metavar="KIND", choices=[kind.__name__ for kind in KINDS], help="one kind: " + ", ".join(kind.__name__ for kind in KINDS))
+    names = [kind.__name__ for kind in KINDS]
+    parser.add_argument("--only", metavar="KIND", choices=names, help="one kind: " + ", ".join(names))
     return parser.parse_args()
 
 

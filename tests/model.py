@@ -121,7 +121,7 @@ def bytes_field(data):
 
 def body_of(changes):
     """The body of a record with these changes: values by key, None where the register is removed."""
-    entries = [bytes_field(key) + (b"\0" if changes[key] is None else b"\1" + bytes_field(changes[key])) for key in sorted(changes)]
+    entries = [bytes_field(key) + (b"\0" if value is None else b"\1" + bytes_field(value)) for key, value in sorted(changes.items())]
     return b"\1" + len(entries).to_bytes(4, "big") + b"".join(entries)
 
 
