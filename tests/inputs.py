@@ -8,7 +8,7 @@ tapes that are cut, changed or made of noise. A run that takes a minute counts a
 Not tried: 2^40 bytes of input (status 8).
 
     tests/inputs.py PROGRAM              some seconds
-    tests/inputs.py PROGRAM --long       more random bytes, every byte of a tape changed in every bit, every cut
+    tests/inputs.py PROGRAM --long       some minutes: more random bytes, every bit of a tape changed, every cut
 """
 import argparse
 import contextlib
@@ -96,7 +96,7 @@ def cut_lines(tries):
     for line in (ACCOUNT, SCRIPT, SAVE, MOVE):
         cuts = b"".join(line[:end] + b"\n" for end in range(len(line) - 1))
         tries.run("cut lines", cuts, "done", noise_replies(cuts))
-        for end in range(len(line) - 1) if tries.long else (1, len(line) // 2, len(line) - 2):
+        for end in range(1, len(line) - 1) if tries.long else (1, len(line) // 2, len(line) - 2):
             tries.run("a line that the end of the input cuts", SCRIPT + line[:end], "done", result(7) + bad(29))
     tries.run("no line feed at the end", ACCOUNT + SCRIPT[:-1], "done", FIRST + result(7))
     tries.run("nothing", b"", "done", b"")
