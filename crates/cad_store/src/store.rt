@@ -1,5 +1,5 @@
 // A store of registers, and changes that are ready for it.
-ghost use Rattle.std.specs.Prelude.{◌≡◌, ◌+◌, ◌-◌, ◌<◌, ◌≤◌, ◌^◌, ◌↔◌, min, ◌∷◌, List, ℕ, true, length, IsTrue, IfSome, IfOk, OnOk, Err};
+ghost use Rattle.std.specs.Prelude.{◌≡◌, ◌+◌, ◌-◌, ◌<◌, ◌≤◌, ◌^◌, ◌↔◌, min, ◌∷◌, List, ℕ, true, IsTrue, IfSome, IfOk, OnOk, Err};
 ghost use Rattle.cad_host.specs.Disk.{Event};
 ghost use Rattle.cad_wire.specs.Body.{body_bytes, FewEnough};
 ghost use Rattle.cad_tape.specs.Framing.{framed};
