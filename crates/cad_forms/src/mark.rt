@@ -1,5 +1,5 @@
 // Tokens that a form of code asks for one after another.
-ghost use Rattle.std.specs.Prelude.{◌≡◌, ◌↔◌, ◌∷◌, ◌++◌, List, ℕ, map, IfOk, MatchOption, IsTrue, length, take, drop};
+ghost use Rattle.std.specs.Prelude.{◌≡◌, ◌↔◌, ◌∷◌, ◌++◌, List, ℕ, IfOk, MatchOption, IsTrue};
 ghost use Rattle.cad_syntax.specs.declared.token.Token.{Token};
 ghost use Rattle.cad_syntax.specs.declared.token.TokenKind.{TokenKind};
 ghost use Rattle.cad_forms.specs.Sums.{kinds_of, name};

@@ -1,10 +1,8 @@
 // What a line asks for.
-ghost use Rattle.std.specs.Prelude.{◌≡◌, List, ℕ, IfOk, MatchOption, codes, Some, None, Option, option_map, option_and_then, IsTrue, ◌↔◌};
-ghost use Rattle.serde_json.specs.Data.{Data};
-ghost use Rattle.serde_json.specs.Find.{get, as_str};
-ghost use Rattle.serde_json.specs.View.{view, items_view};
-ghost use Rattle.cad_syntax.specs.Addresses.{address_of};
-ghost use Rattle.cad_forms.specs.Request.{text_at, only_item, only_address, signer_of, HasCode, Request, script, save, IsFor, Asks};
+ghost use Rattle.std.specs.Prelude.{◌≡◌, List, ℕ, IfOk, MatchOption, Some, None, Option, option_map, IsTrue, ◌↔◌};
+ghost use Rattle.serde_json.specs.Find.{get};
+ghost use Rattle.serde_json.specs.View.{view};
+ghost use Rattle.cad_forms.specs.Request.{text_at, only_address, signer_of, HasCode, Request, script, save, IsFor, Asks};
 ghost use Rattle.cad_forms.specs.Saves as spec;
 ghost use Rattle.cad_forms.specs.Views.{products_of, save_of, request_of};
 

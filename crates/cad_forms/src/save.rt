@@ -5,7 +5,7 @@ ghost use Rattle.cad_forms.specs.Sums.{kinds_of};
 ghost use Rattle.cad_forms.specs.Saves.{save_tail_kinds, load_kinds, IsSave, IsSaveCode};
 ghost use Rattle.cad_forms.specs.Saves as spec;
 ghost use Rattle.cad_forms.specs.Parts.{Begins};
-ghost use Rattle.cad_forms.specs.Views.{products_of, save_of};
+ghost use Rattle.cad_forms.specs.Views.{save_of};
 
 use crate::mark::{Mark, behind, name_between};
 use crate::sum::{begun, factors, literal_of, terms};

@@ -1,11 +1,11 @@
 // Sums of products of literals: their tokens and their values.
-ghost use Rattle.std.specs.Prelude.{◌≡◌, ◌≤◌, ◌∷◌, [], ℕ, ℤ, pos, List, map, IfOk, MatchOption};
+ghost use Rattle.std.specs.Prelude.{◌≡◌, ◌≤◌, ◌∷◌, [], ℕ, pos, IfOk, MatchOption};
 ghost use Rattle.std.specs.List.{AllByRecursion};
 ghost use Rattle.cad_syntax.specs.declared.token.TokenKind.{TokenKind};
 ghost use Rattle.cad_syntax.specs.declared.token.TokenKind.TheVariants as kind;
 ghost use Rattle.cad_syntax.specs.declared.token.Sign.TheVariants as sign;
 ghost use Rattle.cad_num.specs.Numbers.{value_of, valued};
-ghost use Rattle.cad_forms.specs.Sums.{kinds_of, literal, greatest, IsProduct, times, plus, product_value, sum_value};
+ghost use Rattle.cad_forms.specs.Sums.{kinds_of, literal, greatest, IsProduct, times, plus, sum_value};
 ghost use Rattle.cad_forms.specs.Saves.{saved_value};
 ghost use Rattle.cad_forms.specs.Parts.{Lacks, Multiplies, Adds};
 ghost use Rattle.cad_forms.specs.Views.{products_of};
