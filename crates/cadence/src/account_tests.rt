@@ -112,6 +112,42 @@ fn refuses_bad_stores(rt: HostRuntime) -> Result<(), Fail> {
     Ok(())
 }
 
+// The reply to one more account over these tapes.
+fn next_reply(alloc: Global, a: &[u8], pick: &[u8]) -> Result<Option<Items<u8>>, AllocError> {
+    let mut host = with_tapes(alloc, ACCOUNT, a, &[], pick)?;
+    if run(alloc, &mut host)? != Status::Done {
+        return Ok(None);
+    }
+    Ok(Some(Items::from_slice(alloc, host.output())?))
+}
+
+// The first commit was stopped between the write of `pick` and its sync, so that byte may be any, or none.
+#[test]
+fn takes_effect_with_an_odd_byte(rt: HostRuntime) -> Result<(), Fail> {
+    let alloc = rt.alloc();
+    for byte in 0..=255u8 {
+        let reply = next_reply(alloc, &TAPE, &[byte])?.ok_or("a reply")?;
+        let want = if byte % 2 == 1 { SECOND } else { FIRST };
+        assert_eq!(rt; reply.as_slice(), want.as_bytes());
+    }
+    let reply = next_reply(alloc, &TAPE, &[])?.ok_or("a reply")?;
+    assert_eq!(rt; reply.as_slice(), FIRST.as_bytes());
+    Ok(())
+}
+
+// A whole record behind a closed gate, and a byte behind it that would open one.
+#[test]
+fn leaves_what_is_behind_the_gate(rt: HostRuntime) -> Result<(), Fail> {
+    let alloc = rt.alloc();
+    let mut bytes = Vec::from_slice(alloc, &TAPE[..66])?;
+    bytes.push(7)?;
+    bytes.extend_from_slice(&TAPE[1..])?;
+    bytes.push(1)?;
+    let reply = next_reply(alloc, &bytes, &[1])?.ok_or("a reply")?;
+    assert_eq!(rt; reply.as_slice(), SECOND.as_bytes());
+    Ok(())
+}
+
 #[test]
 fn survives_crashes(rt: HostRuntime) -> Result<(), Fail> {
     let alloc = rt.alloc();
