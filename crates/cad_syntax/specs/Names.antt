@@ -1,20 +1,12 @@
 -- Names.
-use Rattle.std.specs.Prelude.{ℕ, Bool, false, ◌&&◌, ◌||◌, ◌==◌, not, List, [], ◌∷◌, codes}
+use Rattle.std.specs.Prelude.{ℕ, Bool, false, ◌&&◌, ◌||◌, ◌==◌, not, List, [], ◌∷◌, map}
 use Rattle.std.specs.Char.{is_ascii_alphabetic, is_ascii_alphanumeric}
 use Rattle.std.specs.Cmp.Lexicographic.{pointwise}
 use Rattle.std.specs.List.{list_any, list_all}
-
--- the words of the language
-abbrev pub keywords : List (List ℕ)
-keywords =
-    codes "access" ∷ codes "as" ∷ codes "auth" ∷ codes "break" ∷ codes "case" ∷ codes "continue" ∷ codes "contract" ∷ codes "create"
-    ∷ codes "default" ∷ codes "destroy" ∷ codes "else" ∷ codes "emit" ∷ codes "enum" ∷ codes "event" ∷ codes "execute" ∷ codes "false"
-    ∷ codes "for" ∷ codes "fun" ∷ codes "if" ∷ codes "import" ∷ codes "in" ∷ codes "init" ∷ codes "interface" ∷ codes "let" ∷ codes "nil"
-    ∷ codes "post" ∷ codes "pre" ∷ codes "prepare" ∷ codes "resource" ∷ codes "return" ∷ codes "self" ∷ codes "struct" ∷ codes "switch"
-    ∷ codes "transaction" ∷ codes "true" ∷ codes "var" ∷ codes "while" ∷ []
+use Rattle.cad_syntax.specs.Keywords.{keyword_spelling, keywords}
 
 unfoldable pub is_keyword : List ℕ → Bool
-is_keyword text = list_any (λ word. pointwise ◌==◌ word text) keywords
+is_keyword text = list_any (λ word. pointwise ◌==◌ word text) (map keyword_spelling keywords)
 
 -- an ASCII letter or `_`
 abbrev pub is_first_of_name : ℕ → Bool
