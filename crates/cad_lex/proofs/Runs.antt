@@ -2,7 +2,8 @@
 use Rattle.std.proofs.Common.{◌≡◌, ℕ, zero, ◌-◌, ◌≤◌, ◌<◌, suc, Bool, true, false, if◌then◌else◌, List, [], ◌∷◌, length, take, get_or, IsUtf8, IsAscii, refl, ap, ◌∙◌, arith}
 use Rattle.std.proofs.lemmas.Str.{IsUtf8-from_ascii}
 use Rattle.std.proofs.lemmas.Bool.Decides.{nat_tests}
-use Rattle.cad_syntax.specs.Lexes.{is_name_part, Front, none, more}
+use Rattle.cad_syntax.specs.Lexes.{Front, none, more}
+use Rattle.cad_syntax.specs.Names.{is_part_of_name}
 use Rattle.cad_lex.specs.Reading.{front, behind}
 
 module _ (test : ℕ → Bool) where
@@ -72,19 +73,19 @@ module _ (test : ℕ → Bool) where
       let w = longest_front d (omega (arith, le, ap length (behind_goes b text e))) in
       (front_goes b text e ∙ ap (λ l. b ∷ l) w.0, behind_goes b text e ∙ w.1)
 
-part_is_ascii : (b : ℕ) → is_name_part b ≡ true → b < 128
+part_is_ascii : (b : ℕ) → is_part_of_name b ≡ true → b < 128
 part_is_ascii b h = grind (arith, nat_tests)
 
-ascii_by : (b : ℕ) (bytes : List ℕ) → IsAscii bytes → (v : Bool) → is_name_part b ≡ v → (i : ℕ) → get_or (if v then b ∷ bytes else []) i 0 < 128
+ascii_by : (b : ℕ) (bytes : List ℕ) → IsAscii bytes → (v : Bool) → is_part_of_name b ≡ v → (i : ℕ) → get_or (if v then b ∷ bytes else []) i 0 < 128
 ascii_by b bytes h true e zero = part_is_ascii b e
 ascii_by b bytes h true e (suc i) = h i
 ascii_by b bytes h false e i = omega arith
 
-front_is_ascii : (bytes : List ℕ) → IsAscii (front is_name_part bytes)
+front_is_ascii : (bytes : List ℕ) → IsAscii (front is_part_of_name bytes)
 unfolding front
 front_is_ascii [] i = omega arith
-front_is_ascii (b ∷ bytes) i = ascii_by b _ (front_is_ascii bytes) (is_name_part b) refl i
+front_is_ascii (b ∷ bytes) i = ascii_by b _ (front_is_ascii bytes) (is_part_of_name b) refl i
 
 -- a word is text
-pub word_is_utf8 : (bytes : List ℕ) → IsUtf8 (front is_name_part bytes)
+pub word_is_utf8 : (bytes : List ℕ) → IsUtf8 (front is_part_of_name bytes)
 word_is_utf8 bytes = IsUtf8-from_ascii _ (front_is_ascii bytes)

@@ -1,18 +1,23 @@
 // The lexer.
-ghost use Rattle.std.specs.Prelude.{◌≡◌, false, ◌+◌, ◌≤◌, ◌<◌, [], List, length, option_map, IfOk, IfSome, ℕ};
+ghost use Rattle.std.specs.Prelude.{◌≡◌, ◌||◌, List, option_map, IfOk, IsUtf8, Some, ℕ};
 ghost use Rattle.cad_syntax.specs.declared.token.Token.{Token};
-ghost use Rattle.cad_syntax.specs.Lexes.{is_white_space, Lexes, Stops};
+ghost use Rattle.cad_syntax.specs.Names.{is_part_of_name};
+ghost use Rattle.cad_syntax.specs.Lexes.{opens_block, opens_line, Lexes, Stops};
 ghost use Rattle.cad_lex.specs.Reading as spec;
 
-use crate::literal::{is_decimal, split_digits, whole};
-use crate::word::{is_name_start, split_word, word_kind};
-use cad_syntax::{Items, Sign, Token, TokenKind, Tokens};
+use crate::gap::gap;
+use crate::literal::literal;
+use crate::number::is_digit;
+use crate::quotation::quotation;
+use crate::sign::sign;
+use crate::word::{is_first_of_name, split_word, word_kind};
+use cad_syntax::{Items, Keyword, Sign, Token, TokenKind, Tokens};
 use std::alloc::{AllocError, AllocFailed, Global};
 
 /// Why a text has no tokens.
 #[derive(Debug, Drop)]
 pub enum LexStop {
-    /// At this byte neither white space nor a token begins.
+    /// At this byte the text has its first fault.
     At(usize),
     /// Memory ran out.
     Memory,
@@ -38,85 +43,88 @@ impl<T: Drop> From<AllocFailed<T>> for LexStop {
     }
 }
 
-fn is_white_space(byte: u8) -> bool
-    ensures { result ≡ is_white_space byte }
+fn opens_comment(bytes: &[u8]) -> bool
+    ensures { result ≡ (opens_line bytes.now || opens_block bytes.now) }
 {
-    byte == b' ' || byte == b'\t' || byte == b'\r' || byte == b'\n'
-}
-
-// The bytes behind the white space at the front, and whether a line feed stands in it.
-#[tactic(auto, unfolding(crate::specs::Reading::skip))]
-fn skip(mut bytes: &[u8]) -> (bool, &[u8])
-    ensures { (result.0, result.1.now) ≡ spec.skip false bytes.entry.now }
-{
-    let mut after_break = false;
-    while let [first, rest @ ..] = bytes {
-        if !is_white_space(*first) {
-            break;
-        }
-        after_break = after_break || *first == b'\n';
-        bytes = rest;
+    match bytes {
+        [b'/', second, ..] => *second == b'/' || *second == b'*',
+        _ => false,
     }
-    (after_break, bytes)
 }
 
-#[tactic(auto, unfolding(crate::specs::Reading::sign))]
-fn sign(byte: u8) -> Option<Sign>
-    ensures { result ≡ spec.sign byte }
+// The word at the front, or the cast of which it is a part, and the bytes behind it.
+#[tactic(auto, unfolding(crate::specs::Reading::word_shape, crate::specs::Reading::cast, crate::specs::Reading::judge))]
+fn word(alloc: Global, bytes: &[u8]) -> Result<(TokenKind, &[u8]), AllocError>
+    ensures { IfOk result (λ found. Some (spec.seen found) ≡ spec.judged (Some (spec.word_shape (spec.front is_part_of_name bytes.now) (spec.behind is_part_of_name bytes.now)))) }
 {
-    match byte {
-        b'{' => Some(Sign::OpenBrace),
-        b'}' => Some(Sign::CloseBrace),
-        b'(' => Some(Sign::OpenParenthesis),
-        b')' => Some(Sign::CloseParenthesis),
-        b':' => Some(Sign::Colon),
-        b'.' => Some(Sign::Dot),
-        b',' => Some(Sign::Comma),
-        b'<' => Some(Sign::Less),
-        b'>' => Some(Sign::Greater),
-        b'!' => Some(Sign::Bang),
-        b'/' => Some(Sign::Slash),
-        b'&' => Some(Sign::Ampersand),
-        b'+' => Some(Sign::Plus),
-        b'*' => Some(Sign::Star),
-        _ => None,
+    let (word, rest) = split_word(bytes);
+    if word == "as" {
+        return Ok(cast(rest));
+    }
+    Ok((word_kind(alloc, word)?, rest))
+}
+
+// What `as` begins, before these bytes.
+#[tactic(auto, unfolding(crate::specs::Reading::cast, crate::specs::Reading::judge))]
+fn cast(bytes: &[u8]) -> (TokenKind, &[u8])
+    ensures { Some (spec.seen result) ≡ spec.judged (Some (spec.cast bytes.now)) }
+{
+    match bytes {
+        [b'?', rest @ ..] => (TokenKind::Sign(Sign::AsOptional), rest),
+        [b'!', rest @ ..] => (TokenKind::Sign(Sign::AsForce), rest),
+        _ => (TokenKind::Keyword(Keyword::As), bytes),
     }
 }
 
 // The token at the front, and the bytes behind it; None where no token begins.
 #[tactic(auto, unfolding(crate::specs::Reading::token, crate::specs::Reading::shape, crate::specs::Reading::judge))]
 fn token(alloc: Global, bytes: &[u8]) -> Result<Option<(TokenKind, &[u8])>, AllocError>
+    requires { IsUtf8 bytes.now }
     ensures { IfOk result (λ found. option_map spec.seen found ≡ spec.token bytes.now) }
 {
+    if opens_comment(bytes) {
+        return Ok(None);
+    }
     let [first, behind @ ..] = bytes else {
         return Ok(None);
     };
-    if is_name_start(*first) {
-        let (word, rest) = split_word(bytes);
-        return Ok(Some((word_kind(alloc, word)?, rest)));
+    if is_first_of_name(*first) {
+        return Ok(Some(word(alloc, bytes)?));
     }
-    if is_decimal(*first) {
-        let (digits, rest) = split_digits(bytes);
-        let Some(kind) = whole(digits, rest) else {
+    if is_digit(*first, 10) {
+        return Ok(literal(bytes));
+    }
+    if *first == b'"' {
+        let Some((content, rest)) = quotation(alloc, behind)? else {
             return Ok(None);
         };
-        return Ok(Some((kind, rest)));
+        return Ok(Some((TokenKind::Text(content), rest)));
     }
-    let Some(sign) = sign(*first) else {
+    let Some((sign, rest)) = sign(*first, behind) else {
         return Ok(None);
     };
-    Ok(Some((TokenKind::Sign(sign), behind)))
+    Ok(Some((TokenKind::Sign(sign), rest)))
 }
 
-/// The tokens of a text, with their places. `At` tells the first byte where neither white space nor a token begins.
+/// The tokens of a text, with their places. `At` tells the first byte that isn't UTF-8, or else the first where neither
+/// white space nor a comment nor a token begins.
 pub fn lex(alloc: Global, bytes: &[u8]) -> Result<Tokens, LexStop>
     ensures found { IfOk result (λ tokens. Lexes bytes.now tokens) }
     ensures none { (n : ℕ) → result ≡ Err (LexStop.At n) → (tokens : List Token) → Lexes bytes.now tokens → ⊥ }
     ensures place { (n : ℕ) → result ≡ Err (LexStop.At n) → Stops bytes.now n }
 {
+    if let Err(fault) = str::from_utf8(bytes) {
+        return Err(LexStop::At(fault.valid_up_to()));
+    }
     let mut tokens = Vec::new(alloc);
-    let (mut after_break, mut rest) = skip(bytes);
+    let mut after_break = false;
+    let mut rest = bytes;
     while !rest.is_empty() {
+        if let Some((has_line_feed, behind)) = gap(rest) {
+            after_break = after_break || has_line_feed;
+            rest = behind;
+            continue;
+        }
         let start = bytes.len() - rest.len();
         let Some((kind, behind)) = token(alloc, rest)? else {
             return Err(LexStop::At(start));
@@ -127,7 +135,8 @@ pub fn lex(alloc: Global, bytes: &[u8]) -> Result<Tokens, LexStop>
             end: bytes.len() - behind.len(),
             after_break,
         })?;
-        (after_break, rest) = skip(behind);
+        after_break = false;
+        rest = behind;
     }
     Ok(Items::from_vec(tokens))
 }
@@ -135,4 +144,10 @@ pub fn lex(alloc: Global, bytes: &[u8]) -> Result<Tokens, LexStop>
 /// A text has at most one list of tokens.
 pub fn one_lexing()
     ensures { (text : List ℕ) (a b : List Token) → Lexes text a → Lexes text b → a ≡ b }
+{}
+
+/// A text stops at one place at most, and a text with tokens stops nowhere.
+pub fn one_stop()
+    ensures one { (text : List ℕ) (m n : ℕ) → Stops text m → Stops text n → m ≡ n }
+    ensures none { (text : List ℕ) (n : ℕ) (tokens : List Token) → Stops text n → Lexes text tokens → ⊥ }
 {}

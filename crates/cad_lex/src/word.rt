@@ -1,30 +1,30 @@
 // Words: keywords and names.
 ghost use Rattle.std.specs.Prelude.{◌≡◌, IfOk, IsUtf8};
-ghost use Rattle.cad_syntax.specs.Lexes.{is_name_start, is_name_part};
+ghost use Rattle.cad_syntax.specs.Names.{is_first_of_name, is_part_of_name};
 ghost use Rattle.cad_lex.specs.Reading as spec;
 
 use cad_syntax::{Keyword, Name, Text, TokenKind};
 use std::alloc::{AllocError, Global};
 
 /// Whether a name may begin with this byte: an ASCII letter or `_`.
-pub fn is_name_start(byte: u8) -> bool
-    ensures { result ≡ is_name_start byte }
+pub fn is_first_of_name(byte: u8) -> bool
+    ensures { result ≡ is_first_of_name byte }
 {
     byte.is_ascii_alphabetic() || byte == b'_'
 }
 
-fn is_name_part(byte: u8) -> bool
-    ensures { result ≡ is_name_part byte }
+fn is_part_of_name(byte: u8) -> bool
+    ensures { result ≡ is_part_of_name byte }
 {
     byte.is_ascii_alphanumeric() || byte == b'_'
 }
 
 #[tactic(auto, unfolding(crate::specs::Reading::behind))]
 fn behind_word(mut bytes: &[u8]) -> &[u8]
-    ensures { result.now ≡ spec.behind is_name_part bytes.entry.now }
+    ensures { result.now ≡ spec.behind is_part_of_name bytes.entry.now }
 {
     while let [first, rest @ ..] = bytes {
-        if !is_name_part(*first) {
+        if !is_part_of_name(*first) {
             break;
         }
         bytes = rest;
@@ -32,12 +32,12 @@ fn behind_word(mut bytes: &[u8]) -> &[u8]
     bytes
 }
 
-// ASCII bytes as a text.
-fn text_of(word: &[u8]) -> &str
-    requires { IsUtf8 word.now }
-    ensures { result.now ≡ word.now }
+/// Bytes as the text that they are.
+pub fn text_of(bytes: &[u8]) -> &str
+    requires { IsUtf8 bytes.now }
+    ensures { result.now ≡ bytes.now }
 {
-    match str::from_utf8(word) {
+    match str::from_utf8(bytes) {
         Ok(text) => text,
         Err(_) => unreachable!(),
     }
@@ -46,8 +46,8 @@ fn text_of(word: &[u8]) -> &str
 /// The word at the front, and the bytes behind it.
 #[tactic(auto, using(crate::proofs::Runs::length_behind, crate::proofs::Runs::take_behind))]
 pub fn split_word(bytes: &[u8]) -> (&str, &[u8])
-    ensures word { result.0.now ≡ spec.front is_name_part bytes.now }
-    ensures rest { result.1.now ≡ spec.behind is_name_part bytes.now }
+    ensures word { result.0.now ≡ spec.front is_part_of_name bytes.now }
+    ensures rest { result.1.now ≡ spec.behind is_part_of_name bytes.now }
 {
     let rest = behind_word(bytes);
     let word = &bytes[..bytes.len() - rest.len()];
