@@ -1,0 +1,9 @@
+pub mod Trees
+pub mod Views
+pub mod Spots
+pub mod Lists
+pub mod Levels
+pub mod TypeGrammar
+pub mod ExpressionGrammar
+pub mod StatementGrammar
+pub mod ProgramGrammar

@@ -1,0 +1,19 @@
+//! The trees of programs, and which tokens spell which tree.
+#![tactic(auto)]
+
+mod declaration;
+mod expression;
+mod level;
+mod statement;
+mod type_expr;
+
+pub use declaration::{
+    Access, Composite, CompositeKind, CompositeMember, Condition, Conditions, Contract,
+    ContractMember, Decl, Entitlement, Enum, EnumCase, Event, EventParameter, Field, Function,
+    FunctionBlock, Import, Init, Interface, InterfaceMember, Mapping, MappingItem, Parameter,
+    Prepare, Program, Transaction, TransactionField,
+};
+pub use expression::{Argument, BinaryOperator, CastKind, Entry, Expr, UnaryOperator};
+pub use level::{Level, TypePosition};
+pub use statement::{Case, Otherwise, Stmt, Test, Transfer, VariableKind};
+pub use type_expr::{Dotted, Entitlements, TypeAnnotation, TypeExpr};
