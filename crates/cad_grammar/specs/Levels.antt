@@ -173,6 +173,14 @@ kind_strength broken (kind.Sign sign) = sign_strength broken sign
 kind_strength broken (kind.Keyword k.As) = 11
 kind_strength broken _ = 0
 
+abbrev pub strength_of : List Token → ℕ
+strength_of [] = 0
+strength_of (t ∷ ts) = kind_strength t.after_break t.kind
+
+-- that of the next token
+abbrev pub token_strength : Spot → ℕ
+token_strength p = strength_of p.tokens
+
 -- The tightest level of an expression that a token may begin, or 0.
 abbrev pub sign_start : Sign → ℕ
 sign_start s.Minus = 12

@@ -1,0 +1,2 @@
+//! Reading of declarations and programs.
+#![tactic(auto)]

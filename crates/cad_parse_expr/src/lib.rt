@@ -1,0 +1,6 @@
+//! Reading of expressions.
+#![tactic(auto)]
+
+mod reader;
+
+pub use reader::expression;

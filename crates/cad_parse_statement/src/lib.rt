@@ -1,0 +1,6 @@
+//! Reading of statements.
+#![tactic(auto)]
+
+mod reader;
+
+pub use reader::{block, statements};
