@@ -4,6 +4,7 @@
 mod declaration;
 mod expression;
 mod level;
+mod phase;
 mod statement;
 mod type_expr;
 
@@ -15,5 +16,6 @@ pub use declaration::{
 };
 pub use expression::{Argument, BinaryOperator, CastKind, Entry, Expr, UnaryOperator};
 pub use level::{Level, TypePosition};
+pub use phase::Phase;
 pub use statement::{Case, Otherwise, Stmt, Test, Transfer, VariableKind};
 pub use type_expr::{Dotted, Entitlements, TypeAnnotation, TypeExpr};
