@@ -24,7 +24,7 @@ only_if_some : {A : Type 0} (b : Bool) (a x : A) → only_if b a ≡ Some x → 
 only_if_some true a x e = (refl, cc)
 only_if_some false a x e = (cc, cc)
 
-then_some : {A B : Type 0} (o : Option A) (f : A → Option B) (x : B) → then o f ≡ Some x → (a : A) × (o ≡ Some a) × (f a ≡ Some x)
+pub then_some : {A B : Type 0} (o : Option A) (f : A → Option B) (x : B) → then o f ≡ Some x → (a : A) × (o ≡ Some a) × (f a ≡ Some x)
 then_some None f x e = cc
 then_some (Some a) f x e = (a, refl, e)
 

@@ -3,3 +3,4 @@ pub mod Heads
 pub mod Climbs
 pub mod ListLaws
 pub mod TypeLaws
+pub mod NameLaws
