@@ -4,3 +4,6 @@ pub mod Climbs
 pub mod ListLaws
 pub mod TypeLaws
 pub mod NameLaws
+pub mod Over
+mod Sound
+mod Facts
