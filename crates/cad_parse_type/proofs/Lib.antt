@@ -7,3 +7,6 @@ pub mod NameLaws
 pub mod Over
 mod Sound
 mod Facts
+mod Steps
+pub mod Exact
+pub mod Whole
