@@ -1,5 +1,5 @@
 -- What is spelled as a type is read, where nothing follows that goes on after it.
-use Rattle.std.proofs.Common.{◌≡◌, Bool, true, false, ℕ, zero, suc, ◌<◌, ◌≤◌, List, [], ◌∷◌, ◌++◌, length, Option, Some, None, refl, sym, ap, ◌∙◌, arith}
+use Rattle.std.proofs.Common.{◌≡◌, Bool, true, false, ℕ, zero, suc, ◌<◌, ◌≤◌, List, [], ◌∷◌, length, Some, None, sym, ap, ◌∙◌, arith}
 use Rattle.cad_syntax.specs.declared.token.Sign.{Sign}
 use Rattle.cad_syntax.specs.declared.token.Sign.TheVariants as s
 use Rattle.cad_syntax.specs.declared.token.Keyword.TheVariants as k
@@ -8,21 +8,21 @@ use Rattle.cad_grammar.specs.declared.level.TypePosition.{TypePosition}
 use Rattle.cad_grammar.specs.declared.level.TypePosition.TheVariants as position
 use Rattle.cad_grammar.specs.Trees.{TypeTree, Annotation, annotations_of}
 use Rattle.cad_grammar.specs.Trees as tree
-use Rattle.cad_grammar.specs.Spots.{Spot, back, after, keyword, opened, opening, resumed}
-use Rattle.cad_grammar.specs.Levels.{question, questions, token_strength}
+use Rattle.cad_grammar.specs.Spots.{Spot, back, after, opening, resumed}
+use Rattle.cad_grammar.specs.Levels.{token_strength}
 use Rattle.cad_grammar.specs.Lists.{Listed}
 use Rattle.cad_grammar.specs.Lists as l
 use Rattle.cad_grammar.specs.TypeGrammar.{Dotted, ReadsType, ReadsCore, ReadsAnnotation, AnnotationList, Annotated}
 use Rattle.cad_grammar.specs.TypeGrammar as g
 use Rattle.cad_parse_type.specs.Reading.{Reader, climb, filled, marked, dotted, dotted_list}
 use Rattle.cad_parse_type.specs.Reading as r
-use Rattle.cad_parse_type.proofs.Heads.{none_of, after_head, keyword_head, after_shorter, after_left, resumed_is, resumed_head, resumed_left, opening_is, opening_left, opened_is, not_after, not_resumed, other, keyword_no_sign, name_no_sign}
+use Rattle.cad_parse_type.proofs.Heads.{after_head, keyword_head, after_shorter, after_left, resumed_is, resumed_head, resumed_left, opening_is, opening_left, opened_is, not_resumed, other, keyword_no_sign, name_no_sign}
 use Rattle.cad_parse_type.proofs.Climbs.{then_is, Shrinks, climb_stops, climb_more}
 use Rattle.cad_parse_type.proofs.ListLaws.{IsRead, listed_exact}
 use Rattle.cad_parse_type.proofs.NameLaws.{dotted_left, dotted_head, dotted_list_exact}
 use Rattle.cad_parse_type.proofs.Over.{question_after, questions_after, no_question, over_sign, over_weak}
 use Rattle.cad_parse_type.proofs.Sound.{MarkAs, mark_sound, read_core_sound, annotated_sound}
-use Rattle.cad_parse_type.proofs.Facts.{authorization_falls, annotation_shorter, type_falls}
+use Rattle.cad_parse_type.proofs.Facts.{authorization_falls, annotation_shorter}
 use Rattle.cad_parse_type.proofs.Steps as steps
 use Rattle.cad_parse_type.proofs.TypeLaws.{TypeOver}
 

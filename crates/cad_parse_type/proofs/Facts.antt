@@ -1,15 +1,15 @@
 -- What holds of all types that are spelled.
-use Rattle.std.proofs.Common.{◌≡◌, ℕ, suc, ◌<◌, ◌≤◌, List, [], ◌∷◌, length, Option, Some, None, refl, sym, ap, ◌∙◌, arith}
+use Rattle.std.proofs.Common.{◌≡◌, ◌<◌, ◌≤◌, List, length, Option, Some, refl, ap, ◌∙◌, arith}
 use Rattle.cad_syntax.specs.declared.token.Sign.TheVariants as s
 use Rattle.cad_syntax.specs.declared.token.Keyword.TheVariants as k
 use Rattle.cad_grammar.specs.declared.level.TypePosition.{TypePosition}
 use Rattle.cad_grammar.specs.declared.type_expr.Entitlements.{Entitlements}
 use Rattle.cad_grammar.specs.Trees.{TypeTree, Annotation}
-use Rattle.cad_grammar.specs.Spots.{Spot, back, after, keyword, opened, opening, resumed}
+use Rattle.cad_grammar.specs.Spots.{Spot, keyword, opened}
 use Rattle.cad_grammar.specs.Lists.{Maybe}
 use Rattle.cad_grammar.specs.TypeGrammar.{Dotted, Authorized, Intersected, ReadsType, ReadsCore, ReadsAnnotation, AnnotationList, Annotated}
 use Rattle.cad_grammar.specs.TypeGrammar as g
-use Rattle.cad_parse_type.proofs.Heads.{after_shorter, after_left, after_ends, keyword_shorter, keyword_left, keyword_ends, opened_is, opened_ends, opening_left, opening_shorter, opening_ends, resumed_left, resumed_shorter, resumed_ends, Ends, ends_trans}
+use Rattle.cad_parse_type.proofs.Heads.{after_shorter, after_left, after_ends, keyword_shorter, keyword_left, keyword_ends, opened_is, opened_ends, opening_shorter, opening_ends, resumed_left, resumed_shorter, resumed_ends, Ends, ends_trans}
 use Rattle.cad_parse_type.proofs.ListLaws.{maybe_falls, maybe_short, maybe_ends}
 use Rattle.cad_parse_type.proofs.NameLaws.{dotted_shorter, dotted_left, dotted_ends, list_shorter, list_ends, authorized_shorter, authorized_left, authorized_ends}
 use Rattle.cad_parse_type.proofs.Over.{question_after, questions_after}

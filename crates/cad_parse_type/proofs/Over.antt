@@ -1,12 +1,12 @@
 -- The `?` behind a type, and where a type is over.
-use Rattle.std.proofs.Common.{◌≡◌, ℕ, ◌<◌, ◌≤◌, Bool, true, false, if◌then◌else◌, length, Option, Some, None, refl, sym, ap, ◌∙◌, arith}
+use Rattle.std.proofs.Common.{◌≡◌, Bool, true, false, if◌then◌else◌, Option, Some, None, sym, ap, ◌∙◌, arith}
 use Rattle.cad_syntax.specs.declared.token.Sign.{Sign}
 use Rattle.cad_syntax.specs.declared.token.Sign.TheVariants as s
 use Rattle.cad_syntax.specs.declared.token.TokenKind.TheVariants as kind
 use Rattle.cad_grammar.specs.declared.level.TypePosition.{TypePosition}
-use Rattle.cad_grammar.specs.Spots.{Spot, after, resumed}
+use Rattle.cad_grammar.specs.Spots.{Spot, after}
 use Rattle.cad_grammar.specs.Levels.{belongs_of, if_belongs, question, questions, token_strength}
-use Rattle.cad_parse_type.proofs.Heads.{none_of, some_same, head, after_head, not_after, resumed_head, weak_after}
+use Rattle.cad_parse_type.proofs.Heads.{none_of, some_same, head, not_after, weak_after}
 use Rattle.cad_parse_type.proofs.TypeLaws.{TypeOver}
 
 chosen : {A : Type 0} (b : Bool) (q r : A) → ◌≡◌ {A = Option A} (if b then Some q else None) (Some r) → q ≡ r
@@ -35,13 +35,15 @@ no_questions at p h = none_of (questions at p) (λ q e. let c = sym h ∙ questi
 pub over_sign : (at : TypePosition) (sign : Sign) (q : Spot) → (sign ≡ s.Dot → ⊥) → (sign ≡ s.Question → ⊥) → (sign ≡ s.Coalesce → ⊥)
     → head q ≡ Some (kind.Sign sign) → TypeOver at q
 over_sign at sign q dot question questions e = record {
-    no_dot = not_after sign s.Dot q dot e;
-    no_question = no_question at q (not_after sign s.Question q question e);
-    no_questions = no_questions at q (not_after sign s.Coalesce q questions e) }
+  no_dot = not_after sign s.Dot q dot e;
+  no_question = no_question at q (not_after sign s.Question q question e);
+  no_questions = no_questions at q (not_after sign s.Coalesce q questions e);
+}
 
 -- and before what goes on nothing
 pub over_weak : (at : TypePosition) (q : Spot) → token_strength q ≡ 0 → TypeOver at q
 over_weak at q e = record {
-    no_dot = weak_after s.Dot q 13 (λ b. omega arith) (omega (arith, e));
-    no_question = no_question at q (weak_after s.Question q 1 (λ b. omega arith) (omega (arith, e)));
-    no_questions = no_questions at q (weak_after s.Coalesce q 5 (λ b. omega arith) (omega (arith, e))) }
+  no_dot = weak_after s.Dot q 13 (λ b. omega arith) (omega (arith, e));
+  no_question = no_question at q (weak_after s.Question q 1 (λ b. omega arith) (omega (arith, e)));
+  no_questions = no_questions at q (weak_after s.Coalesce q 5 (λ b. omega arith) (omega (arith, e)));
+}

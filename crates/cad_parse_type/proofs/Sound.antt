@@ -1,5 +1,5 @@
 -- What is read as a type is spelled so.
-use Rattle.std.proofs.Common.{◌≡◌, ℕ, zero, suc, Bool, true, false, List, [], ◌∷◌, ◌++◌, length, Option, Some, None, refl, sym, ap, ◌∙◌, subst, append_assoc, append-nil}
+use Rattle.std.proofs.Common.{◌≡◌, ℕ, zero, suc, Bool, true, false, List, [], ◌∷◌, length, Option, Some, None, refl, ap, ◌∙◌}
 use Rattle.cad_syntax.specs.declared.token.Sign.TheVariants as s
 use Rattle.cad_syntax.specs.declared.token.Keyword.TheVariants as k
 use Rattle.cad_syntax.specs.declared.text.Name.{Name}
@@ -8,7 +8,7 @@ use Rattle.cad_grammar.specs.declared.level.TypePosition.TheVariants as position
 use Rattle.cad_grammar.specs.declared.type_expr.Entitlements.{Entitlements}
 use Rattle.cad_grammar.specs.Trees.{TypeTree, Annotation, annotations_of}
 use Rattle.cad_grammar.specs.Trees as tree
-use Rattle.cad_grammar.specs.Spots.{Spot, back, then, either, after, keyword, opened, opening, resumed}
+use Rattle.cad_grammar.specs.Spots.{Spot, back, after, keyword, opened, opening, resumed}
 use Rattle.cad_grammar.specs.Levels.{question, questions}
 use Rattle.cad_grammar.specs.Lists.{Listed, Maybe}
 use Rattle.cad_grammar.specs.Lists as l
@@ -17,7 +17,7 @@ use Rattle.cad_grammar.specs.TypeGrammar as g
 use Rattle.cad_parse_type.specs.Reading.{Found, Reader, filled, marked, dotted, dotted_list}
 use Rattle.cad_parse_type.specs.Reading as r
 use Rattle.cad_parse_type.proofs.Heads.{then_some}
-use Rattle.cad_parse_type.proofs.Climbs.{then_is, IfFound, then_found, either_found, found_is, if_found, found_weaker, climb_keeps}
+use Rattle.cad_parse_type.proofs.Climbs.{then_is, IfFound, then_found, either_found, found_is, climb_keeps}
 use Rattle.cad_parse_type.proofs.ListLaws.{IsSound, listed_sound}
 use Rattle.cad_parse_type.proofs.NameLaws.{dotted_sound, dotted_list_sound, dotted_list_filled, authorized_sound, filled_same}
 

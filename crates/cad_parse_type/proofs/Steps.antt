@@ -1,5 +1,5 @@
 -- The readers of types, a step at a time, over any reader of what stands one nesting deeper.
-use Rattle.std.proofs.Common.{◌≡◌, true, false, ℕ, zero, suc, ◌<◌, ◌≤◌, List, [], ◌∷◌, length, Option, Some, None, refl, sym, ap, ◌∙◌, arith}
+use Rattle.std.proofs.Common.{◌≡◌, true, false, List, length, Option, Some, None, ◌∙◌}
 use Rattle.cad_syntax.specs.declared.token.Sign.{Sign}
 use Rattle.cad_syntax.specs.declared.token.Sign.TheVariants as s
 use Rattle.cad_syntax.specs.declared.token.Keyword.TheVariants as k
@@ -14,8 +14,8 @@ use Rattle.cad_grammar.specs.Levels.{question, questions}
 use Rattle.cad_grammar.specs.TypeGrammar.{Dotted, Authorized}
 use Rattle.cad_parse_type.specs.Reading.{Reader, climb, marked, dotted, dotted_list}
 use Rattle.cad_parse_type.specs.Reading as r
-use Rattle.cad_parse_type.proofs.Heads.{none_of, after_head, keyword_head, opening_is, opening_head, resumed_is, other, sign_no_keyword, name_no_keyword, name_no_sign}
-use Rattle.cad_parse_type.proofs.Climbs.{then_is, then_not, either_is, either_not, climb_stops, climb_more}
+use Rattle.cad_parse_type.proofs.Heads.{after_head, opening_is, opening_head, other, sign_no_keyword, name_no_keyword, name_no_sign}
+use Rattle.cad_parse_type.proofs.Climbs.{then_is, then_not, either_is, either_not, climb_stops}
 use Rattle.cad_parse_type.proofs.NameLaws.{dotted_exact, dotted_head, authorized_exact}
 use Rattle.cad_parse_type.proofs.TypeLaws.{TypeOver}
 
