@@ -33,6 +33,7 @@ impl From<AllocError> for ParseStop {
 /// that follows the longest prefix of the tokens that is itself a program.
 pub fn parse_program(alloc: Global, bytes: &[u8]) -> Result<Program, ParseStop>
     ensures found { IfOk result (λ program. Parses bytes.now (program_of program)) }
+    ensures accepted { IfOk result (λ program. (phase : Phase) (n : ℕ) → Refuses bytes.now phase n → ⊥) }
     ensures stops { (phase : Phase) (n : ℕ) → result ≡ Err (ParseStop.At phase n) → Refuses bytes.now phase n }
 {
     Err(ParseStop::Memory)
