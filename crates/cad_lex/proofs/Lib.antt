@@ -1,2 +1,4 @@
+pub mod Seams
 pub mod Runs
 pub mod Keywords
+pub mod Quotes
