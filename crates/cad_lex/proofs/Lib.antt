@@ -1,4 +1,6 @@
 pub mod Seams
 pub mod Runs
 pub mod Keywords
+pub mod Numbers
+pub mod Numerals
 pub mod Quotes

@@ -31,11 +31,11 @@ module _ (test : ℕ → Bool) where
   unfolding behind
   behind_goes b bytes e = ap (λ v. if v then behind test bytes else b ∷ bytes) e
 
-  front_stops : (b : ℕ) (bytes : List ℕ) → test b ≡ false → front test (b ∷ bytes) ≡ []
+  pub front_stops : (b : ℕ) (bytes : List ℕ) → test b ≡ false → front test (b ∷ bytes) ≡ []
   unfolding front
   front_stops b bytes e = ap (λ v. if v then b ∷ front test bytes else []) e
 
-  behind_stops : (b : ℕ) (bytes : List ℕ) → test b ≡ false → behind test (b ∷ bytes) ≡ b ∷ bytes
+  pub behind_stops : (b : ℕ) (bytes : List ℕ) → test b ≡ false → behind test (b ∷ bytes) ≡ b ∷ bytes
   unfolding behind
   behind_stops b bytes e = ap (λ v. if v then behind test bytes else b ∷ bytes) e
 
@@ -55,7 +55,14 @@ module _ (test : ℕ → Bool) where
   behind_shortest (none {text}) = length_behind text
   behind_shortest (more {b} {text} e d) = omega (arith, behind_shortest d, ap length (behind_goes b text e))
 
-  ends_empty : (front test [] ≡ []) × (behind test [] ≡ [])
+  -- a front before what fails is the front
+  pub front_exact : {text some rest : List ℕ} → Front test text some rest → front test rest ≡ [] → behind test rest ≡ rest → (front test text ≡ some) × (behind test text ≡ rest)
+  front_exact none f g = (f, g)
+  front_exact (more {b} {text} e d) f g =
+      let w = front_exact d f g in
+      (front_goes b text e ∙ ap (λ l. b ∷ l) w.0, behind_goes b text e ∙ w.1)
+
+  pub ends_empty : (front test [] ≡ []) × (behind test [] ≡ [])
   unfolding front behind
   ends_empty = (refl, refl)
 
