@@ -4,3 +4,4 @@ pub mod Keywords
 pub mod Numbers
 pub mod Numerals
 pub mod Quotes
+pub mod Gaps
