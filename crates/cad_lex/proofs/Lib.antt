@@ -5,3 +5,4 @@ pub mod Numbers
 pub mod Numerals
 pub mod Quotes
 pub mod Gaps
+pub mod Literals
