@@ -216,7 +216,7 @@ line_shorter o (l.more {text} {rest} f d) e = omega (arith, front_within d)
     front_within l.none = omega arith
     front_within (l.more e d) = omega (arith, front_within d)
 
-seam_shorter : {text rest : List ℕ} → Seam text rest → length rest < length text
+pub seam_shorter : {text rest : List ℕ} → Seam text rest → length rest < length text
 seam_shorter {text} {rest} s = omega (arith, ap length s.joined, length-append s.front (s.byte ∷ rest))
 
 pub gap_shorter : {text some rest : List ℕ} → Gap text some rest → length rest < length text

@@ -6,3 +6,5 @@ pub mod Numerals
 pub mod Quotes
 pub mod Gaps
 pub mod Literals
+pub mod Signs
+pub mod Shapes
