@@ -8,3 +8,5 @@ pub mod Gaps
 pub mod Literals
 pub mod Signs
 pub mod Shapes
+pub mod Tokens
+pub mod Turns
