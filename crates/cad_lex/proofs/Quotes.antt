@@ -261,3 +261,8 @@ next_utf8 text rest after c u e some mark f =
     let whole : text ≡ front is_plain text ++ 92 ∷ drop 1 rest = front_and_behind is_plain text ∙ ap (λ l. front is_plain text ++ l) (at_mark text rest e some mark) in
     let d : Escaped (drop 1 rest) c after = subst (λ o. IfSome o (λ x. Escaped (drop 1 rest) x.0 x.1)) f (escape_is (drop 1 rest)) in
     behind_seam (drop 1 rest) after (utf8_behind (front is_plain text) 92 (drop 1 rest) (omega arith) (subst IsUtf8 whole u)) (escaped_seam d)
+
+pub behind_first : (bytes : List ℕ) → IsUtf8 bytes → 1 ≤ length bytes → get_or bytes 0 0 ≡ 34 → IsUtf8 (take (length bytes - 1) (drop 1 bytes))
+behind_first bytes u some e =
+    let whole : bytes ≡ 34 ∷ drop 1 bytes = head_and_tail bytes some ∙ ap (λ b. b ∷ drop 1 bytes) e in
+    subst IsUtf8 (sym (whole_tail bytes)) (utf8_behind [] 34 (drop 1 bytes) (omega arith) (subst IsUtf8 whole u))
