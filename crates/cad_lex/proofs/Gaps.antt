@@ -1,5 +1,5 @@
 -- What `gap` reads is the one gap at the front.
-use Rattle.std.proofs.Common.{◌≡◌, ℕ, zero, suc, ◌+◌, ◌-◌, ◌<◌, ◌≤◌, ◌==◌, ◌&&◌, ◌||◌, Bool, true, false, if◌then◌else◌, List, [], ◌∷◌, ◌++◌, length, take, Option, Some, None, IfSome, IsUtf8, refl, sym, ap, ◌∙◌, subst, arith, eqb-true, length-append}
+use Rattle.std.proofs.Common.{◌≡◌, ℕ, zero, suc, ◌+◌, ◌-◌, ◌<◌, ◌≤◌, ◌==◌, ◌&&◌, ◌||◌, Bool, true, false, if◌then◌else◌, List, [], ◌∷◌, ◌++◌, length, Option, Some, None, IfSome, IsUtf8, refl, sym, ap, ◌∙◌, subst, arith, eqb-true, length-append}
 use Rattle.std.proofs.lemmas.List.{append_cancel_right}
 use Rattle.std.proofs.lemmas.Bool.{false≢true}
 use Rattle.std.proofs.lemmas.Bool.Decides.{nat_tests}
@@ -60,9 +60,9 @@ block_is depth held broken (b ∷ bytes) =
         → ((d : ℕ) → MayEnd (suc d) 0 broken bytes (block (suc d) 0 broken bytes))
         → MayEnd (suc depth) b (broken || (b == 10)) bytes (block (suc depth) b (broken || (b == 10)) bytes)
         → MayEnd (suc depth) held broken (b ∷ bytes)
-            (if opening then block (suc depth + 1) 0 broken bytes
-            else (if closing then (if suc depth == 1 then Some (broken, bytes) else block (suc depth - 1) 0 broken bytes)
-            else block (suc depth) b (broken || (b == 10)) bytes))
+        (if opening then block (suc depth + 1) 0 broken bytes
+        else (if closing then (if suc depth == 1 then Some (broken, bytes) else block (suc depth - 1) 0 broken bytes)
+        else block (suc depth) b (broken || (b == 10)) bytes))
     by_tests depth true e closing f later same =
         let w = both_numbers held b 47 42 e in
         let deeper : suc depth + 1 ≡ suc (suc depth) = omega arith in

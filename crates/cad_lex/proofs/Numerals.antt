@@ -1,5 +1,5 @@
 -- What `digits_from` reads is the longest numeral.
-use Rattle.std.proofs.Common.{◌≡◌, ℕ, zero, suc, ◌+◌, ◌-◌, ◌<◌, ◌≤◌, ◌==◌, Bool, true, false, if◌then◌else◌, List, [], ◌∷◌, ◌++◌, length, refl, sym, ap, ◌∙◌, subst, ◌⊎◌, inl, inr, arith}
+use Rattle.std.proofs.Common.{◌≡◌, ℕ, suc, ◌-◌, ◌<◌, ◌≤◌, ◌==◌, Bool, true, false, if◌then◌else◌, List, [], ◌∷◌, ◌++◌, length, refl, sym, ap, ◌∙◌, arith}
 use Rattle.std.specs.Char.{digit_value, is_digit}
 use Rattle.std.proofs.lemmas.Bool.Decides.{Decides-ltb, nat_tests}
 use Rattle.cad_syntax.specs.Lexes.{is_underscore, Front, Numeral}
@@ -127,7 +127,7 @@ digits_reach {radix} small (l.last {b} {rest} e) most h end =
 digits_reach {radix} small (l.more_digits {b} {text} {underscores} {after} {digits} {rest} e f d) most h end =
     let more : 1 ≤ most - 1 = omega (arith, h, numeral_some d) in
     rw (digits_goes radix most end b text (omega (arith, h)) e, passes radix (most - 1) text small more f)
-      (with_longest b _ digits rest (digits_reach small d (most - 1) (omega (arith, h)) text))
+    (with_longest b _ digits rest (digits_reach small d (most - 1) (omega (arith, h)) text))
 
 -- a numeral before what can't go on is read exactly
 
@@ -137,7 +137,7 @@ stops_there radix most c rest e f = by_test (most == 0)
   where
     by_test : (v : Bool)
         → (if v then ([], c ∷ rest)
-            else (if is_digit c radix then with_digit c (digits_from radix (most - 1) rest rest) else (if is_underscore c then digits_from radix most (c ∷ rest) rest else ([], c ∷ rest))))
+        else (if is_digit c radix then with_digit c (digits_from radix (most - 1) rest rest) else (if is_underscore c then digits_from radix most (c ∷ rest) rest else ([], c ∷ rest))))
         ≡ ([], c ∷ rest)
     by_test true = refl
     by_test false = rw (e, f) refl
@@ -146,8 +146,8 @@ pub digits_exact : {radix : ℕ} {text digits rest : List ℕ} → radix ≤ 36 
     → (most : ℕ) → length digits ≤ most → (end : List ℕ) → digits_from radix most end text ≡ (digits, rest)
 digits_exact {radix} small (l.last {b} {rest} e) c after q no_digit no_underscore most h end =
     digits_goes radix most end b rest (omega (arith, h)) e
-      ∙ ap (λ r. with_digit b (digits_from radix (most - 1) r r)) q ∙ ap (with_digit b) (stops_there radix (most - 1) c after no_digit no_underscore) ∙ ap (λ r. (b ∷ [], r)) (sym q)
+    ∙ ap (λ r. with_digit b (digits_from radix (most - 1) r r)) q ∙ ap (with_digit b) (stops_there radix (most - 1) c after no_digit no_underscore) ∙ ap (λ r. (b ∷ [], r)) (sym q)
 digits_exact {radix} small (l.more_digits {b} {text} {underscores} {after = inner} {digits} {rest} e f d) c after q no_digit no_underscore most h end =
     let more : 1 ≤ most - 1 = omega (arith, h, numeral_some d) in
     digits_goes radix most end b text (omega (arith, h)) e ∙ ap (with_digit b) (passes radix (most - 1) text small more f)
-      ∙ ap (with_digit b) (digits_exact small d c after q no_digit no_underscore (most - 1) (omega (arith, h)) text)
+    ∙ ap (with_digit b) (digits_exact small d c after q no_digit no_underscore (most - 1) (omega (arith, h)) text)

@@ -1,5 +1,5 @@
 -- What `quoted` reads is what a quotation says.
-use Rattle.std.proofs.Common.{◌≡◌, ℕ, zero, suc, ◌+◌, ◌-◌, ◌^◌, ◌<◌, ◌≤◌, ◌==◌, ◌&&◌, Bool, true, false, if◌then◌else◌, cond, nat_lt, nat_le, List, [], ◌∷◌, ◌++◌, length, take, drop, get_or, Option, Some, None, IfSome, option_map, IsUtf8, refl, sym, ap, ◌∙◌, subst, arith, append_assoc, eqb-true}
+use Rattle.std.proofs.Common.{◌≡◌, ℕ, zero, suc, ◌+◌, ◌-◌, ◌^◌, ◌<◌, ◌≤◌, ◌==◌, ◌&&◌, Bool, true, false, if◌then◌else◌, cond, nat_lt, nat_le, List, [], ◌∷◌, ◌++◌, length, take, drop, get_or, Option, Some, None, IfSome, IsUtf8, refl, sym, ap, ◌∙◌, subst, arith, append_assoc, eqb-true}
 use Rattle.std.proofs.lemmas.Bool.Decides.{nat_tests}
 use Rattle.std.proofs.lemmas.Str.{encode_ascii}
 use Rattle.std.proofs.Math.Seq.{take-length}
@@ -101,7 +101,7 @@ scalar_is text digits (b ∷ after) d = by_test ((b == 125) && (nat_lt 0 (length
     by_code None h e w = tt
     by_code (Some c) h e w =
         subst (λ x. Escaped (117 ∷ 123 ∷ text) x after) (sym h.0)
-          (scalar_value (subst (λ x. Front is_hexadecimal text digits (x ∷ after)) e d) w.0 w.1 (subst IsScalar h.0 h.1))
+        (scalar_value (subst (λ x. Front is_hexadecimal text digits (x ∷ after)) e d) w.0 w.1 (subst IsScalar h.0 h.1))
 
     by_test : (v : Bool) → ((b == 125) && (nat_lt 0 (length digits) && nat_le (length digits) 6)) ≡ v
         → IfSome (if v then with_rest after (code_of (number_from 16 (Some 0) digits)) else None) (λ x. Escaped (117 ∷ 123 ∷ text) x.0 x.1)
@@ -119,7 +119,7 @@ scalar_escape_is (b ∷ text) = by_test (b == 123) refl
     by_test true e =
         let same : b ≡ 123 = eqb-true _ _ e in
         subst (λ y. IfSome (scalar_of (front is_hexadecimal text) (behind is_hexadecimal text)) (λ x. Escaped (117 ∷ y ∷ text) x.0 x.1)) (sym same)
-          (scalar_is text _ _ (front_of is_hexadecimal text))
+        (scalar_is text _ _ (front_of is_hexadecimal text))
     by_test false e = tt
 
 pub escape_is : (text : List ℕ) → IfSome (escape text) (λ x. Escaped text x.0 x.1)
@@ -203,7 +203,7 @@ at_plain : (turns b : ℕ) (text : List ℕ) → is_plain b ≡ true → quoted 
 unfolding quoted
 at_plain turns b text e =
     rw (front_goes is_plain b text e, behind_goes is_plain b text e)
-      (sym (content_joins (b ∷ []) (front is_plain text) (behind_plain (quoted turns) (behind is_plain text))))
+    (sym (content_joins (b ∷ []) (front is_plain text) (behind_plain (quoted turns) (behind is_plain text))))
 
 at_escape : (turns : ℕ) (written : List ℕ) (c : ℕ) (after content rest : List ℕ) → escape written ≡ Some (c, after) → quoted turns after ≡ Some (content, rest)
     → quoted (suc turns) (92 ∷ written) ≡ Some (encode_utf8 c ++ content, rest)
@@ -247,11 +247,11 @@ next_turn all turn content text plain rest pushed after longer c goal below so_f
     let more = quoted (all - suc turn) in
     let here : with_content content (quoted (all - turn) text) ≡ with_content (content ++ front is_plain text) (behind_plain more (behind is_plain text)) = one_turn content text all turn below in
     let there : with_content (content ++ front is_plain text) (behind_plain more (behind is_plain text)) ≡ with_content (content ++ front is_plain text) (behind_escape more (escape (drop 1 rest))) =
-        ap (λ l. with_content (content ++ front is_plain text) (behind_plain more l)) (at_mark text rest e some mark) in
+    ap (λ l. with_content (content ++ front is_plain text) (behind_plain more l)) (at_mark text rest e some mark) in
     let escaping : with_content (content ++ front is_plain text) (behind_escape more (escape (drop 1 rest))) ≡ with_content (content ++ front is_plain text) (with_content (encode_utf8 c) (more after)) =
-        ap (λ o. with_content (content ++ front is_plain text) (behind_escape more o)) f in
+    ap (λ o. with_content (content ++ front is_plain text) (behind_escape more o)) f in
     let joins : with_content (content ++ front is_plain text) (with_content (encode_utf8 c) (more after)) ≡ with_content ((content ++ front is_plain text) ++ encode_utf8 c) (more after) =
-        content_joins (content ++ front is_plain text) (encode_utf8 c) (more after) in
+    content_joins (content ++ front is_plain text) (encode_utf8 c) (more after) in
     let same : longer ≡ (content ++ front is_plain text) ++ encode_utf8 c = r ∙ ap (λ l. l ++ encode_utf8 c) (q ∙ ap (λ l. content ++ l) p) in
     let turns : all - (turn + 1) ≡ all - suc turn = omega arith in
     rw (turns, same) (sym joins ∙ sym escaping ∙ sym there ∙ sym here ∙ so_far)

@@ -1,27 +1,18 @@
 -- `shape` is the longest shape at the front, and `token` the token.
-use Rattle.std.proofs.Common.{◌≡◌, ℕ, ◌+◌, ◌-◌, ◌*◌, ◌^◌, ◌<◌, ◌≤◌, ◌==◌, ◌&&◌, ◌||◌, Bool, true, false, if◌then◌else◌, nat_lt, List, [], ◌∷◌, ◌++◌, length, codes, bytes_eq, Option, Some, None, IfSome, IsUtf8, option_map, refl, sym, ap, ◌∙◌, arith, subst, eqb-true, length-append}
-use Rattle.std.proofs.Math.Nat.{pow-le-pow_right}
-use Rattle.std.proofs.lemmas.Bool.Decides.{Decides-ltb, nat_tests}
+use Rattle.std.proofs.Common.{◌≡◌, ℕ, ◌≤◌, ◌==◌, Bool, true, false, if◌then◌else◌, List, [], ◌∷◌, ◌++◌, length, codes, bytes_eq, Option, Some, None, IfSome, option_map, refl, sym, ap, ◌∙◌, arith, subst, eqb-true}
+use Rattle.std.proofs.lemmas.Bool.Decides.{nat_tests}
 use Rattle.std.proofs.lemmas.Slice.Eq.{bytes_eq-Decides}
-use Rattle.cad_syntax.specs.declared.token.Keyword.{Keyword}
 use Rattle.cad_syntax.specs.declared.token.Sign.{Sign}
 use Rattle.cad_syntax.specs.declared.token.Sign.TheVariants as s
-use Rattle.cad_syntax.specs.declared.token.TokenKind.{TokenKind}
-use Rattle.cad_syntax.specs.declared.token.TokenKind.TheVariants as kind
-use Rattle.cad_syntax.specs.Keywords.{keyword_spelling}
 use Rattle.cad_syntax.specs.Names.{is_first_of_name, is_part_of_name}
 use Rattle.cad_syntax.specs.Lexes.{is_white_space, begins_with_letter, opens_line, opens_block, number, scaled, sign_spelling, Front, Numeral, Quoted, Gap, Shape, Word, Whole, Fixed, Quotation, Mark, Shaped, Judged, Begins}
 use Rattle.cad_syntax.specs.Lexes as l
-use Rattle.cad_lex.specs.Reading.{front, behind, is_decimal, begins_with_digit, keyword, kind_by, word_kind, cast, word_shape, number_shape, number_from, whole, fixed, power_of_ten, quoted, sign, single, longer_by, longer_by_two, behind_less, with_rest, shape, judge, judged, token}
+use Rattle.cad_lex.specs.Reading.{front, behind, is_decimal, begins_with_digit, cast, word_shape, number_shape, quoted, sign, single, longer_by, longer_by_two, behind_less, shape}
 use Rattle.cad_lex.proofs.Runs.{front_goes, behind_goes, front_of, front_and_behind, behind_shortest, longest_front}
-use Rattle.cad_lex.proofs.Keywords.{keyword_spells, keyword_found}
-use Rattle.cad_lex.proofs.Numbers.{AreDecimal, number_is, number_found, below_power, power_is}
-use Rattle.cad_lex.proofs.Numerals.{numeral_begins, numeral_seam, are_decimal, front_seam}
+use Rattle.cad_lex.proofs.Numerals.{numeral_begins}
 use Rattle.cad_lex.proofs.Quotes.{quoted_is, quoted_found}
 use Rattle.cad_lex.proofs.Literals.{Reached, number_shaped, decimal_reached, based_reached, pointed_reached}
-use Rattle.cad_lex.proofs.Signs.{AreSpelled, Short, sign_is, longer_short, two_short, less_short, sign_seam}
-use Rattle.cad_lex.proofs.Gaps.{seam_shorter}
-use Rattle.cad_lex.proofs.Seams.{Seam, seam_first, seam_later, behind_seam}
+use Rattle.cad_lex.proofs.Signs.{AreSpelled, Short, sign_is, longer_short, two_short, less_short}
 
 start_is_part : (b : ℕ) → is_first_of_name b ≡ true → is_part_of_name b ≡ true
 start_is_part b h = grind (arith, nat_tests)
@@ -86,7 +77,7 @@ shaped_by : (b : ℕ) (bytes : List ℕ) (word digit quote : Bool) → is_first_
 unfolding shape
 shaped_by b bytes true digit quote n e q =
     subst (IsShaped (b ∷ bytes)) (sym (shape_word b bytes n))
-      (word_shaped (b ∷ bytes) (b ∷ front is_part_of_name bytes) (behind is_part_of_name bytes) (ap (λ t. b ∷ t) (front_and_behind is_part_of_name bytes)) (l.word n (front_of is_part_of_name bytes)))
+    (word_shaped (b ∷ bytes) (b ∷ front is_part_of_name bytes) (behind is_part_of_name bytes) (ap (λ t. b ∷ t) (front_and_behind is_part_of_name bytes)) (l.word n (front_of is_part_of_name bytes)))
 shaped_by b bytes false true quote n e q = subst (IsShaped (b ∷ bytes)) (sym (shape_number b bytes e)) (number_shaped (b ∷ bytes) e)
 shaped_by b bytes false false true n e q =
     let same : b ≡ 34 = eqb-true _ _ q in
@@ -142,8 +133,8 @@ word_reaches b text some rest n d =
       shape_word b text n,
       omega (arith, w.0, least),
       λ le.
-        let same = longest_front is_part_of_name d (omega (arith, w.0, le)) in
-        w.1 (omega (arith, least, le)) ∙ (λ i. (Word (b ∷ same.0 i), same.1 i)),
+          let same = longest_front is_part_of_name d (omega (arith, w.0, le)) in
+          w.1 (omega (arith, least, le)) ∙ (λ i. (Word (b ∷ same.0 i), same.1 i)),
     )
 
 mark_by : (text : List ℕ) (x : Sign × List ℕ) (s : Sign) (rest : List ℕ) → shape text ≡ Some (Mark x.0, x.1) → Short x s rest → Reaches text (Mark s) rest

@@ -1,5 +1,5 @@
 -- `token` is the token at the front.
-use Rattle.std.proofs.Common.{◌≡◌, ℕ, zero, suc, ◌+◌, ◌-◌, ◌*◌, ◌^◌, ◌<◌, ◌≤◌, ◌==◌, ◌&&◌, ◌||◌, Bool, true, false, if◌then◌else◌, nat_lt, List, [], ◌∷◌, ◌++◌, length, Option, Some, None, IfSome, IsUtf8, option_map, refl, sym, ap, ◌∙◌, arith, subst}
+use Rattle.std.proofs.Common.{◌≡◌, ℕ, ◌+◌, ◌-◌, ◌*◌, ◌^◌, ◌<◌, ◌≤◌, ◌==◌, ◌&&◌, ◌||◌, Bool, true, false, if◌then◌else◌, nat_lt, List, ◌∷◌, length, Option, Some, None, IfSome, IsUtf8, option_map, refl, sym, ap, ◌∙◌, arith, subst}
 use Rattle.std.proofs.Math.Nat.{pow-le-pow_right}
 use Rattle.std.proofs.lemmas.Bool.{false≢true}
 use Rattle.std.proofs.lemmas.Bool.Decides.{Decides-ltb, nat_tests}
@@ -14,8 +14,7 @@ use Rattle.cad_lex.specs.Reading.{is_decimal, keyword, kind_by, word_kind, numbe
 use Rattle.cad_lex.proofs.Keywords.{keyword_spells, keyword_found}
 use Rattle.cad_lex.proofs.Numbers.{AreDecimal, number_is, number_found, below_power, power_is}
 use Rattle.cad_lex.proofs.Numerals.{numeral_seam, are_decimal, front_seam}
-use Rattle.cad_lex.proofs.Quotes.{Escaped, letter, escaped_seam}
-use Rattle.cad_lex.proofs.Shapes.{Reaches, shape_is, shaped_reaches}
+use Rattle.cad_lex.proofs.Shapes.{shape_is, shaped_reaches}
 use Rattle.cad_lex.proofs.Signs.{sign_seam}
 use Rattle.cad_lex.proofs.Gaps.{seam_shorter}
 use Rattle.cad_lex.proofs.Seams.{Seam, seam_first, seam_later, seam_behind, behind_seam}
@@ -116,7 +115,7 @@ judged_kind fits (l.name {bytes} {rest} h) = ap (λ o. Some (kind_by o bytes)) (
 judged_kind fits (l.keyword {k} {bytes} {rest} e) = ap (λ o. Some (kind_by o bytes)) (sym (ap keyword e) ∙ keyword_found k)
 judged_kind fits (l.whole_literal {radix} {digits} {rest} e h) =
     ap (λ v. if v then None else option_map (λ n. kind.Whole n (radix == 16)) (number_from radix (Some 0) digits)) e
-      ∙ ap (option_map (λ n. kind.Whole n (radix == 16))) (number_found radix 0 digits h)
+    ∙ ap (option_map (λ n. kind.Whole n (radix == 16))) (number_found radix 0 digits h)
 judged_kind fits (l.fixed_literal {digits} {decimals} {rest} h) = fixed_found digits decimals fits.0 fits.1 h
 judged_kind fits (l.text_literal {content} {rest}) = refl
 judged_kind fits (l.sign {s} {rest}) = refl

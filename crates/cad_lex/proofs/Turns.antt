@@ -1,5 +1,5 @@
 -- Gaps and tokens in turn: there is one way to go on, and what comes after can be put behind what came before.
-use Rattle.std.proofs.Common.{◌≡◌, if◌then◌else◌, ℕ, ◌+◌, ◌-◌, ◌≤◌, ◌<◌, Bool, true, false, ◌||◌, ◌==◌, List, [], ◌∷◌, ◌++◌, length, Option, Some, None, IfSome, IsUtf8, option_map, refl, sym, ap, ◌∙◌, subst, append-nil, length-append, arith}
+use Rattle.std.proofs.Common.{◌≡◌, ℕ, ◌+◌, ◌-◌, ◌≤◌, ◌<◌, Bool, false, ◌||◌, List, [], ◌∷◌, ◌++◌, length, Option, Some, None, IfSome, IsUtf8, option_map, refl, sym, ap, ◌∙◌, subst, append-nil, length-append, arith}
 use Rattle.std.specs.Borrow.{Bor}
 use Rattle.std.specs.Str.{IsValidUpTo}
 use Rattle.std.proofs.lemmas.Str.{utf8_valid_len-IsValidUpTo, utf8_valid_len-IsUtf8}
@@ -7,7 +7,7 @@ use Rattle.cad_syntax.specs.declared.token.TokenKind.{TokenKind}
 use Rattle.cad_syntax.specs.declared.token.Token.{Token}
 use Rattle.cad_syntax.specs.Lexes.{has_line_feed, Begins, Gap, Spot, begin, InTurn, Lexes, BeginsNothing, Stops}
 use Rattle.cad_syntax.specs.Lexes as l
-use Rattle.cad_lex.specs.Reading.{gap, token, shape, judged, seen}
+use Rattle.cad_lex.specs.Reading.{gap, token, seen}
 use Rattle.cad_lex.proofs.Gaps.{gap_is, gap_found, gap_once, gap_text, gap_shorter, gap_utf8}
 use Rattle.cad_lex.proofs.Tokens.{begins_is, token_is, begins_shorter, begins_utf8, gap_is_no_token}
 
@@ -111,7 +111,7 @@ pub read_begun : (text : List ℕ) (tokens : List Token) → IsUtf8 text → tok
 read_begun text tokens u none =
     let start : before text false text ≡ begin text = λ i. record { at = self_minus (length text) i; after_break = false; text = text } in
     subst (λ ts. Read text ts false text) (sym none)
-      (record { utf8 = u; turns = subst (λ y. InTurn (begin text) [] y) (sym start) l.nothing; within = omega arith; rest_utf8 = u })
+    (record { utf8 = u; turns = subst (λ y. InTurn (begin text) [] y) (sym start) l.nothing; within = omega arith; rest_utf8 = u })
 
 gap_more : (text : List ℕ) (tokens : List Token) (broken : Bool) (some from rest : List ℕ) → Read text tokens broken from → Gap from some rest → length some + length rest ≡ length from
     → Read text tokens (broken || has_line_feed some) rest
@@ -158,7 +158,7 @@ read_token text tokens broken from rest t more r f s e a m =
     let within = r.within in
     let longer : InTurn (begin text) (tokens ++ t ∷ []) (past_token t.end rest) = joined r.turns (l.token s a b (omega (arith, s, e, less, within)) l.nothing) in
     subst (λ ts. Read text ts false rest) (sym m)
-      (record { utf8 = r.utf8; turns = subst (λ n. InTurn (begin text) (tokens ++ t ∷ []) (past_token n rest)) e longer; within = omega (arith, less, within); rest_utf8 = begins_utf8 r.rest_utf8 b })
+    (record { utf8 = r.utf8; turns = subst (λ n. InTurn (begin text) (tokens ++ t ∷ []) (past_token n rest)) e longer; within = omega (arith, less, within); rest_utf8 = begins_utf8 r.rest_utf8 b })
 
 pub read_all : (text : List ℕ) (tokens : List Token) (broken : Bool) (rest : List ℕ) → Read text tokens broken rest → rest ≡ [] → Lexes text tokens
 read_all text tokens broken rest r e = record { utf8 = r.utf8; end = before text broken rest; turns = r.turns; over = e }

@@ -1,4 +1,4 @@
-use Rattle.std.proofs.Common.{◌≡◌, ◌-◌, ◌≤◌, Bool, None, refl, false, length, sym, ap, ◌∙◌, arith, subst, option_map, false-eqb, rules}
+use Rattle.std.proofs.Common.{◌≡◌, ◌-◌, None, refl, length, sym, ap, ◌∙◌, arith, subst, option_map, false-eqb, rules}
 use Rattle.cad_syntax.specs.declared.token.Token.{Token}
 use Rattle.cad_syntax.specs.Lexes.{Stops}
 use Rattle.cad_lex.specs.Reading.{seen, gap}
@@ -37,11 +37,11 @@ returns-in_default-2-clause-place c n e =
     let same : length bytes - length c.loop-rest.rest.now ≡ n = cc in
     let no_gap : gap c.loop-rest.rest.now ≡ None = sym c.gap.ensures ∙ ap (option_map seen) c.in_default-gap.is in
     subst (Stops bytes) same
-      (read_stops bytes _ _ _ c.loop-rest.invariant (λ h. omega (arith, false-eqb _ 0 c.loop-rest-test.ensures)) no_gap (sym c.in_ok-kind.ensures ∙ ap (option_map seen) c.in_default-2.is))
+    (read_stops bytes _ _ _ c.loop-rest.invariant (λ h. omega (arith, false-eqb _ 0 c.loop-rest-test.ensures)) no_gap (sym c.in_ok-kind.ensures ∙ ap (option_map seen) c.in_default-2.is))
 
 pub returns-in_default-2-clause-none : goal.returns-in_default-2-clause-none
 returns-in_default-2-clause-none c n e tokens =
     let bytes = c.args.bytes.now in
     let no_gap : gap c.loop-rest.rest.now ≡ None = sym c.gap.ensures ∙ ap (option_map seen) c.in_default-gap.is in
     stops_alone bytes _ tokens
-      (read_stops bytes _ _ _ c.loop-rest.invariant (λ h. omega (arith, false-eqb _ 0 c.loop-rest-test.ensures)) no_gap (sym c.in_ok-kind.ensures ∙ ap (option_map seen) c.in_default-2.is))
+    (read_stops bytes _ _ _ c.loop-rest.invariant (λ h. omega (arith, false-eqb _ 0 c.loop-rest-test.ensures)) no_gap (sym c.in_ok-kind.ensures ∙ ap (option_map seen) c.in_default-2.is))

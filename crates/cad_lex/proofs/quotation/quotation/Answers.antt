@@ -1,5 +1,4 @@
-use Rattle.std.proofs.Common.{◌≡◌, ◌≤◌, ℕ, List, length, get_or, drop, take, Some, option_map, sym, ap, ◌∙◌, arith}
-use Rattle.std.proofs.lemmas.Bool.Decides.{nat_tests}
+use Rattle.std.proofs.Common.{◌≡◌, get_or, drop, Some, option_map, sym, ap, ◌∙◌}
 use Rattle.cad_lex.specs.Reading.{escape, seen}
 use Rattle.cad_lex.proofs.Quotes.{next_turn, next_utf8, whole_tail}
 use Rattle.cad_lex.proofs.quotation.quotation.Goals as goal
