@@ -19,8 +19,8 @@ pub data Dotted : Spot → List Name → Spot → Type 0 where
   further : {p q r t : Spot} {n : Name} {names : List Name} → name p ≡ Some (n, q) → after s.Dot q ≡ Some r → Dotted r names t → Dotted p (n ∷ names) t
 
 -- "." Name
-unfoldable pub further : Spot → Option (Name × Spot)
-further p = after s.Dot p >>= name
+unfoldable pub dot_name : Spot → Option (Name × Spot)
+dot_name p = after s.Dot p >>= name
 
 -- Dotted { "|" Dotted } ")"
 pub data Alternatives : Spot → List (List Name) → Spot → Type 0 where
@@ -70,7 +70,7 @@ mutual
     intersection : {p q r : Spot} {all : List (List Name)} → opening s.OpenBrace p ≡ Some q → Intersected q all r → ReadsCore p (tree.intersection all) (back p r)
     -- Dotted, all of it, where no "<" follows
     named : {p q : Spot} {n : List Name}
-        → Dotted p n q → further q ≡ None → after s.Less q ≡ None → ReadsCore p (tree.named n tree.no_annotations) q
+        → Dotted p n q → dot_name q ≡ None → after s.Less q ≡ None → ReadsCore p (tree.named n tree.no_annotations) q
     -- Dotted "<" TypeAnnotation { "," TypeAnnotation } ">"
     applied : {p q r u : Spot} {n : List Name} {a : Annotation} {all : List Annotation}
         → Dotted p n q → opening s.Less q ≡ Some r → AnnotationList r (a ∷ all) u → ReadsCore p (tree.named n (annotations_of (a ∷ all))) (back q u)
