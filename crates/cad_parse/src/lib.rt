@@ -2,7 +2,11 @@
 #![tactic(auto)]
 
 mod access;
+mod contract;
+mod declaration;
 mod function;
+mod member;
+mod program;
+mod transaction;
 
-pub use access::accessed;
-pub use function::{conditions_behind, function_block, labelled, parameter, parameters};
+pub use program::{ParseStop, parse_program};
