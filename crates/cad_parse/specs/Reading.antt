@@ -155,18 +155,22 @@ blocked p = function_block p >>= (λ b. Some (Some b.0, b.1))
 unfoldable pub maybe_blocked : Reader (Option FunctionBlockTree)
 maybe_blocked p = either (after s.OpenBrace p) (λ q. blocked p) (Some (None, p))
 
--- behind the access
-unfoldable pub function_with : Reader (Option FunctionBlockTree) → Access → Reader FunctionTree
-function_with block c p = do
+-- the block of a function in an interface, or elsewhere
+unfoldable pub block_of : Bool → Reader (Option FunctionBlockTree)
+block_of in_interface p = if in_interface then maybe_blocked p else blocked p
+
+-- behind the access c
+unfoldable pub function_with : Bool → Access → Reader FunctionTree
+function_with in_interface c p = do
   v ← viewed k.Fun p
   n ← name v.1
   all ← parameters n.1
   a ← maybe_annotated all.1
-  b ← block a.1
+  b ← block_of in_interface a.1
   Some (record { access = c; is_view = v.0; name = n.0; parameters = all.0; result = a.0; block = b.0 }, b.1)
 
 abbrev pub function : Access → Reader FunctionTree
-function = function_with blocked
+function = function_with false
 
 -- behind `init`
 unfoldable pub initializer : Bool → Reader InitTree
@@ -245,7 +249,7 @@ unsorted c n p = do
 unfoldable pub interface_member_with : Access → Reader InterfaceMemberTree
 interface_member_with c p = either (variable_word p) (λ x. field c x.0 x.1 >>= (λ y. Some (tree.interface_field y.0, y.1)))
     (either (labelled p) (λ n. unsorted c n.0 n.1)
-    (function_with maybe_blocked c p >>= (λ y. Some (tree.interface_function y.0, y.1))))
+    (function_with true c p >>= (λ y. Some (tree.interface_function y.0, y.1))))
 
 unfoldable pub interface_member : Reader InterfaceMemberTree
 interface_member p = accessed p >>= (λ c. interface_member_with c.0 c.1)

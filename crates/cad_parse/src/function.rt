@@ -1,5 +1,5 @@
 // Parameters, conditions, blocks, functions and initializers.
-ghost use Rattle.std.specs.Prelude.{◌≡◌, Bool, IfOk, option_map};
+ghost use Rattle.std.specs.Prelude.{◌≡◌, [], length, IfOk, option_map};
 ghost use Rattle.cad_syntax.specs.declared.token.Sign.TheVariants as s;
 ghost use Rattle.cad_grammar.specs.Spots as spots;
 ghost use Rattle.cad_grammar.specs.StatementGrammar as statement;
@@ -83,7 +83,7 @@ fn parameter_list(
     alloc: Global,
     spot: Spot<'_>,
 ) -> Result<Option<(Vec<Parameter>, Spot<'_>)>, AllocError>
-    ensures { IfOk result (λ o. option_map (seen_with parameters_in) o ≡ spec.parameter_list (seen spot.entry)) }
+    ensures { IfOk result (λ o. option_map (seen_with parameters_in) o ≡ types.listed spec.parameter s.CloseParenthesis (length spot.entry.tokens.now) [] (seen spot.entry)) }
 {
     let mut found = Vec::new(alloc);
     let mut here = spot;
@@ -107,7 +107,7 @@ fn parameter_list(
 }
 
 /// The parameters that begin at a spot with their `(`, and the spot behind their `)`; None where none begin.
-#[tactic(auto, unfolding(crate::specs::Reading::parameters))]
+#[tactic(auto, unfolding(crate::specs::Reading::parameters, cad_parse_type::specs::Views::seen))]
 pub fn parameters(
     alloc: Global,
     spot: Spot<'_>,
@@ -266,7 +266,7 @@ fn condition_list(
     alloc: Global,
     spot: Spot<'_>,
 ) -> Result<Option<(Conditions, Spot<'_>)>, AllocError>
-    ensures { IfOk result (λ o. option_map (seen_with conditions_in) o ≡ spec.condition_list (seen spot.entry)) }
+    ensures { IfOk result (λ o. option_map (seen_with conditions_in) o ≡ spec.repeated spec.parted_condition s.CloseBrace (length spot.entry.tokens.now) [] (seen spot.entry)) }
 {
     let mut found = Vec::new(alloc);
     let mut here = spot;
@@ -283,7 +283,7 @@ fn condition_list(
     Ok(None)
 }
 
-#[tactic(auto, unfolding(crate::specs::Reading::conditions))]
+#[tactic(auto, unfolding(crate::specs::Reading::conditions, cad_parse_type::specs::Views::seen))]
 fn conditions(
     alloc: Global,
     spot: Spot<'_>,
@@ -342,4 +342,116 @@ pub fn function_block(
         return Ok(None);
     };
     Ok(Some((FunctionBlock { pre, post, body }, spot.back(end))))
+}
+
+#[tactic(auto, unfolding(crate::specs::Reading::blocked))]
+fn blocked(
+    alloc: Global,
+    spot: Spot<'_>,
+) -> Result<Option<(Option<FunctionBlock>, Spot<'_>)>, AllocError>
+    ensures { IfOk result (λ o. option_map (seen_with maybe_block_of) o ≡ spec.blocked (seen spot.entry)) }
+{
+    let Some((block, end)) = function_block(alloc, spot)? else {
+        return Ok(None);
+    };
+    Ok(Some((Some(block), end)))
+}
+
+#[tactic(auto, unfolding(crate::specs::Reading::maybe_blocked))]
+fn maybe_blocked(
+    alloc: Global,
+    spot: Spot<'_>,
+) -> Result<Option<(Option<FunctionBlock>, Spot<'_>)>, AllocError>
+    ensures { IfOk result (λ o. option_map (seen_with maybe_block_of) o ≡ spec.maybe_blocked (seen spot.entry)) }
+{
+    match spot.after(Sign::OpenBrace) {
+        Some(_) => blocked(alloc, spot),
+        None => Ok(Some((None, spot))),
+    }
+}
+
+#[tactic(auto, unfolding(crate::specs::Reading::block_of))]
+fn block_of(
+    alloc: Global,
+    in_interface: bool,
+    spot: Spot<'_>,
+) -> Result<Option<(Option<FunctionBlock>, Spot<'_>)>, AllocError>
+    ensures { IfOk result (λ o. option_map (seen_with maybe_block_of) o ≡ spec.block_of in_interface (seen spot.entry)) }
+{
+    if in_interface {
+        maybe_blocked(alloc, spot)
+    } else {
+        blocked(alloc, spot)
+    }
+}
+
+/// Whether `view` comes next before this keyword, and the spot behind the keyword; None where neither stands there.
+#[tactic(auto, unfolding(cad_grammar::specs::ProgramGrammar::viewed))]
+pub fn viewed(keyword: Keyword, spot: Spot<'_>) -> Option<(bool, Spot<'_>)>
+    ensures { option_map (seen_with same) result ≡ grammar.viewed keyword (seen spot.entry) }
+{
+    match spot.word("view") {
+        Some(behind) => Some((true, behind.keyword(keyword)?)),
+        None => Some((false, spot.keyword(keyword)?)),
+    }
+}
+
+/// The function that begins behind its access, in an interface or elsewhere, and the spot behind it; None where none begins.
+/// In an interface it may have no block.
+#[tactic(auto, unfolding(crate::specs::Reading::function_with))]
+pub fn function<'a>(
+    alloc: Global,
+    in_interface: bool,
+    access: Access,
+    spot: Spot<'a>,
+) -> Result<Option<(Function, Spot<'a>)>, AllocError>
+    ensures { IfOk result (λ o. option_map (seen_with function_of) o ≡ spec.function_with in_interface access (seen spot.entry)) }
+{
+    let Some((is_view, spot)) = viewed(Keyword::Fun, spot) else {
+        return Ok(None);
+    };
+    let Some((name, spot)) = spot.name() else {
+        return Ok(None);
+    };
+    let Some((parameters, spot)) = parameters(alloc, spot)? else {
+        return Ok(None);
+    };
+    let Some((result, spot)) = maybe_annotated(alloc, spot)? else {
+        return Ok(None);
+    };
+    let Some((block, spot)) = block_of(alloc, in_interface, spot)? else {
+        return Ok(None);
+    };
+    let function = Function {
+        access,
+        is_view,
+        name: name.clone()?,
+        parameters,
+        result,
+        block,
+    };
+    Ok(Some((function, spot)))
+}
+
+/// The initializer that begins behind its `init`, and the spot behind its block; None where none begins.
+#[tactic(auto, unfolding(crate::specs::Reading::initializer))]
+pub fn initializer(
+    alloc: Global,
+    is_view: bool,
+    spot: Spot<'_>,
+) -> Result<Option<(Init, Spot<'_>)>, AllocError>
+    ensures { IfOk result (λ o. option_map (seen_with init_of) o ≡ spec.initializer is_view (seen spot.entry)) }
+{
+    let Some((parameters, spot)) = parameters(alloc, spot)? else {
+        return Ok(None);
+    };
+    let Some((block, spot)) = function_block(alloc, spot)? else {
+        return Ok(None);
+    };
+    let init = Init {
+        is_view,
+        parameters,
+        block,
+    };
+    Ok(Some((init, spot)))
 }

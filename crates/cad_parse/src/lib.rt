@@ -2,6 +2,7 @@
 #![tactic(auto)]
 
 mod access;
+mod composite;
 mod contract;
 mod declaration;
 mod function;
