@@ -114,14 +114,13 @@ fn event_parameter_list(
             return Ok(None);
         };
         found.push(item)?;
-        if let Some(next) = here.resumed(Sign::Comma, behind) {
-            here = next;
-        } else {
-            return match here.resumed(Sign::CloseParenthesis, behind) {
-                Some(end) => Ok(Some((found, end))),
-                None => Ok(None),
+        let Some(next) = here.resumed(Sign::Comma, behind) else {
+            let Some(end) = here.resumed(Sign::CloseParenthesis, behind) else {
+                return Ok(None);
             };
-        }
+            return Ok(Some((found, end)));
+        };
+        here = next;
     }
     Ok(None)
 }

@@ -5,5 +5,5 @@ use Rattle.cad_parse.proofs.declaration.imported.Given as goal
 
 abbrev pub invariant-loop-turn : goal.invariant-loop-turn
 invariant-loop-turn l =
-    imported (length l.spot.tokens.now) l.fn.found (seen l.spot)
-    ≡ imported (l._turn-end - l._turn) l.found (seen l.here)
+    imported (length l.spot.tokens.now) l.fn.names (seen l.spot)
+    ≡ imported (l._turn-end - l._turn) l.names (seen l.here)
