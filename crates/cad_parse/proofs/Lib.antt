@@ -1,2 +1,4 @@
 pub mod Chains
+pub mod MemberLaws
 pub mod Programs
+mod Turns
