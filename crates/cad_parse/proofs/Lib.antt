@@ -1,6 +1,7 @@
 pub mod Chains
-mod Firsts
+pub mod CompositeLaws
+pub mod Firsts
 pub mod MemberLaws
 pub mod Programs
-mod RepeatedLaws
+pub mod RepeatedLaws
 mod Turns

@@ -11,6 +11,10 @@ use Rattle.cad_parse_type.proofs.Climbs.{then_is, either_is, either_not, IfFound
 use Rattle.cad_parse_type.proofs.ListLaws.{IsSound}
 use Rattle.cad_parse.specs.Reading.{repeated}
 
+-- what is found there is spelled
+abbrev pub As : {A : Type 0} → (Spot → A → Spot → Type 0) → Spot → A × Spot → Type 0
+As Item p x = Item p x.0 x.1
+
 -- what the reader of items gives, behind those that were found before
 abbrev pub RepeatedAs : {A : Type 0} → (Spot → A → Spot → Type 0) → Sign → List A → Spot → List A × Spot → Type 0
 RepeatedAs {A} Item closing found p x = (all : List A) × (x.0 ≡ found ++ all) × Repeated Item closing p all x.1
