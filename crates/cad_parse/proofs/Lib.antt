@@ -1,5 +1,6 @@
 pub mod Chains
 pub mod CompositeLaws
+pub mod ContractLaws
 pub mod EnumLaws
 pub mod Firsts
 pub mod MemberLaws
