@@ -1,5 +1,5 @@
 -- Composites and interfaces: what is read is spelled, and what is spelled is read.
-use Rattle.std.proofs.Common.{◌≡◌, ◌⊎◌, inl, inr, ℕ, ◌<◌, ◌≤◌, Bool, List, [], ◌∷◌, length, codes, Option, Some, None, refl, sym, ap, ◌∙◌, arith}
+use Rattle.std.proofs.Common.{◌≡◌, ◌⊎◌, inl, inr, ◌<◌, List, [], ◌∷◌, length, Option, Some, None, refl, sym, ap, ◌∙◌, arith}
 use Rattle.cad_syntax.specs.declared.token.Sign.TheVariants as s
 use Rattle.cad_syntax.specs.declared.token.Keyword.TheVariants as k
 use Rattle.cad_syntax.specs.declared.token.TokenKind.TheVariants as kind
@@ -8,8 +8,7 @@ use Rattle.cad_grammar.specs.declared.declaration.Access.{Access}
 use Rattle.cad_grammar.specs.declared.declaration.CompositeKind.{CompositeKind}
 use Rattle.cad_grammar.specs.Trees as tree
 use Rattle.cad_grammar.specs.Trees.{FunctionBlockTree, FunctionTree, InitTree, FieldTree, EventParameterTree, EventTree, CompositeMemberTree, CompositeTree, InterfaceMemberTree, InterfaceTree}
-use Rattle.cad_grammar.specs.Spots.{Spot, back, read, then, either, after, keyword, name, opened, opening}
-use Rattle.cad_grammar.specs.Lists.{Repeated}
+use Rattle.cad_grammar.specs.Spots.{Spot, read, after, keyword, name, opened, opening}
 use Rattle.cad_grammar.specs.Levels.{token_strength}
 use Rattle.cad_grammar.specs.StatementGrammar.{variable_word, variable_kind_of}
 use Rattle.cad_grammar.specs.ProgramGrammar.{composite_kind_of, viewed, ReadsAccess, FunctionWith, ReadsFunction, ReadsInit, ReadsField, ReadsInterfaceField, EventHead, ReadsEvent, ReadsCompositeMember, ReadsInterfaceMember, Conforms, Conforming, ReadsComposite, ReadsInterface}
@@ -21,7 +20,7 @@ use Rattle.cad_parse_type.proofs.Climbs.{then_is, either_is, either_not, IfFound
 use Rattle.cad_parse_type.proofs.ListLaws.{IsSound, listed_shorter}
 use Rattle.cad_parse.specs.Reading as r
 use Rattle.cad_parse.proofs.MemberLaws.{MemberLaws, FieldRead, FunctionRead, OpenEventRead, DestructionRead, InitRead}
-use Rattle.cad_parse.proofs.Firsts.{Begins, begins_weak, begins_no_sign, not_keyword, keyword_begins, View, viewed_is, view_begins, view_no_keyword, view_no_read, composite_no_variable}
+use Rattle.cad_parse.proofs.Firsts.{Begins, begins_weak, begins_no_sign, not_keyword, keyword_begins, viewed_is, view_begins, view_no_keyword, view_no_read}
 use Rattle.cad_parse.proofs.RepeatedLaws.{As, ItemLaws, repeated_sound, repeated_shorter, repeated_exact}
 
 module _ (types : TypeLaws) (members : MemberLaws) where
@@ -187,8 +186,14 @@ module _ (types : TypeLaws) (members : MemberLaws) where
 
   pub composite_shorter : {p q : Spot} {x : CompositeTree} → ReadsComposite p x q → length q.tokens < length p.tokens
   composite_shorter (g.composite {p} {q} {r = u} {u = v} {v = w} {w = z} d e n c all) =
-      omega (arith, members.access_shorter d, read_shorter composite_kind_of q _ e, name_shorter u _ n, conforming_shorter c,
-      repeated_shorter ReadsCompositeMember r.composite_member s.CloseBrace composite_member_laws (λ b. refl) all)
+      omega (
+        arith,
+        members.access_shorter d,
+        read_shorter composite_kind_of q _ e,
+        name_shorter u _ n,
+        conforming_shorter c,
+        repeated_shorter ReadsCompositeMember r.composite_member s.CloseBrace composite_member_laws (λ b. refl) all,
+      )
 
   pub composite_begins : {p q : Spot} {x : CompositeTree} → ReadsComposite p x q → Begins p
   composite_begins (g.composite d e n c all) = access_begins d
@@ -230,8 +235,15 @@ module _ (types : TypeLaws) (members : MemberLaws) where
 
   pub interface_shorter : {p q : Spot} {x : InterfaceTree} → ReadsInterface p x q → length q.tokens < length p.tokens
   interface_shorter (g.interface {p} {q} {r = u} {u = v} {v = w} {w = y} {x = z} d e f n c all) =
-      omega (arith, members.access_shorter d, read_shorter composite_kind_of q _ e, keyword_shorter k.Interface u v f, name_shorter v _ n, conforming_shorter c,
-      repeated_shorter ReadsInterfaceMember r.interface_member s.CloseBrace interface_member_laws (λ b. refl) all)
+      omega (
+        arith,
+        members.access_shorter d,
+        read_shorter composite_kind_of q _ e,
+        keyword_shorter k.Interface u v f,
+        name_shorter v _ n,
+        conforming_shorter c,
+        repeated_shorter ReadsInterfaceMember r.interface_member s.CloseBrace interface_member_laws (λ b. refl) all,
+      )
 
   pub interface_begins : {p q : Spot} {x : InterfaceTree} → ReadsInterface p x q → Begins p
   interface_begins (g.interface d e f n c all) = access_begins d

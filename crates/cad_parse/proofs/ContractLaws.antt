@@ -1,17 +1,15 @@
 -- Contracts: what is read is spelled, and what is spelled is read.
-use Rattle.std.proofs.Common.{◌≡◌, ◌⊎◌, inl, inr, ℕ, ◌<◌, ◌≤◌, Bool, List, [], ◌∷◌, length, codes, Option, Some, None, refl, sym, ap, ◌∙◌, arith}
+use Rattle.std.proofs.Common.{◌≡◌, ◌⊎◌, inl, inr, ◌<◌, length, codes, Some, None, refl, ◌∙◌, arith}
 use Rattle.cad_syntax.specs.declared.token.Sign.TheVariants as s
 use Rattle.cad_syntax.specs.declared.token.Keyword.{Keyword}
 use Rattle.cad_syntax.specs.declared.token.Keyword.TheVariants as k
 use Rattle.cad_syntax.specs.declared.token.TokenKind.TheVariants as kind
-use Rattle.cad_syntax.specs.declared.text.Name.{Name}
 use Rattle.cad_grammar.specs.declared.declaration.Access.{Access}
 use Rattle.cad_grammar.specs.declared.declaration.CompositeKind.{CompositeKind}
 use Rattle.cad_grammar.specs.declared.declaration.Entitlement.{Entitlement}
 use Rattle.cad_grammar.specs.Trees as tree
 use Rattle.cad_grammar.specs.Trees.{FunctionTree, InitTree, FieldTree, EventTree, CompositeTree, InterfaceTree, EnumTree, MappingTree, ContractMemberTree, ContractTree}
-use Rattle.cad_grammar.specs.Spots.{Spot, back, read, then, either, after, keyword, word, name, opening}
-use Rattle.cad_grammar.specs.Lists.{Repeated}
+use Rattle.cad_grammar.specs.Spots.{Spot, read, keyword, word, name, opening}
 use Rattle.cad_grammar.specs.Levels.{token_strength}
 use Rattle.cad_grammar.specs.StatementGrammar.{variable_word, variable_kind_of}
 use Rattle.cad_grammar.specs.ProgramGrammar.{composite_kind_of, viewed, mapping_head, ReadsAccess, ReadsContractMember, ReadsContract}
@@ -21,9 +19,9 @@ use Rattle.cad_parse_type.proofs.Heads.{keyword_head, read_not, name_shorter, ke
 use Rattle.cad_parse_type.proofs.Climbs.{then_is, either_is, either_not, IfFound, then_found, either_found, found_is}
 use Rattle.cad_parse.specs.Reading as r
 use Rattle.cad_parse.proofs.MemberLaws.{MemberLaws, FieldRead, FunctionRead, OpenEventRead, DestructionRead, InitRead}
-use Rattle.cad_parse.proofs.Firsts.{Begins, begins_weak, begins_no_sign, not_keyword, word_head, word_no_keyword, View, viewed_is, view_no_keyword, view_no_word, view_no_read, composite_no_variable}
+use Rattle.cad_parse.proofs.Firsts.{Begins, begins_weak, begins_no_sign, not_keyword, word_head, word_no_keyword, viewed_is, view_no_keyword, view_no_word, view_no_read, composite_no_variable}
 use Rattle.cad_parse.proofs.RepeatedLaws.{As, ItemLaws, repeated_sound, repeated_shorter, repeated_exact}
-use Rattle.cad_parse.proofs.CompositeLaws.{access_begins, no_access, field_begins, function_begins, event_begins, init_begins, composite_begins, interface_begins}
+use Rattle.cad_parse.proofs.CompositeLaws.{no_access, field_begins, function_begins, event_begins, init_begins, composite_begins, interface_begins}
 use Rattle.cad_parse.proofs.CompositeLaws.{composite_found, composite_shorter, CompositeRead, composite_exact, interface_found, interface_shorter, InterfaceRead, interface_exact}
 use Rattle.cad_parse.proofs.EnumLaws.{enumeration_found, enumeration_shorter, enumeration_begins, EnumRead, enumeration_exact}
 use Rattle.cad_parse.proofs.EnumLaws.{mapping_found, mapping_shorter, mapping_begins, MappingRead, mapping_exact, entitlement_found, entitlement_shorter, entitlement_begins, EntitlementRead, entitlement_exact}
@@ -213,8 +211,14 @@ module _ (types : TypeLaws) (members : MemberLaws) where
 
   pub contract_shorter : {p q : Spot} {x : ContractTree} → ReadsContract p x q → length q.tokens < length p.tokens
   contract_shorter (g.contract {p} {q} {r = u} {u = v} {v = w} {w = z} {c} {n} d e f o all) =
-      omega (arith, members.access_shorter d, keyword_shorter k.Contract q u e, name_shorter u (n, v) f, opening_shorter s.OpenBrace v w o,
-      repeated_shorter ReadsContractMember r.contract_member s.CloseBrace contract_member_laws (λ b. refl) all)
+      omega (
+        arith,
+        members.access_shorter d,
+        keyword_shorter k.Contract q u e,
+        name_shorter u (n, v) f,
+        opening_shorter s.OpenBrace v w o,
+        repeated_shorter ReadsContractMember r.contract_member s.CloseBrace contract_member_laws (λ b. refl) all,
+      )
 
   pub contract_begins : {p q : Spot} {x : ContractTree} → ReadsContract p x q → (c : Access) × (u : Spot) × ReadsAccess p c u
   contract_begins (g.contract {q} {c} d e f o all) = (c, q, d)

@@ -1,21 +1,22 @@
 -- Declarations: what is read is spelled, and what is spelled is read.
-use Rattle.std.proofs.Common.{◌≡◌, ℕ, ◌<◌, ◌≤◌, List, length, Option, Some, None, refl, sym, ap, ◌∙◌, arith}
+use Rattle.std.proofs.Common.{◌≡◌, ◌<◌, length, Some, None, ◌∙◌}
 use Rattle.cad_syntax.specs.declared.token.Keyword.{Keyword}
 use Rattle.cad_syntax.specs.declared.token.Keyword.TheVariants as k
 use Rattle.cad_grammar.specs.declared.declaration.Access.{Access}
+use Rattle.cad_grammar.specs.declared.declaration.Import.{Import}
 use Rattle.cad_grammar.specs.Trees as tree
 use Rattle.cad_grammar.specs.Trees.{FunctionTree, ContractTree, TransactionTree, DeclTree}
-use Rattle.cad_grammar.specs.Spots.{Spot, then, either, keyword}
-use Rattle.cad_grammar.specs.ProgramGrammar.{ReadsAccess, ReadsFunction, ReadsContract, ReadsTransaction, ReadsDecl}
+use Rattle.cad_grammar.specs.Spots.{Spot, keyword}
+use Rattle.cad_grammar.specs.ProgramGrammar.{ReadsAccess, ReadsFunction, ReadsContract, ReadsTransaction, ReadsDecl, ReadsImport}
 use Rattle.cad_grammar.specs.ProgramGrammar as g
 use Rattle.cad_parse_type.proofs.TypeLaws.{TypeLaws}
 use Rattle.cad_parse_type.proofs.Heads.{keyword_head}
 use Rattle.cad_parse_type.proofs.Climbs.{Shrinks, then_is, then_not, either_is, either_not, IfFound, then_found, either_found, found_is}
-use Rattle.cad_parse_type.proofs.ListLaws.{IsSound}
 use Rattle.cad_parse_statement.proofs.StatementLaws.{StatementLaws}
 use Rattle.cad_parse.specs.Reading as r
 use Rattle.cad_parse.proofs.MemberLaws.{MemberLaws, FunctionRead}
 use Rattle.cad_parse.proofs.Firsts.{not_keyword, viewed_is, view_no_keyword}
+use Rattle.cad_parse.proofs.Programs.{DeclarationLaws}
 use Rattle.cad_parse.proofs.RepeatedLaws.{As}
 use Rattle.cad_parse.proofs.ContractLaws.{contract_found, contract_shorter, contract_begins, ContractRead, contract_exact}
 use Rattle.cad_parse.proofs.TransactionLaws.{transaction_found, transaction_shorter, transaction_word, TransactionRead, transaction_exact}
@@ -92,3 +93,16 @@ module _ (types : TypeLaws) (statements : StatementLaws) (members : MemberLaws) 
   -- no import begins where a declaration does
   pub no_import : (p : Spot) (d : DeclTree) (q : Spot) → ReadsDecl p d q → r.import p ≡ None
   no_import p d q w = import_lacks p (not_imported w)
+
+  -- with the laws of imports, all that programs need
+  pub declaration_laws : ((p : Spot) (x : Import × Spot) → r.import p ≡ Some x → ReadsImport p x.0 x.1) → ((p : Spot) (i : Import) (q : Spot) → ReadsImport p i q → r.import p ≡ Some (i, q))
+      → Shrinks r.import → DeclarationLaws
+  declaration_laws sound exact shorter = record {
+    import_sound = sound;
+    import_exact = exact;
+    import_shorter = shorter;
+    declaration_sound = declaration_sound;
+    declaration_exact = declaration_exact;
+    declaration_shorter = declaration_shorter;
+    no_import = no_import;
+  }

@@ -1,5 +1,5 @@
 -- Enums, entitlements and mappings: what is read is spelled, and what is spelled is read.
-use Rattle.std.proofs.Common.{◌≡◌, ℕ, ◌<◌, ◌≤◌, Bool, List, [], ◌∷◌, length, codes, Option, Some, None, refl, sym, ap, ◌∙◌, arith}
+use Rattle.std.proofs.Common.{◌≡◌, ℕ, ◌<◌, List, ◌∷◌, length, codes, Option, Some, None, refl, sym, ap, ◌∙◌, arith}
 use Rattle.cad_syntax.specs.declared.token.Sign.{Sign}
 use Rattle.cad_syntax.specs.declared.token.Sign.TheVariants as s
 use Rattle.cad_syntax.specs.declared.token.Keyword.TheVariants as k
@@ -13,8 +13,7 @@ use Rattle.cad_grammar.specs.declared.declaration.Entitlement.{Entitlement}
 use Rattle.cad_grammar.specs.declared.declaration.MappingItem.{MappingItem}
 use Rattle.cad_grammar.specs.declared.declaration.MappingItem.TheVariants as mapping_item
 use Rattle.cad_grammar.specs.Trees.{EnumTree, MappingTree}
-use Rattle.cad_grammar.specs.Spots.{Spot, back, then, either, after, keyword, word, name, opening}
-use Rattle.cad_grammar.specs.Lists.{Repeated}
+use Rattle.cad_grammar.specs.Spots.{Spot, after, keyword, word, name, opening}
 use Rattle.cad_grammar.specs.Levels.{token_strength}
 use Rattle.cad_grammar.specs.TypeGrammar.{Dotted}
 use Rattle.cad_grammar.specs.TypeGrammar as types_of
@@ -24,7 +23,6 @@ use Rattle.cad_parse_type.specs.Reading.{dotted}
 use Rattle.cad_parse_type.proofs.TypeLaws.{TypeLaws}
 use Rattle.cad_parse_type.proofs.Heads.{none_of, some_same, then_some, head, head_of, next_taken, read_taken, name_head, after_head, other, not_after, opening_head, weak_after, after_shorter, name_shorter, next_shorter, keyword_shorter, opening_shorter}
 use Rattle.cad_parse_type.proofs.Climbs.{then_is, either_is, either_not, IfFound, then_found, either_found, found_is}
-use Rattle.cad_parse_type.proofs.ListLaws.{IsSound}
 use Rattle.cad_parse.specs.Reading as r
 use Rattle.cad_parse.proofs.MemberLaws.{MemberLaws}
 use Rattle.cad_parse.proofs.Firsts.{Begins, begins_weak, begins_no_sign, named_begins, word_head}
@@ -109,8 +107,16 @@ module _ (types : TypeLaws) (members : MemberLaws) where
 
   pub enumeration_shorter : {p q : Spot} {x : EnumTree} → ReadsEnum p x q → length q.tokens < length p.tokens
   enumeration_shorter (g.enumeration {p} {q} {r = u} {u = v} {v = w} {w = y} {x = z} {y = end} d e n f raw o all) =
-      omega (arith, members.access_shorter d, keyword_shorter k.Enum q u e, name_shorter u _ n, after_shorter s.Colon v w f, types.dotted_shorter raw, opening_shorter s.OpenBrace y z o,
-      repeated_shorter ReadsEnumCase r.enum_case s.CloseBrace enum_case_laws (λ b. refl) all)
+      omega (
+        arith,
+        members.access_shorter d,
+        keyword_shorter k.Enum q u e,
+        name_shorter u _ n,
+        after_shorter s.Colon v w f,
+        types.dotted_shorter raw,
+        opening_shorter s.OpenBrace y z o,
+        repeated_shorter ReadsEnumCase r.enum_case s.CloseBrace enum_case_laws (λ b. refl) all,
+      )
 
   pub enumeration_begins : {p q : Spot} {x : EnumTree} → ReadsEnum p x q → Begins p
   enumeration_begins (g.enumeration d e n f raw o all) = access_begins types members d

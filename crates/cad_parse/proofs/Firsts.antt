@@ -1,6 +1,5 @@
 -- The first token of a declaration and of a member.
-use Rattle.std.proofs.Common.{◌≡◌, ◌⊎◌, inl, inr, ℕ, ◌<◌, ◌≤◌, Bool, true, false, ◌==◌, List, [], ◌∷◌, length, codes, Option, Some, None, refl, sym, ap, ◌∙◌, arith}
-use Rattle.std.specs.Cmp.Lexicographic.{pointwise}
+use Rattle.std.proofs.Common.{◌≡◌, ◌⊎◌, inl, inr, ℕ, Bool, true, false, ◌==◌, List, codes, Option, Some, None, refl, sym, ap, ◌∙◌}
 use Rattle.cad_syntax.specs.declared.token.Sign.{Sign}
 use Rattle.cad_syntax.specs.declared.token.Keyword.{Keyword}
 use Rattle.cad_syntax.specs.declared.token.Keyword.TheVariants as k
@@ -10,12 +9,11 @@ use Rattle.cad_syntax.specs.declared.text.Name.{Name}
 use Rattle.cad_syntax.proofs.Same.{lists_tell, numbers_tell}
 use Rattle.cad_grammar.specs.declared.statement.VariableKind.{VariableKind}
 use Rattle.cad_grammar.specs.declared.declaration.CompositeKind.{CompositeKind}
-use Rattle.cad_grammar.specs.Spots.{Spot, then, either, is_word, after, keyword, word, name, read}
+use Rattle.cad_grammar.specs.Spots.{Spot, then, either, is_word, after, keyword, word, read}
 use Rattle.cad_grammar.specs.Levels.{kind_strength, token_strength}
 use Rattle.cad_grammar.specs.StatementGrammar.{variable_word, variable_kind_of}
 use Rattle.cad_grammar.specs.ProgramGrammar.{viewed, composite_kind_of}
-use Rattle.cad_parse_type.proofs.Heads.{none_of, some_same, then_some, head, head_of, next_taken, head_strength, read_head, read_not, keyword_head, name_head, after_head, name_no_sign, keyword_no_sign, next_shorter, keyword_shorter}
-use Rattle.cad_parse_type.proofs.Climbs.{cases_of, either_is, either_not, then_is, then_not}
+use Rattle.cad_parse_type.proofs.Heads.{none_of, some_same, then_some, head, head_of, next_taken, head_strength, read_head, read_not, keyword_head, after_head}
 
 -- a keyword or a name comes next that goes on nothing
 pub record Begins (p : Spot) : Type 0 where

@@ -1,5 +1,5 @@
 -- Transactions: what is read is spelled, and what is spelled is read.
-use Rattle.std.proofs.Common.{◌≡◌, ℕ, zero, suc, ◌<◌, ◌≤◌, Bool, List, [], ◌∷◌, ◌++◌, length, Option, Some, None, refl, sym, ap, ◌∙◌, subst, arith, append-nil, append_assoc}
+use Rattle.std.proofs.Common.{◌≡◌, ℕ, zero, suc, ◌<◌, ◌≤◌, Bool, List, [], ◌∷◌, ◌++◌, length, Option, Some, refl, sym, ap, ◌∙◌, subst, arith, append-nil, append_assoc}
 use Rattle.cad_syntax.specs.declared.token.Sign.TheVariants as s
 use Rattle.cad_syntax.specs.declared.token.Keyword.{Keyword}
 use Rattle.cad_syntax.specs.declared.token.Keyword.TheVariants as k
@@ -7,7 +7,7 @@ use Rattle.cad_syntax.specs.declared.token.TokenKind.TheVariants as kind
 use Rattle.cad_syntax.specs.declared.text.Name.{Name}
 use Rattle.cad_grammar.specs.declared.statement.VariableKind.{VariableKind}
 use Rattle.cad_grammar.specs.Trees.{Annotation, ParameterTree, StmtTree, TransactionFieldTree, PrepareTree, TransactionTree}
-use Rattle.cad_grammar.specs.Spots.{Spot, back, then, either, after, keyword, name, opening}
+use Rattle.cad_grammar.specs.Spots.{Spot, after, keyword, opening}
 use Rattle.cad_grammar.specs.Lists.{Maybe}
 use Rattle.cad_grammar.specs.Lists as l
 use Rattle.cad_grammar.specs.Levels.{kind_strength, token_strength}
@@ -18,7 +18,7 @@ use Rattle.cad_parse_type.specs.Reading.{Reader, annotation}
 use Rattle.cad_parse_type.proofs.TypeLaws.{TypeLaws}
 use Rattle.cad_parse_type.proofs.Heads.{none_of, keyword_head, head_strength, after_strength, opening_is, after_shorter, name_shorter, read_shorter, keyword_shorter, opening_shorter}
 use Rattle.cad_parse_type.proofs.Climbs.{then_is, either_is, either_not, IfFound, then_found, either_found, found_is, found_weaker}
-use Rattle.cad_parse_type.proofs.ListLaws.{IsSound, IsRead, maybe_sound, maybe_exact, maybe_short}
+use Rattle.cad_parse_type.proofs.ListLaws.{IsRead, maybe_sound, maybe_exact, maybe_short}
 use Rattle.cad_parse_statement.specs.Reading.{block_in}
 use Rattle.cad_parse_statement.proofs.StatementLaws.{StatementLaws}
 use Rattle.cad_parse.specs.Reading as r
@@ -179,8 +179,18 @@ module _ (types : TypeLaws) (statements : StatementLaws) (members : MemberLaws) 
 
   pub transaction_shorter : {p q : Spot} {x : TransactionTree} → ReadsTransaction p x q → length q.tokens < length p.tokens
   transaction_shorter (g.transaction {p} {q} {r = t} {u} {z} {end} e ps o fs pr pre ex post c) =
-      omega (arith, keyword_shorter k.Transaction p q e, maybe_parameters_short ps, opening_shorter s.OpenBrace t u o, fields_short fs, prepare_short pr, members.pre_shorter pre, execute_short ex,
-      members.post_shorter post, after_shorter s.CloseBrace z end c)
+      omega (
+        arith,
+        keyword_shorter k.Transaction p q e,
+        maybe_parameters_short ps,
+        opening_shorter s.OpenBrace t u o,
+        fields_short fs,
+        prepare_short pr,
+        members.pre_shorter pre,
+        execute_short ex,
+        members.post_shorter post,
+        after_shorter s.CloseBrace z end c,
+      )
 
   pub transaction_word : {p q : Spot} {x : TransactionTree} → ReadsTransaction p x q → (u : Spot) × (keyword k.Transaction p ≡ Some u)
   transaction_word (g.transaction {q} e ps o fs pr pre ex post c) = (q, e)
