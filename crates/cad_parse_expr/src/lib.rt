@@ -1,6 +1,9 @@
 //! Reading of expressions.
 #![tactic(auto)]
 
+mod leaf;
 mod reader;
+mod tail;
+mod word;
 
 pub use reader::expression;
