@@ -1,1 +1,5 @@
+mod Turns
+pub mod Heads
+pub mod Climbs
+pub mod ListLaws
 pub mod TypeLaws
