@@ -6,4 +6,4 @@ mod reader;
 mod tail;
 mod word;
 
-pub use reader::expression;
+pub use reader::{expression, expression_at};

@@ -1,17 +1,17 @@
 // What makes a longer expression of the one before it.
 ghost use Rattle.std.specs.Prelude.{◌≡◌, IfOk, option_map};
-ghost use Rattle.cad_grammar.specs.Views.{expr_of};
+ghost use Rattle.cad_grammar.specs.Views.{expr_of, type_of};
 ghost use Rattle.cad_grammar.specs.ExpressionGrammar as grammar;
 ghost use Rattle.cad_parse_expr.specs.Reading as spec;
 ghost use Rattle.cad_parse_expr.specs.Views.{tail_of};
 ghost use Rattle.cad_parse_type.specs.Views.{seen, seen_with, annotations_in};
 
-use crate::word::{cast_word, question, questions};
+use crate::word::cast_word;
 use cad_grammar::{
-    Argument, BinaryOperator, CastKind, Expr, TypeAnnotation, TypePosition,
+    Argument, BinaryOperator, CastKind, Expr, TypeAnnotation, TypeExpr, TypePosition,
 };
-use cad_parse_type::{Spot, annotation_at, arguments_at};
-use cad_syntax::{Name, Sign};
+use cad_parse_type::{Spot, annotation_at, arguments_at, question, questions, type_at};
+use cad_syntax::{Keyword, Name, Sign};
 use std::alloc::{AllocError, Global};
 
 #[derive(Debug, Drop)]
@@ -85,10 +85,10 @@ pub fn cast_tail(alloc: Global, spot: Spot<'_>) -> Result<Option<(Tail, Spot<'_>
     let Some((to, rest)) = annotation_at(alloc, TypePosition::BehindAs, rest)? else {
         return Ok(None);
     };
-    if question(rest).is_some() {
+    if question(TypePosition::BehindAs, rest).is_some() {
         return Ok(None);
     }
-    if questions(rest).is_some() {
+    if questions(TypePosition::BehindAs, rest).is_some() {
         return Ok(None);
     }
     Ok(Some((Tail::CastTo(kind, to), rest)))
@@ -121,4 +121,31 @@ pub fn force_tail(spot: Spot<'_>) -> Option<(Tail, Spot<'_>)>
 {
     let spot = spot.opened()?;
     Some((Tail::Forced, spot))
+}
+
+/// The type behind the `as` that comes next, and the spot behind it; None where there is none, and where a `?` follows that
+/// belongs to the type.
+#[tactic(auto, unfolding(crate::specs::Reading::as_type))]
+pub fn as_type(
+    alloc: Global,
+    spot: Spot<'_>,
+) -> Result<Option<(TypeExpr, Spot<'_>)>, AllocError>
+    ensures { IfOk result (λ o. option_map (seen_with type_of) o ≡ spec.as_type (seen spot.entry)) }
+{
+    let Some(rest) = spot.keyword(Keyword::As) else {
+        return Ok(None);
+    };
+    let Some(rest) = rest.opened() else {
+        return Ok(None);
+    };
+    let Some((to, rest)) = type_at(alloc, TypePosition::BehindAs, rest)? else {
+        return Ok(None);
+    };
+    if question(TypePosition::BehindAs, rest).is_some() {
+        return Ok(None);
+    }
+    if questions(TypePosition::BehindAs, rest).is_some() {
+        return Ok(None);
+    }
+    Ok(Some((to, rest)))
 }

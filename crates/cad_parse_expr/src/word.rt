@@ -1,14 +1,12 @@
 // Tests on the signs and words of expressions.
-ghost use Rattle.std.specs.Prelude.{◌≡◌, ◌==◌, not, option_map, codes};
-ghost use Rattle.std.specs.Cmp.Lexicographic.{pointwise};
+ghost use Rattle.std.specs.Prelude.{◌≡◌, option_map};
 ghost use Rattle.cad_grammar.specs.Levels as levels;
 ghost use Rattle.cad_grammar.specs.ExpressionGrammar as grammar;
-ghost use Rattle.cad_grammar.specs.declared.level.TypePosition.TheVariants as position;
 ghost use Rattle.cad_parse_type.specs.Views.{seen, seen_with, seen_name};
 
 use cad_grammar::{BinaryOperator, CastKind, Level, UnaryOperator};
 use cad_parse_type::Spot;
-use cad_syntax::{Domain, Keyword, Name, Sign, Token, TokenKind};
+use cad_syntax::{Domain, Keyword, Name, Sign, TokenKind};
 
 /// The next tighter level.
 pub fn tighter(level: Level) -> Level
@@ -193,70 +191,4 @@ pub fn label(spot: Spot<'_>) -> Option<(&Name, Spot<'_>)>
     let (name, rest) = spot.name()?;
     let rest = rest.after(Sign::Colon)?;
     Some((name, rest))
-}
-
-fn begins_expression(kind: &TokenKind) -> bool
-    ensures { result ≡ levels.begins_expression kind.now }
-{
-    match kind {
-        TokenKind::Sign(sign) => matches!(
-            sign,
-            Sign::Minus
-                | Sign::Bang
-                | Sign::Star
-                | Sign::Move
-                | Sign::Ampersand
-                | Sign::OpenParenthesis
-                | Sign::OpenBracket
-                | Sign::OpenBrace
-                | Sign::Slash
-        ),
-        TokenKind::Keyword(word) => matches!(
-            word,
-            Keyword::Destroy
-                | Keyword::True
-                | Keyword::False
-                | Keyword::Nil
-                | Keyword::Self_
-                | Keyword::Create
-        ),
-        _ => true,
-    }
-}
-
-fn is_over(after_break: bool, kind: &TokenKind) -> bool
-    ensures { result ≡ levels.is_over after_break kind.now }
-{
-    match kind {
-        TokenKind::Sign(Sign::OpenBrace) => true,
-        _ => after_break || !begins_expression(kind),
-    }
-}
-
-// Whether a `?` before these tokens belongs to a type behind `as`.
-fn belongs(tokens: &[Token]) -> bool
-    ensures { result ≡ levels.belongs_of position.BehindAs tokens.now }
-{
-    match tokens {
-        [first, ..] => is_over(first.after_break, &first.kind),
-        [] => true,
-    }
-}
-
-/// The spot behind a `?` that comes next and belongs to a type behind `as`.
-#[tactic(auto, unfolding(cad_grammar::specs::Levels::question, cad_parse_type::specs::Views::seen))]
-pub fn question(spot: Spot<'_>) -> Option<Spot<'_>>
-    ensures { option_map seen result ≡ levels.question position.BehindAs (seen spot.entry) }
-{
-    let rest = spot.after(Sign::Question)?;
-    if belongs(rest.tokens) { Some(rest) } else { None }
-}
-
-/// The spot behind a `??` that comes next and belongs to a type behind `as`.
-#[tactic(auto, unfolding(cad_grammar::specs::Levels::questions, cad_parse_type::specs::Views::seen))]
-pub fn questions(spot: Spot<'_>) -> Option<Spot<'_>>
-    ensures { option_map seen result ≡ levels.questions position.BehindAs (seen spot.entry) }
-{
-    let rest = spot.after(Sign::Coalesce)?;
-    if belongs(rest.tokens) { Some(rest) } else { None }
 }
