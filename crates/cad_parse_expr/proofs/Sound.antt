@@ -19,7 +19,7 @@ use Rattle.cad_parse_type.specs.Reading.{Found, Reader, climb, listed, dotted, t
 use Rattle.cad_parse_type.proofs.Heads.{none_of, some_same}
 use Rattle.cad_parse_type.proofs.Climbs.{then_is, IfFound, then_found, either_found, found_is, if_found, found_weaker, climb_keeps}
 use Rattle.cad_parse_type.proofs.ListLaws.{listed_sound}
-use Rattle.cad_parse_type.proofs.TypeLaws.{TypeLaws}
+use Rattle.cad_parse_type.proofs.Whole.{type_laws as types}
 use Rattle.cad_parse_expr.specs.Reading.{unless, over, type_arguments}
 use Rattle.cad_parse_expr.specs.Reading as r
 
@@ -65,80 +65,79 @@ behind_name : (b : Bool) (p q : Spot) → then (only_if b p) (opening s.Less) �
 behind_name true p q e = (refl, e)
 behind_name false p q e = (cc, cc)
 
-module _ (types : TypeLaws) where
-  arguments_made : (p q u : Spot) (x : List Annotation × Spot) → p.after_name ≡ true → opening s.Less p ≡ Some q → arguments_at q ≡ Some x → after s.OpenParenthesis x.1 ≡ Some u → TypeArguments p x.0 (back p x.1)
-  arguments_made p q u ([], t) b o d c = absurd (types.arguments_filled q t d)
-  arguments_made p q u (a ∷ all, t) b o d c = gr.type_arguments b o (types.arguments_sound q a all t d) c
+arguments_made : (p q u : Spot) (x : List Annotation × Spot) → p.after_name ≡ true → opening s.Less p ≡ Some q → arguments_at q ≡ Some x → after s.OpenParenthesis x.1 ≡ Some u → TypeArguments p x.0 (back p x.1)
+arguments_made p q u ([], t) b o d c = absurd (types.arguments_filled q t d)
+arguments_made p q u (a ∷ all, t) b o d c = gr.type_arguments b o (types.arguments_sound q a all t d) c
 
-  pub type_arguments_sound : (p : Spot) → IfFound (ArgumentsAs p) (type_arguments p)
-  unfolding type_arguments
-  type_arguments_sound p =
-      let P = ArgumentsAs p in
-      then_found P (then (only_if p.after_name p) (opening s.Less)) _ (λ q e1. then_found P (arguments_at q) _ (λ all e2. then_found P (after s.OpenParenthesis all.1) _ (λ u e3.
-      let w = behind_name p.after_name p q e1 in arguments_made p q u all w.0 w.1 e2 e3)))
+pub type_arguments_sound : (p : Spot) → IfFound (ArgumentsAs p) (type_arguments p)
+unfolding type_arguments
+type_arguments_sound p =
+    let P = ArgumentsAs p in
+    then_found P (then (only_if p.after_name p) (opening s.Less)) _ (λ q e1. then_found P (arguments_at q) _ (λ all e2. then_found P (after s.OpenParenthesis all.1) _ (λ u e3.
+    let w = behind_name p.after_name p q e1 in arguments_made p q u all w.0 w.1 e2 e3)))
 
-  pub type_arguments_exact : {p q : Spot} {all : List Annotation} → TypeArguments p all q → type_arguments p ≡ Some (all, q)
-  unfolding type_arguments
-  type_arguments_exact (gr.type_arguments {p} {q} {r} {u} {a} {all} b o d c) =
-      then_is (then (only_if p.after_name p) (opening s.Less)) _ q (ap (λ x. then (only_if x p) (opening s.Less)) b ∙ o)
-      ∙ then_is (arguments_at q) _ (a ∷ all, r) (types.arguments_exact d) ∙ then_is (after s.OpenParenthesis r) _ u c
+pub type_arguments_exact : {p q : Spot} {all : List Annotation} → TypeArguments p all q → type_arguments p ≡ Some (all, q)
+unfolding type_arguments
+type_arguments_exact (gr.type_arguments {p} {q} {r} {u} {a} {all} b o d c) =
+    then_is (then (only_if p.after_name p) (opening s.Less)) _ q (ap (λ x. then (only_if x p) (opening s.Less)) b ∙ o)
+    ∙ then_is (arguments_at q) _ (a ∷ all, r) (types.arguments_exact d) ∙ then_is (after s.OpenParenthesis r) _ u c
 
-  -- the reader finds none exactly where there are none
-  pub no_type_arguments : (p : Spot) → type_arguments p ≡ None → HasNoTypeArguments p
-  no_type_arguments p e all q d = let c = sym e ∙ type_arguments_exact d in cc
+-- the reader finds none exactly where there are none
+pub no_type_arguments : (p : Spot) → type_arguments p ≡ None → HasNoTypeArguments p
+no_type_arguments p e all q d = let c = sym e ∙ type_arguments_exact d in cc
 
-  pub finds_no_type_arguments : (p : Spot) → HasNoTypeArguments p → type_arguments p ≡ None
-  finds_no_type_arguments p h = none_of (type_arguments p) (λ x e. h x.0 x.1 (found_is (ArgumentsAs p) _ x (type_arguments_sound p) e))
+pub finds_no_type_arguments : (p : Spot) → HasNoTypeArguments p → type_arguments p ≡ None
+finds_no_type_arguments p h = none_of (type_arguments p) (λ x e. h x.0 x.1 (found_is (ArgumentsAs p) _ x (type_arguments_sound p) e))
 
-  -- ---- tails and primaries that hold no further expression
+-- ---- tails and primaries that hold no further expression
 
-  cast_sound : IsSoundTail level.Cast r.cast_tail
-  unfolding r.cast_tail
-  cast_sound p =
-      let P = TailAs level.Cast p in
-      then_found P (cast_word p) _ (λ x e1. then_found P (opened x.1) _ (λ q e2. then_found P (then (annotation_at position.BehindAs q) over) _ (λ t e3.
-      let w = over_is (annotation_at position.BehindAs q) t e3 in gr.cast e1 e2 (types.annotation_at_sound position.BehindAs q t w.0) w.1 w.2)))
+cast_sound : IsSoundTail level.Cast r.cast_tail
+unfolding r.cast_tail
+cast_sound p =
+    let P = TailAs level.Cast p in
+    then_found P (cast_word p) _ (λ x e1. then_found P (opened x.1) _ (λ q e2. then_found P (then (annotation_at position.BehindAs q) over) _ (λ t e3.
+    let w = over_is (annotation_at position.BehindAs q) t e3 in gr.cast e1 e2 (types.annotation_at_sound position.BehindAs q t w.0) w.1 w.2)))
 
-  as_type_sound : (p : Spot) → IfFound (AsTypeAs p) (r.as_type p)
-  unfolding r.as_type
-  as_type_sound p =
-      let P = AsTypeAs p in
-      then_found P (keyword k.As p) _ (λ q e1. then_found P (opened q) _ (λ u e2. if_found P (then (type_at position.BehindAs u) over) (λ t e3.
-      let w = over_is (type_at position.BehindAs u) t e3 in (q, u, e1, e2, types.type_sound position.BehindAs u t w.0, w.1, w.2))))
+as_type_sound : (p : Spot) → IfFound (AsTypeAs p) (r.as_type p)
+unfolding r.as_type
+as_type_sound p =
+    let P = AsTypeAs p in
+    then_found P (keyword k.As p) _ (λ q e1. then_found P (opened q) _ (λ u e2. if_found P (then (type_at position.BehindAs u) over) (λ t e3.
+    let w = over_is (type_at position.BehindAs u) t e3 in (q, u, e1, e2, types.type_sound position.BehindAs u t w.0, w.1, w.2))))
 
-  member_sound : (p q : Spot) (is_optional : Bool) → dot p ≡ Some (is_optional, q) → IfFound (TailAs level.Postfix p) (r.member_tail is_optional q)
-  unfolding r.member_tail
-  member_sound p q is_optional e =
-      let P = TailAs level.Postfix p in
-      then_found P (opened q) _ (λ u e1. then_found P (name u) _ (λ n e2. gr.member_access e e1 e2))
+member_sound : (p q : Spot) (is_optional : Bool) → dot p ≡ Some (is_optional, q) → IfFound (TailAs level.Postfix p) (r.member_tail is_optional q)
+unfolding r.member_tail
+member_sound p q is_optional e =
+    let P = TailAs level.Postfix p in
+    then_found P (opened q) _ (λ u e1. then_found P (name u) _ (λ n e2. gr.member_access e e1 e2))
 
-  force_sound : (p q : Spot) → joined s.Bang p ≡ Some q → IfFound (TailAs level.Postfix p) (r.force_tail q)
-  unfolding r.force_tail
-  force_sound p q e = then_found (TailAs level.Postfix p) (opened q) _ (λ u e1. gr.force e e1)
+force_sound : (p q : Spot) → joined s.Bang p ≡ Some q → IfFound (TailAs level.Postfix p) (r.force_tail q)
+unfolding r.force_tail
+force_sound p q e = then_found (TailAs level.Postfix p) (opened q) _ (λ u e1. gr.force e e1)
 
-  path_sound : (p q : Spot) → after s.Slash p ≡ Some q → IfFound (ReadAs level.Primary p) (r.path_tail q)
-  unfolding r.path_tail
-  path_sound p q e =
-      let P = ReadAs level.Primary p in
-      then_found P (domain_name q) _ (λ d e1. then_found P (after s.Slash d.1) _ (λ u e2. then_found P (name u) _ (λ n e3. gr.path_tokens e e1 e2 e3)))
+path_sound : (p q : Spot) → after s.Slash p ≡ Some q → IfFound (ReadAs level.Primary p) (r.path_tail q)
+unfolding r.path_tail
+path_sound p q e =
+    let P = ReadAs level.Primary p in
+    then_found P (domain_name q) _ (λ d e1. then_found P (after s.Slash d.1) _ (λ u e2. then_found P (name u) _ (λ n e3. gr.path_tokens e e1 e2 e3)))
 
-  name_sound : IsSoundAt level.Primary r.name_expr
-  unfolding r.name_expr
-  name_sound p = then_found (ReadAs level.Primary p) (name p) _ (λ n e. gr.name_token e)
+name_sound : IsSoundAt level.Primary r.name_expr
+unfolding r.name_expr
+name_sound p = then_found (ReadAs level.Primary p) (name p) _ (λ n e. gr.name_token e)
 
-  operation_sound : (l : Level) (operand : Reader ExprTree) → IsSoundAt (tighter l) operand → IsSoundTail l (r.operation l operand)
-  unfolding r.operation
-  operation_sound l operand h p =
-      let P = TailAs l p in
-      then_found P (operator l p) _ (λ o e1. unless_found P (type_arguments p) _ (λ e0. then_found P (opened o.1) _ (λ q e2. then_found P (operand q) _ (λ b e3.
-      gr.operation e1 (no_type_arguments p e0) e2 (found_is (ReadAs (tighter l) q) (operand q) b (h q) e3)))))
+operation_sound : (l : Level) (operand : Reader ExprTree) → IsSoundAt (tighter l) operand → IsSoundTail l (r.operation l operand)
+unfolding r.operation
+operation_sound l operand h p =
+    let P = TailAs l p in
+    then_found P (operator l p) _ (λ o e1. unless_found P (type_arguments p) _ (λ e0. then_found P (opened o.1) _ (λ q e2. then_found P (operand q) _ (λ b e3.
+    gr.operation e1 (no_type_arguments p e0) e2 (found_is (ReadAs (tighter l) q) (operand q) b (h q) e3)))))
 
-  pub chain_sound : (l : Level) (base : Reader ExprTree) (tail : Reader Tail) → IsSoundAt (tighter l) base → IsSoundTail l tail → IsSoundAt l (r.chain base tail)
-  unfolding r.chain
-  chain_sound l base tail h g p =
-      then_found (ReadAs l p) (base p) _ (λ a e.
-      climb_keeps extend tail (λ b q. Reads l p b q) (λ b q x d f. gr.longer d (found_is (TailAs l q) (tail q) x (g q) f)) (length a.1.tokens) a.0 a.1
-      (gr.alone (found_is (ReadAs (tighter l) p) (base p) a (h p) e)))
+pub chain_sound : (l : Level) (base : Reader ExprTree) (tail : Reader Tail) → IsSoundAt (tighter l) base → IsSoundTail l tail → IsSoundAt l (r.chain base tail)
+unfolding r.chain
+chain_sound l base tail h g p =
+    then_found (ReadAs l p) (base p) _ (λ a e.
+    climb_keeps extend tail (λ b q. Reads l p b q) (λ b q x d f. gr.longer d (found_is (TailAs l q) (tail q) x (g q) f)) (length a.1.tokens) a.0 a.1
+    (gr.alone (found_is (ReadAs (tighter l) p) (base p) a (h p) e)))
 
 -- ---- lists
 
@@ -163,7 +162,7 @@ abbrev pub BranchesAs : Spot → (ExprTree × ExprTree) × Spot → Type 0
 BranchesAs p b = (q : Spot) × (u : Spot) × (v : Spot) × (w : Spot)
     × (after s.Question p ≡ Some q) × (opened q ≡ Some u) × Reads level.Conditional u b.0.0 v × (after s.Colon v ≡ Some w) × Reads level.Conditional w b.0.1 b.1
 
-module _ (types : TypeLaws) (read : Level → Reader ExprTree) (h : (l : Level) → IsSoundAt l (read l)) where
+module _ (read : Level → Reader ExprTree) (h : (l : Level) → IsSoundAt l (read l)) where
   -- one call of the reader that was given
   by_read : (l : Level) (p : Spot) (x : ExprTree × Spot) → read l p ≡ Some x → Reads l p x.0 x.1
   by_read l p x e = found_is (ReadAs l p) (read l p) x (h l p) e
@@ -237,8 +236,8 @@ module _ (types : TypeLaws) (read : Level → Reader ExprTree) (h : (l : Level) 
   primary_sound p =
       let P = ReadAs level.Primary p in
       either_found P (after s.OpenParenthesis p) _ _ (λ q e. grouped_sound p q e) (λ _. either_found P (after s.OpenBracket p) _ _ (λ q e. array_sound p q e)
-      (λ _. either_found P (after s.OpenBrace p) _ _ (λ q e. pairs_sound p q e) (λ _. either_found P (after s.Slash p) _ _ (λ q e. path_sound types p q e)
-      (λ _. either_found P (keyword k.Create p) _ _ (λ q e. created_sound p q e) (λ _. either_found P (literal p) _ _ (λ x e. gr.literal_token e) (λ _. name_sound types p))))))
+      (λ _. either_found P (after s.OpenBrace p) _ _ (λ q e. pairs_sound p q e) (λ _. either_found P (after s.Slash p) _ _ (λ q e. path_sound p q e)
+      (λ _. either_found P (keyword k.Create p) _ _ (λ q e. created_sound p q e) (λ _. either_found P (literal p) _ _ (λ x e. gr.literal_token e) (λ _. name_sound p))))))
 
   -- ---- tails
 
@@ -260,32 +259,32 @@ module _ (types : TypeLaws) (read : Level → Reader ExprTree) (h : (l : Level) 
   typed_call_sound p x t =
       let P = TailAs level.Postfix p in
       then_found P (joined s.OpenParenthesis x.1) _ (λ q e. then_found P (opened q) _ (λ u e1. then_found P (r.arguments read u) _ (λ all e2.
-      gr.typed_call (found_is (ArgumentsAs p) _ x (type_arguments_sound types p) t) e e1 (arguments_sound u all e2))))
+      gr.typed_call (found_is (ArgumentsAs p) _ x (type_arguments_sound p) t) e e1 (arguments_sound u all e2))))
 
   postfix_tail_sound : IsSoundTail level.Postfix (r.postfix_tail read)
   unfolding r.postfix_tail
   postfix_tail_sound p =
       let P = TailAs level.Postfix p in
-      either_found P (dot p) _ _ (λ x e. member_sound types p x.1 x.0 e) (λ _. either_found P (type_arguments p) _ _ (λ x e. typed_call_sound p x e)
+      either_found P (dot p) _ _ (λ x e. member_sound p x.1 x.0 e) (λ _. either_found P (type_arguments p) _ _ (λ x e. typed_call_sound p x e)
       (λ _. either_found P (joined s.OpenParenthesis p) _ _ (λ q e. call_sound p q e) (λ _. either_found P (joined s.OpenBracket p) _ _ (λ q e. index_sound p q e)
-      (λ _. either_found P (joined s.Bang p) _ _ (λ q e. force_sound types p q e) (λ _. tt)))))
+      (λ _. either_found P (joined s.Bang p) _ _ (λ q e. force_sound p q e) (λ _. tt)))))
 
   pub tail_sound : (l : Level) (base : Reader ExprTree) → IsSoundAt (tighter l) base → IsSoundTail l (r.tail read l base)
   unfolding r.tail
   tail_sound level.Postfix base g p = postfix_tail_sound p
-  tail_sound level.Cast base g p = cast_sound types p
-  tail_sound level.Conditional base g p = operation_sound types level.Conditional base g p
-  tail_sound level.Or base g p = operation_sound types level.Or base g p
-  tail_sound level.And base g p = operation_sound types level.And base g p
-  tail_sound level.Comparison base g p = operation_sound types level.Comparison base g p
-  tail_sound level.Coalesce base g p = operation_sound types level.Coalesce base g p
-  tail_sound level.BitOr base g p = operation_sound types level.BitOr base g p
-  tail_sound level.BitXor base g p = operation_sound types level.BitXor base g p
-  tail_sound level.BitAnd base g p = operation_sound types level.BitAnd base g p
-  tail_sound level.Sum base g p = operation_sound types level.Sum base g p
-  tail_sound level.Product base g p = operation_sound types level.Product base g p
-  tail_sound level.Prefix base g p = operation_sound types level.Prefix base g p
-  tail_sound level.Primary base g p = operation_sound types level.Primary base g p
+  tail_sound level.Cast base g p = cast_sound p
+  tail_sound level.Conditional base g p = operation_sound level.Conditional base g p
+  tail_sound level.Or base g p = operation_sound level.Or base g p
+  tail_sound level.And base g p = operation_sound level.And base g p
+  tail_sound level.Comparison base g p = operation_sound level.Comparison base g p
+  tail_sound level.Coalesce base g p = operation_sound level.Coalesce base g p
+  tail_sound level.BitOr base g p = operation_sound level.BitOr base g p
+  tail_sound level.BitXor base g p = operation_sound level.BitXor base g p
+  tail_sound level.BitAnd base g p = operation_sound level.BitAnd base g p
+  tail_sound level.Sum base g p = operation_sound level.Sum base g p
+  tail_sound level.Product base g p = operation_sound level.Product base g p
+  tail_sound level.Prefix base g p = operation_sound level.Prefix base g p
+  tail_sound level.Primary base g p = operation_sound level.Primary base g p
 
   -- ---- prefixes
 
@@ -300,7 +299,7 @@ module _ (types : TypeLaws) (read : Level → Reader ExprTree) (h : (l : Level) 
   borrowed_sound p q e =
       let P = ReadAs level.Prefix p in
       then_found P (opened q) _ (λ u e1. then_found P (read level.Prefix u) _ (λ a e2. then_found P (r.as_type a.1) _ (λ t e3.
-      let w = found_is (AsTypeAs a.1) (r.as_type a.1) t (as_type_sound types a.1) e3 in
+      let w = found_is (AsTypeAs a.1) (r.as_type a.1) t (as_type_sound a.1) e3 in
       gr.borrowed e e1 (by_read level.Prefix u a e2) w.2 w.3 w.4 w.5 w.6)))
 
   prefix_sound : (base : Reader ExprTree) → IsSoundAt level.Postfix base → IsSoundAt level.Prefix (r.prefix read base)
@@ -344,7 +343,7 @@ module _ (types : TypeLaws) (read : Level → Reader ExprTree) (h : (l : Level) 
   -- ---- the levels
 
   chained_sound : (l : Level) (base : Reader ExprTree) → IsSoundAt (tighter l) base → IsSoundAt l (r.chained read l base)
-  chained_sound l base g = chain_sound types l base (r.tail read l base) g (tail_sound l base g)
+  chained_sound l base g = chain_sound l base (r.tail read l base) g (tail_sound l base g)
 
   postfix_sound : IsSoundAt level.Postfix (r.postfix read)
   postfix_sound = chained_sound level.Postfix (r.primary read) primary_sound
@@ -399,7 +398,7 @@ module _ (types : TypeLaws) (read : Level → Reader ExprTree) (h : (l : Level) 
   at_sound level.Postfix = postfix_sound
   at_sound level.Primary = primary_sound
 
-pub read_sound : TypeLaws → (depth : ℕ) (l : Level) → IsSoundAt l (r.read depth l)
+pub read_sound : (depth : ℕ) (l : Level) → IsSoundAt l (r.read depth l)
 unfolding r.read
-read_sound types zero l p = tt
-read_sound types (suc depth) l p = at_sound types (r.read depth) (read_sound types depth) l p
+read_sound zero l p = tt
+read_sound (suc depth) l p = at_sound (r.read depth) (read_sound depth) l p
