@@ -1,5 +1,5 @@
 -- Reading as a function of the spot: what is read and the spot behind it, the longest that can be read; None where nothing can.
-use Rattle.std.specs.Prelude.{◌≡◌, ℕ, zero, suc, Bool, true, false, List, [], ◌∷◌, ◌++◌, length, Option, Some, None}
+use Rattle.std.specs.Prelude.{ℕ, zero, suc, Bool, true, false, List, [], ◌∷◌, ◌++◌, length, Option, Some, None}
 use Rattle.cad_syntax.specs.declared.token.Sign.{Sign}
 use Rattle.cad_syntax.specs.declared.token.Sign.TheVariants as s
 use Rattle.cad_syntax.specs.declared.token.Keyword.TheVariants as k
@@ -10,7 +10,7 @@ use Rattle.cad_grammar.specs.declared.type_expr.Entitlements.{Entitlements}
 use Rattle.cad_grammar.specs.declared.type_expr.Entitlements.TheVariants as entitlements
 use Rattle.cad_grammar.specs.Trees.{TypeTree, Annotation, annotations_of}
 use Rattle.cad_grammar.specs.Trees as tree
-use Rattle.cad_grammar.specs.Spots.{Spot, back, then, ◌>>=◌, either, after, keyword, name, opened, resumed}
+use Rattle.cad_grammar.specs.Spots.{Spot, back, ◌>>=◌, either, after, keyword, name, opened, resumed}
 use Rattle.cad_grammar.specs.Levels.{question, questions}
 
 abbrev pub Found : Type 0 → Type 0
