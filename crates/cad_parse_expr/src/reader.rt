@@ -11,9 +11,7 @@ ghost use Rattle.cad_parse_type.specs.Views.{seen, seen_with, annotations_in};
 use crate::leaf::{literal, name_expr, path_tail};
 use crate::tail::{Tail, as_type, cast_tail, extend, force_tail, member_tail, type_arguments};
 use crate::word::{dot, label, operator, tighter, unary_word};
-use cad_grammar::{
-    Argument, BinaryOperator, Entry, Expr, Level, TypeAnnotation, UnaryOperator,
-};
+use cad_grammar::{Argument, BinaryOperator, Entry, Expr, Level, TypeAnnotation, UnaryOperator};
 use cad_parse_type::{Spot, dotted};
 use cad_syntax::{Keyword, Sign};
 use std::alloc::{AllocError, Global};
@@ -632,10 +630,7 @@ fn read<'a>(
 
 /// The longest expression from a spot on, and the spot behind it, where its signs are still open; None where none begins.
 #[tactic(auto, unfolding(crate::specs::Reading::expression_at, crate::specs::Reading::read, cad_parse_type::specs::Views::seen))]
-pub fn expression_at(
-    alloc: Global,
-    spot: Spot<'_>,
-) -> Result<Option<(Expr, Spot<'_>)>, AllocError>
+pub fn expression_at(alloc: Global, spot: Spot<'_>) -> Result<Option<(Expr, Spot<'_>)>, AllocError>
     ensures { IfOk result (λ o. option_map (seen_with expr_of) o ≡ spec.expression_at (seen spot.entry)) }
 {
     at(alloc, spot.left, Level::Conditional, spot)

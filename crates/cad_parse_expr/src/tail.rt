@@ -108,10 +108,7 @@ pub fn member_tail(
     let Some((name, rest)) = spot.name() else {
         return Ok(None);
     };
-    Ok(Some((
-        Tail::Member(is_optional, name.clone()?),
-        rest.named(),
-    )))
+    Ok(Some((Tail::Member(is_optional, name.clone()?), rest.named())))
 }
 
 /// The `!` before the spot, and the spot behind it; None where no nesting is left.
@@ -126,10 +123,7 @@ pub fn force_tail(spot: Spot<'_>) -> Option<(Tail, Spot<'_>)>
 /// The type behind the `as` that comes next, and the spot behind it; None where there is none, and where a `?` follows that
 /// belongs to the type.
 #[tactic(auto, unfolding(crate::specs::Reading::as_type))]
-pub fn as_type(
-    alloc: Global,
-    spot: Spot<'_>,
-) -> Result<Option<(TypeExpr, Spot<'_>)>, AllocError>
+pub fn as_type(alloc: Global, spot: Spot<'_>) -> Result<Option<(TypeExpr, Spot<'_>)>, AllocError>
     ensures { IfOk result (λ o. option_map (seen_with type_of) o ≡ spec.as_type (seen spot.entry)) }
 {
     let Some(rest) = spot.keyword(Keyword::As) else {
