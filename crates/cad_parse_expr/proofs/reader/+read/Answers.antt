@@ -10,7 +10,7 @@ use Rattle.cad_parse_type.specs.Views.{seen}
 use Rattle.cad_parse_expr.specs.Reading as spec
 use Rattle.cad_parse_expr.specs.Reading.{read}
 use Rattle.cad_parse_expr.specs.Views.{exprs_in, arguments_in, entries_in}
-use Rattle.cad_parse_expr.proofs.Turns.{deeper, one_more, no_more}
+use Rattle.cad_parse_type.proofs.Turns.{deeper, one_more, no_more}
 use Rattle.cad_parse_expr.proofs.reader.+read.Goals as goal
 
 pub read-returns-then-depth-eq0 : goal.read-returns-then-depth-eq0
