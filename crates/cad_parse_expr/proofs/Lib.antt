@@ -1,2 +1,7 @@
-mod Turns
 pub mod ExpressionLaws
+mod Sound
+mod Strength
+mod Facts
+mod Steps
+mod Exact
+pub mod Whole
