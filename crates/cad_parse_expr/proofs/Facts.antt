@@ -78,7 +78,7 @@ mutual
   pub tails_shorter : {l : Level} {p q : Spot} {t : Tail} → Tails l p t q → length q.tokens < length p.tokens
   tails_shorter (gr.operation {p = p} {q = q} {r = r} {o = o} e n o2 d) = omega (arith, read_shorter _ p (o, q) e, opened_same q r o2, reads_shorter d)
   tails_shorter (gr.cast {p} {q} {r} {u} {kind} e o t n n2) = omega (arith, read_shorter _ p (kind, q) e, opened_same q r o, types.annotation_shorter t)
-  tails_shorter (gr.member_access {p} {q} {r} {u} {b} {n} e o e2) = omega (arith, read_shorter _ p (b, q) e, opened_same q r o, name_shorter r (n, u) e2)
+  tails_shorter (gr.member_access {p} {q} {r} {u} {is_optional = b} {n} e o e2) = omega (arith, read_shorter _ p (b, q) e, opened_same q r o, name_shorter r (n, u) e2)
   tails_shorter (gr.index {p} {q} {r} {u} {v} e o d c) = omega (arith, joined_shorter s.OpenBracket p q e, opened_same q r o, reads_shorter d, resumed_shorter s.CloseBracket r u v c)
   tails_shorter (gr.call {p} {q} {r} e o w) = omega (arith, joined_shorter s.OpenParenthesis p q e, opened_same q r o, parts_shorter w)
   tails_shorter (gr.typed_call {p} {q} {r} {u} t e o w) = omega (arith, arguments_shorter t, joined_shorter s.OpenParenthesis q r e, opened_same r u o, parts_shorter w)
@@ -126,7 +126,7 @@ mutual
   pub tails_falls : {l : Level} {p q : Spot} {t : Tail} → Tails l p t q → q.left ≤ p.left
   tails_falls (gr.operation {p = p} {q = q} {r = r} {o = o} e n o2 d) = omega (arith, read_left _ p (o, q) e, (opened_is q r o2).0, reads_falls d)
   tails_falls (gr.cast {p} {q} {r} {u} {kind} e o t n n2) = omega (arith, read_left _ p (kind, q) e, (opened_is q r o).0, types.annotation_falls t)
-  tails_falls (gr.member_access {p} {q} {r} {u} {b} {n} e o e2) = omega (arith, read_left _ p (b, q) e, (opened_is q r o).0, name_left r (n, u) e2)
+  tails_falls (gr.member_access {p} {q} {r} {u} {is_optional = b} {n} e o e2) = omega (arith, read_left _ p (b, q) e, (opened_is q r o).0, name_left r (n, u) e2)
   tails_falls (gr.index {p} {q} {r} {u} {v} e o d c) = omega (arith, joined_left s.OpenBracket p q e, (opened_is q r o).0, resumed_left s.CloseBracket r u v c)
   tails_falls (gr.call {p} {q} {r} e o w) = omega (arith, joined_left s.OpenParenthesis p q e, (opened_is q r o).0, parts_left w)
   tails_falls (gr.typed_call {p} {q} {r} {u} t e o w) = omega (arith, typed_left t, joined_left s.OpenParenthesis q r e, (opened_is r u o).0, parts_left w)
@@ -237,7 +237,7 @@ mutual
   pub tails_ends : {l : Level} {p q : Spot} {t : Tail} → Tails l p t q → Ends p q
   tails_ends (gr.operation {p = p} {q = q} {r = r} {u = u} {o = o} e n o2 d) = ends_trans p q u (read_ends _ p (o, q) e) (ends_trans q r u (opened_ends q r o2) (reads_ends d))
   tails_ends (gr.cast {p} {q} {r} {u} {kind} e o t n n2) = ends_trans p q u (read_ends _ p (kind, q) e) (ends_trans q r u (opened_ends q r o) (types.annotation_ends t))
-  tails_ends (gr.member_access {p} {q} {r} {u} {b} {n} e o e2) =
+  tails_ends (gr.member_access {p} {q} {r} {u} {is_optional = b} {n} e o e2) =
       let w = ends_trans p q u (read_ends _ p (b, q) e) (ends_trans q r u (opened_ends q r o) (name_ends r (n, u) e2)) in (w.0, w.1)
   tails_ends (gr.index {p} {q} {r} {u} {v} e o d c) =
       ends_trans p q v (joined_ends s.OpenBracket p q e) (ends_trans q r v (opened_ends q r o) (ends_trans r u v (reads_ends d) (resumed_ends s.CloseBracket r u v c)))

@@ -5,3 +5,4 @@ mod Facts
 mod Steps
 mod Exact
 pub mod Whole
+mod Place

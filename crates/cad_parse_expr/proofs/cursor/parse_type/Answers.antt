@@ -25,7 +25,9 @@ unfolding seen
 overflow_sub-cursor c = (whole.type_place c.args.cursor.now.tokens.now c.args.cursor.now.at (128 - c.args.depth) _ (read_some c)).1
 
 pub returns-in-None-clause-none : goal.returns-in-None-clause-none
-returns-in-None-clause-none c = λ phase at _ a rest w. whole.type_none (128 - c.args.depth) (drop c.args.cursor.now.at c.args.cursor.now.tokens.now) (read_none c) a rest w
+returns-in-None-clause-none c = λ phase at _ a rest w.
+    let d = (goal.at.returns-in-None-clause-none c).In-None in
+    whole.type_none (128 - c.args.depth) (drop c.args.cursor.now.at c.args.cursor.now.tokens.now) (read_none d) a rest w
 
 -- what was read is spelled, and its rest is where the cursor then stands
 place : (c : In-Some) → c.in-Some.rest.tokens.now ≡ drop (length c.args.cursor.now.tokens.now - length c.in-Some.rest.tokens.now) c.args.cursor.now.tokens.now
