@@ -24,7 +24,6 @@ Reaches {A} Over found a q = (x : A × Spot) × (found ≡ Some x) × Extends x 
 
 -- nothing follows that goes on after a type
 pub record TypeOver (at : TypePosition) (q : Spot) : Type 0 where
-  pub no_dot : after s.Dot q ≡ None
   pub no_question : question at q ≡ None
   pub no_questions : questions at q ≡ None
 
