@@ -16,17 +16,28 @@ use Rattle.cad_parse_expr.specs.Reading.{expression}
 unfoldable pub maybe_annotated : Reader (Option Annotation)
 maybe_annotated = maybe (after s.Colon) annotation
 
+-- Name [ ":" TypeAnnotation ] Transfer Expression
+pub record NamedValue : Type 0 where
+  pub name : Name
+  pub annotation : Option Annotation
+  pub transfer : Transfer
+  pub value : ExprTree
+
 -- behind `let` or `var`
-unfoldable pub binding : VariableKind → Reader TestTree
-binding kind p = do
+unfoldable pub named_value : Reader NamedValue
+named_value p = do
   n ← name p
   a ← maybe_annotated n.1
   t ← transfer a.1
   e ← expression t.1
-  Some (tree.binding kind n.0 a.0 t.0 e.0, e.1)
+  Some (record { name = n.0; annotation = a.0; transfer = t.0; value = e.0 }, e.1)
+
+abbrev pub binding : VariableKind → NamedValue → TestTree
+binding kind b = tree.binding kind b.name b.annotation b.transfer b.value
 
 unfoldable pub tested : Reader TestTree
-tested p = either (variable_word p) (λ x. binding x.0 x.1) (expression p >>= (λ e. Some (tree.expression_test e.0, e.1)))
+tested p = either (variable_word p) (λ x. named_value x.1 >>= (λ b. Some (binding x.0 b.0, b.1)))
+    (expression p >>= (λ e. Some (tree.expression_test e.0, e.1)))
 
 -- a second transfer, or nothing
 unfoldable pub seconded : Reader (Option SecondTree)
@@ -35,12 +46,9 @@ seconded p = either (transfer p) (λ t. expression t.1 >>= (λ e. Some (Some (re
 -- behind `let` or `var`
 unfoldable pub variable : VariableKind → Reader StmtTree
 variable kind p = do
-  n ← name p
-  a ← maybe_annotated n.1
-  t ← transfer a.1
-  e ← expression t.1
-  x ← seconded e.1
-  Some (tree.variable kind n.0 a.0 t.0 e.0 x.0, x.1)
+  b ← named_value p
+  x ← seconded b.1
+  Some (tree.variable kind b.0.name b.0.annotation b.0.transfer b.0.value x.0, x.1)
 
 -- the names of a `for`, up to the `in`
 unfoldable pub loops : Reader (Option Name × Name)
@@ -69,9 +77,17 @@ plain p = if begins_plainly p then (do
       (either (after s.Swap a.1) (λ q. expression q >>= (λ b. Some (tree.swap a.0 b.0, b.1)))
       (Some (tree.expression a.0, a.1)))) else None
 
+-- a statement in which no statements stand, and that doesn't begin with `let` or `var`
+unfoldable pub unnested : Reader StmtTree
+unnested p = either (keyword k.Break p) (λ q. Some (tree.break_loop, q))
+    (either (keyword k.Continue p) (λ q. Some (tree.continue_loop, q))
+    (either (keyword k.Return p) returned
+    (either (keyword k.Emit p) emitted
+    (plain p))))
+
 -- statements up to where they end
 unfoldable pub statements : Reader StmtTree → ℕ → List StmtTree → Reader (List StmtTree)
-statements item zero found p = if ends p then Some (found, p) else None
+statements item zero found p = None
 statements item (suc turns) found p = if ends p then Some (found, p) else (do
   x ← item p
   q ← parted x.1
@@ -168,11 +184,7 @@ module _ (read : Sort → Reader StmtTree) where
       (either (keyword k.While p) while_loop
       (either (keyword k.For p) for_loop
       (either (keyword k.Switch p) (switch p)
-      (either (keyword k.Break p) (λ q. Some (tree.break_loop, q))
-      (either (keyword k.Continue p) (λ q. Some (tree.continue_loop, q))
-      (either (keyword k.Return p) returned
-      (either (keyword k.Emit p) emitted
-      (plain p)))))))))
+      (unnested p)))))
 
 -- the number bounds how deep the reader calls itself
 unfoldable pub read : ℕ → Sort → Reader StmtTree
