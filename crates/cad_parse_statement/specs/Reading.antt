@@ -122,13 +122,19 @@ module _ (read : Sort → Reader StmtTree) where
   unfoldable pub otherwise : Reader OtherwiseTree
   otherwise p = either (keyword k.Else p) alternative (Some (tree.nothing, p))
 
+  -- the block behind a test, and what is done otherwise
+  unfoldable pub branches : Reader (List StmtTree × OtherwiseTree)
+  branches p = do
+    b ← block p
+    o ← otherwise b.1
+    Some ((b.0, o.0), o.1)
+
   -- behind `if`
   unfoldable pub conditional : Reader StmtTree
   conditional p = do
     t ← tested p
-    b ← block t.1
-    o ← otherwise b.1
-    Some (tree.if_else t.0 (stmts_of b.0) o.0, o.1)
+    b ← branches t.1
+    Some (tree.if_else t.0 (stmts_of b.0.0) b.0.1, b.1)
 
   unfoldable pub whole_if : Reader StmtTree
   whole_if p = keyword k.If p >>= conditional
@@ -157,7 +163,7 @@ module _ (read : Sort → Reader StmtTree) where
     Some (record { value = e.0; body = b.0 }, b.1)
 
   unfoldable pub cases : ℕ → List CaseTree → Reader (List CaseTree)
-  cases zero found p = Some (found, p)
+  cases zero found p = None
   cases (suc turns) found p = either (keyword k.Case p) (λ q. do
     c ← one_case q
     cases turns (found ++ c.0 ∷ []) c.1) (Some (found, p))
@@ -168,15 +174,21 @@ module _ (read : Sort → Reader StmtTree) where
     b ← body r
     Some (tree.default (stmts_of b.0), b.1)) (Some (tree.no_default, p))
 
+  -- behind the `{` of a `switch`, up to its `}`
+  unfoldable pub sections : Reader (List CaseTree × Default)
+  sections p = do
+    c ← cases (length p.tokens) [] p
+    d ← default c.1
+    q ← after s.CloseBrace d.1
+    Some ((c.0, d.0), q)
+
   -- behind the `switch` at p
   unfoldable pub switch : Spot → Reader StmtTree
   switch p q = do
     e ← expression q
     r ← opening s.OpenBrace e.1
-    c ← cases (length r.tokens) [] r
-    d ← default c.1
-    u ← after s.CloseBrace d.1
-    Some (tree.switch e.0 (cases_of c.0) d.0, back p u)
+    x ← sections r
+    Some (tree.switch e.0 (cases_of x.0.0) x.0.1, back p x.1)
 
   unfoldable pub statement : Reader StmtTree
   statement p = either (variable_word p) (λ x. variable x.0 x.1)

@@ -2,7 +2,7 @@
 ghost use Rattle.std.specs.Prelude.{◌≡◌, [], length, IfOk, option_map};
 ghost use Rattle.cad_grammar.specs.Views.{stmt_of, otherwise_of, case_of};
 ghost use Rattle.cad_parse_statement.specs.Reading as spec;
-ghost use Rattle.cad_parse_statement.specs.Views.{stmts_in, cases_in, default_in};
+ghost use Rattle.cad_parse_statement.specs.Views.{stmts_in, cases_in, default_in, branches_in, sections_in};
 ghost use Rattle.cad_parse_type.specs.Views.{seen, seen_with};
 
 use crate::parts::{loops, tested};
@@ -102,6 +102,25 @@ fn otherwise(
     }
 }
 
+// the block behind a test, and what is done otherwise
+#[cycle(read)]
+#[tactic(auto, unfolding(crate::specs::Reading::branches))]
+fn branches(
+    alloc: Global,
+    depth: u64,
+    spot: Spot<'_>,
+) -> Result<Option<((Vec<Stmt>, Otherwise), Spot<'_>)>, AllocError>
+    ensures { IfOk result (λ o. option_map (seen_with branches_in) o ≡ spec.branches (spec.read depth) (seen spot.entry)) }
+{
+    let Some((then, rest)) = block_at(alloc, depth, spot)? else {
+        return Ok(None);
+    };
+    let Some((otherwise, end)) = otherwise(alloc, depth, rest)? else {
+        return Ok(None);
+    };
+    Ok(Some(((then, otherwise), end)))
+}
+
 // behind `if`
 #[cycle(read)]
 #[tactic(auto, unfolding(crate::specs::Reading::conditional))]
@@ -115,10 +134,7 @@ fn conditional(
     let Some((test, rest)) = tested(alloc, spot)? else {
         return Ok(None);
     };
-    let Some((then, rest)) = block_at(alloc, depth, rest)? else {
-        return Ok(None);
-    };
-    let Some((otherwise, end)) = otherwise(alloc, depth, rest)? else {
+    let Some(((then, otherwise), end)) = branches(alloc, depth, rest)? else {
         return Ok(None);
     };
     let found = Stmt::If {
@@ -219,7 +235,7 @@ fn cases(
         found.push(item)?;
         at = rest;
     }
-    Ok(Some((found, at)))
+    Ok(None)
 }
 
 #[cycle(read)]
@@ -243,6 +259,28 @@ fn default(
     Ok(Some((Some(found), end)))
 }
 
+// behind the `{` of a `switch`, up to its `}`
+#[cycle(read)]
+#[tactic(auto, unfolding(crate::specs::Reading::sections))]
+fn sections(
+    alloc: Global,
+    depth: u64,
+    spot: Spot<'_>,
+) -> Result<Option<((Vec<Case>, Option<Vec<Stmt>>), Spot<'_>)>, AllocError>
+    ensures { IfOk result (λ o. option_map (seen_with sections_in) o ≡ spec.sections (spec.read depth) (seen spot.entry)) }
+{
+    let Some((cases, rest)) = cases(alloc, depth, spot)? else {
+        return Ok(None);
+    };
+    let Some((default, rest)) = default(alloc, depth, rest)? else {
+        return Ok(None);
+    };
+    let Some(end) = rest.after(Sign::CloseBrace) else {
+        return Ok(None);
+    };
+    Ok(Some(((cases, default), end)))
+}
+
 // behind the `switch` at `start`
 #[cycle(read)]
 #[tactic(auto, unfolding(crate::specs::Reading::switch))]
@@ -260,13 +298,7 @@ fn switch<'a>(
     let Some(inner) = rest.opening(Sign::OpenBrace) else {
         return Ok(None);
     };
-    let Some((cases, rest)) = cases(alloc, depth, inner)? else {
-        return Ok(None);
-    };
-    let Some((default, rest)) = default(alloc, depth, rest)? else {
-        return Ok(None);
-    };
-    let Some(end) = rest.after(Sign::CloseBrace) else {
+    let Some(((cases, default), end)) = sections(alloc, depth, inner)? else {
         return Ok(None);
     };
     let found = Stmt::Switch {

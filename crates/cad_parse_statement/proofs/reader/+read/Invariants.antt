@@ -14,7 +14,10 @@ abbrev pub decreases-statement : goal.decreases-statement
 decreases-statement l = 64 * l.depth + 8
 
 abbrev pub decreases-conditional : goal.decreases-conditional
-decreases-conditional l = 64 * l.depth + 6
+decreases-conditional l = 64 * l.depth + 7
+
+abbrev pub decreases-branches : goal.decreases-branches
+decreases-branches l = 64 * l.depth + 6
 
 abbrev pub decreases-otherwise : goal.decreases-otherwise
 decreases-otherwise l = 64 * l.depth + 5
@@ -29,7 +32,10 @@ abbrev pub decreases-for_loop : goal.decreases-for_loop
 decreases-for_loop l = 64 * l.depth + 6
 
 abbrev pub decreases-switch : goal.decreases-switch
-decreases-switch l = 64 * l.depth + 6
+decreases-switch l = 64 * l.depth + 7
+
+abbrev pub decreases-sections : goal.decreases-sections
+decreases-sections l = 64 * l.depth + 6
 
 abbrev pub decreases-cases : goal.decreases-cases
 decreases-cases l = 64 * l.depth + 5
