@@ -183,6 +183,12 @@ module _ (types : TypeLaws) (expressions : ExpressionLaws) where
         found_weaker (CasesAs (found ++ c.0 ∷ []) c.1) P _ (λ y v. (c.0 ∷ v.0, v.1 ∙ append_assoc found (c.0 ∷ []) v.0, g.case e w.2 w.3 w.4 v.2))
         (cases_found turns (found ++ c.0 ∷ []) c.1))) (λ no. ([], sym (append-nil found), g.no_case no))
 
+    all_cases_sound : (p : Spot) (x : List CaseTree × Spot) → r.all_cases read p ≡ Some x → ReadsCases p x.0 x.1
+    unfolding r.all_cases
+    all_cases_sound p x e =
+        let w = found_is (CasesAs [] p) _ x (cases_found (length p.tokens) [] p) e in
+        subst (λ all. ReadsCases p all x.1) (sym w.1) w.2
+
     default_sound : (p : Spot) → IfFound (DefaultAs p) (r.default read p)
     unfolding r.default
     default_sound p =
@@ -195,9 +201,8 @@ module _ (types : TypeLaws) (expressions : ExpressionLaws) where
     unfolding r.sections
     sections_sound p =
         let P = SectionsAs p in
-        then_found P (r.cases read (length p.tokens) [] p) _ (λ c e1. then_found P (r.default read c.1) _ (λ d e2. then_found P (after s.CloseBrace d.1) _ (λ q e3.
-        let w = found_is (CasesAs [] p) _ c (cases_found (length p.tokens) [] p) e1 in
-        (c.1, d.1, subst (λ all. ReadsCases p all c.1) (sym w.1) w.2, found_is (DefaultAs c.1) _ d (default_sound c.1) e2, e3))))
+        then_found P (r.all_cases read p) _ (λ c e1. then_found P (r.default read c.1) _ (λ d e2. then_found P (after s.CloseBrace d.1) _ (λ q e3.
+        (c.1, d.1, all_cases_sound p c e1, found_is (DefaultAs c.1) _ d (default_sound c.1) e2, e3))))
 
     switch_sound : (p q : Spot) → keyword k.Switch p ≡ Some q → IfFound (StmtAs p) (r.switch read p q)
     unfolding r.switch

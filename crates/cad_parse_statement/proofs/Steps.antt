@@ -135,6 +135,10 @@ module _ (read : Sort → Reader StmtTree) where
   unfolding r.one_case
   one_case_is q u v b e1 e2 e3 = then_is (expression q) _ v e1 ∙ then_is (after s.Colon v.1) _ u e2 ∙ then_is (r.body read u) _ b e3
 
+  pub all_cases_is : (p : Spot) (x : List CaseTree × Spot) → r.cases read (length p.tokens) [] p ≡ Some x → r.all_cases read p ≡ Some x
+  unfolding r.all_cases
+  all_cases_is p x e = e
+
   pub no_default_is : (p : Spot) → keyword k.Default p ≡ None → r.default read p ≡ Some (tree.no_default, p)
   unfolding r.default
   no_default_is p e = either_not (keyword k.Default p) _ _ e
@@ -172,14 +176,14 @@ module _ (read : Sort → Reader StmtTree) where
       ∙ then_is (r.loops q) _ n e0 ∙ then_is (expression n.1) _ v e1 ∙ then_is (r.block read v.1) _ b e2
 
   pub switch_is : (p q u z : Spot) (v : ExprTree × Spot) (c : List CaseTree × Spot) (d : Default × Spot)
-      → keyword k.Switch p ≡ Some q → expression q ≡ Some v → opening s.OpenBrace v.1 ≡ Some u → r.cases read (length u.tokens) [] u ≡ Some c
+      → keyword k.Switch p ≡ Some q → expression q ≡ Some v → opening s.OpenBrace v.1 ≡ Some u → r.all_cases read u ≡ Some c
       → r.default read c.1 ≡ Some d → after s.CloseBrace d.1 ≡ Some z → r.statement read p ≡ Some (tree.switch v.0 (cases_of c.0) d.0, back p z)
   unfolding r.statement r.switch r.sections
   switch_is p q u z v c d e e1 e2 e3 e4 e5 =
       either_not (variable_word p) _ _ (no_variable k.Switch p q refl e) ∙ either_not (keyword k.If p) _ _ (other_keyword k.Switch k.If p q (λ x. cc) e)
       ∙ either_not (keyword k.While p) _ _ (other_keyword k.Switch k.While p q (λ x. cc) e) ∙ either_not (keyword k.For p) _ _ (other_keyword k.Switch k.For p q (λ x. cc) e)
       ∙ either_is (keyword k.Switch p) _ _ q e ∙ then_is (expression q) _ v e1 ∙ then_is (opening s.OpenBrace v.1) _ u e2
-      ∙ then_is (r.sections read u) _ ((c.0, d.0), z) (then_is (r.cases read (length u.tokens) [] u) _ c e3 ∙ then_is (r.default read c.1) _ d e4 ∙ then_is (after s.CloseBrace d.1) _ z e5)
+      ∙ then_is (r.sections read u) _ ((c.0, d.0), z) (then_is (r.all_cases read u) _ c e3 ∙ then_is (r.default read c.1) _ d e4 ∙ then_is (after s.CloseBrace d.1) _ z e5)
 
   unnested_is : (p : Spot) → variable_word p ≡ None → keyword k.If p ≡ None → keyword k.While p ≡ None → keyword k.For p ≡ None → keyword k.Switch p ≡ None
       → r.statement read p ≡ r.unnested p

@@ -168,6 +168,9 @@ module _ (read : Sort → Reader StmtTree) where
     c ← one_case q
     cases turns (found ++ c.0 ∷ []) c.1) (Some (found, p))
 
+  unfoldable pub all_cases : Reader (List CaseTree)
+  all_cases p = cases (length p.tokens) [] p
+
   unfoldable pub default : Reader Default
   default p = either (keyword k.Default p) (λ q. do
     r ← after s.Colon q
@@ -177,7 +180,7 @@ module _ (read : Sort → Reader StmtTree) where
   -- behind the `{` of a `switch`, up to its `}`
   unfoldable pub sections : Reader (List CaseTree × Default)
   sections p = do
-    c ← cases (length p.tokens) [] p
+    c ← all_cases p
     d ← default c.1
     q ← after s.CloseBrace d.1
     Some ((c.0, d.0), q)

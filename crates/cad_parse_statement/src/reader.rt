@@ -1,5 +1,5 @@
 // The readers of statements and blocks. `depth` bounds how deep they call each other.
-ghost use Rattle.std.specs.Prelude.{◌≡◌, [], length, IfOk, option_map};
+ghost use Rattle.std.specs.Prelude.{◌≡◌, IfOk, option_map};
 ghost use Rattle.cad_grammar.specs.Views.{stmt_of, otherwise_of, case_of};
 ghost use Rattle.cad_parse_statement.specs.Reading as spec;
 ghost use Rattle.cad_parse_statement.specs.Views.{stmts_in, cases_in, default_in, branches_in, sections_in};
@@ -216,12 +216,12 @@ fn one_case(
 
 #[cycle(read)]
 #[tactic(auto, unfolding(crate::specs::Reading::cases))]
-fn cases(
+fn all_cases(
     alloc: Global,
     depth: u64,
     spot: Spot<'_>,
 ) -> Result<Option<(Vec<Case>, Spot<'_>)>, AllocError>
-    ensures { IfOk result (λ o. option_map (seen_with cases_in) o ≡ spec.cases (spec.read depth) (length spot.entry.tokens.now) [] (seen spot.entry)) }
+    ensures { IfOk result (λ o. option_map (seen_with cases_in) o ≡ spec.all_cases (spec.read depth) (seen spot.entry)) }
 {
     let mut found = Vec::new(alloc);
     let mut at = spot;
@@ -269,7 +269,7 @@ fn sections(
 ) -> Result<Option<((Vec<Case>, Option<Vec<Stmt>>), Spot<'_>)>, AllocError>
     ensures { IfOk result (λ o. option_map (seen_with sections_in) o ≡ spec.sections (spec.read depth) (seen spot.entry)) }
 {
-    let Some((cases, rest)) = cases(alloc, depth, spot)? else {
+    let Some((cases, rest)) = all_cases(alloc, depth, spot)? else {
         return Ok(None);
     };
     let Some((default, rest)) = default(alloc, depth, rest)? else {
@@ -355,7 +355,22 @@ fn read_statement(
 }
 
 #[cycle(read)]
-#[tactic(auto, unfolding(crate::specs::Reading::read, crate::specs::Reading::whole_if))]
+#[tactic(auto, unfolding(crate::specs::Reading::whole_if))]
+fn whole_if(
+    alloc: Global,
+    depth: u64,
+    spot: Spot<'_>,
+) -> Result<Option<(Stmt, Spot<'_>)>, AllocError>
+    ensures { IfOk result (λ o. option_map (seen_with stmt_of) o ≡ spec.whole_if (spec.read depth) (seen spot.entry)) }
+{
+    let Some(rest) = spot.keyword(Keyword::If) else {
+        return Ok(None);
+    };
+    conditional(alloc, depth, rest)
+}
+
+#[cycle(read)]
+#[tactic(auto, unfolding(crate::specs::Reading::read))]
 fn read_if(
     alloc: Global,
     depth: u64,
@@ -366,10 +381,7 @@ fn read_if(
     if depth == 0 {
         return Ok(None);
     }
-    match spot.keyword(Keyword::If) {
-        Some(rest) => conditional(alloc, depth - 1, rest),
-        None => Ok(None),
-    }
+    whole_if(alloc, depth - 1, spot)
 }
 
 /// The statements from a spot on up to where they end, and the spot there; None where none stand there that end.

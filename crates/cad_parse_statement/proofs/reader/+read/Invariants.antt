@@ -1,4 +1,4 @@
-use Rattle.std.proofs.Common.{◌≡◌, [], length, ◌+◌, ◌-◌, ◌*◌}
+use Rattle.std.proofs.Common.{◌≡◌, ◌+◌, ◌-◌, ◌*◌}
 use Rattle.cad_parse_type.specs.Views.{seen}
 use Rattle.cad_parse_statement.specs.Views.{stmts_in, cases_in}
 use Rattle.cad_parse_statement.specs.Reading as spec
@@ -12,6 +12,9 @@ decreases-read_if l = 64 * l.depth
 
 abbrev pub decreases-statement : goal.decreases-statement
 decreases-statement l = 64 * l.depth + 8
+
+abbrev pub decreases-whole_if : goal.decreases-whole_if
+decreases-whole_if l = 64 * l.depth + 8
 
 abbrev pub decreases-conditional : goal.decreases-conditional
 decreases-conditional l = 64 * l.depth + 7
@@ -37,8 +40,8 @@ decreases-switch l = 64 * l.depth + 7
 abbrev pub decreases-sections : goal.decreases-sections
 decreases-sections l = 64 * l.depth + 6
 
-abbrev pub decreases-cases : goal.decreases-cases
-decreases-cases l = 64 * l.depth + 5
+abbrev pub decreases-all_cases : goal.decreases-all_cases
+decreases-all_cases l = 64 * l.depth + 5
 
 abbrev pub decreases-one_case : goal.decreases-one_case
 decreases-one_case l = 64 * l.depth + 4
@@ -57,7 +60,7 @@ invariant-body-loop-turn l =
     spec.body (spec.read l.depth) (seen l.spot)
     ≡ spec.statements (spec.read l.depth spec.a_statement) (l._turn-end - l._turn) (stmts_in l.found) (seen l.at)
 
-abbrev pub invariant-cases-loop-turn : goal.invariant-cases-loop-turn
-invariant-cases-loop-turn l =
-    spec.cases (spec.read l.depth) (length l.spot.tokens.now) [] (seen l.spot)
+abbrev pub invariant-all_cases-loop-turn : goal.invariant-all_cases-loop-turn
+invariant-all_cases-loop-turn l =
+    spec.all_cases (spec.read l.depth) (seen l.spot)
     ≡ spec.cases (spec.read l.depth) (l._turn-end - l._turn) (cases_in l.found) (seen l.at)
