@@ -1,8 +1,13 @@
 //! Reading of types, and the tests on tokens that all readers share.
 #![tactic(auto)]
 
+mod marks;
+mod names;
 mod reader;
 mod spot;
+mod types;
 
-pub use reader::{annotation, annotation_at, arguments_at, dotted, type_at};
+pub use names::{dotted, dotted_list, entitled};
+pub use marks::{question, questions};
+pub use reader::{annotation, annotation_at, arguments_at, type_at};
 pub use spot::Spot;
