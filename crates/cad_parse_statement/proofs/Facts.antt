@@ -20,7 +20,7 @@ use Rattle.cad_parse_type.proofs.TypeLaws.{TypeLaws}
 use Rattle.cad_parse_type.proofs.Heads.{some_same, head_of, head, head_strength, read_head, keyword_head, after_strength, after_shorter, after_left, keyword_shorter, keyword_left, name_shorter, name_left, read_shorter, read_left, opened_is, opening_shorter, opening_left}
 use Rattle.cad_parse_expr.proofs.ExpressionLaws.{ExpressionLaws}
 use Rattle.cad_parse_statement.specs.Reading.{NamedValue}
-use Rattle.cad_parse_statement.proofs.Parts.{Valued, valued}
+use Rattle.cad_parse_statement.proofs.PartLaws.{Valued, valued}
 
 -- ---- what stands behind a statement
 
@@ -263,6 +263,10 @@ module _ (types : TypeLaws) (expressions : ExpressionLaws) where
   pub statements_left : {p q : Spot} {x : List StmtTree} → Statements p x q → q.left ≡ p.left
   statements_left (g.no_statement e) = refl
   statements_left (g.statement d e r) = statements_left r ∙ parted_left _ _ e ∙ stmt_left d
+
+  pub cases_left : {p q : Spot} {x : List CaseTree} → ReadsCases p x q → q.left ≡ p.left
+  cases_left (g.no_case no) = refl
+  cases_left (g.case w e c b d) = cases_left d ∙ statements_left b ∙ after_left _ _ _ c ∙ expressions.expression_left e ∙ keyword_left _ _ _ w
 
   if_begins : {p q : Spot} {x : StmtTree} → ReadsIf p x q → Begins p
   if_begins (g.if_else w t b o) = begins_by k.If _ _ refl refl w

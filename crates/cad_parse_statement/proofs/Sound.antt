@@ -15,7 +15,7 @@ use Rattle.cad_parse_expr.specs.Reading.{expression}
 use Rattle.cad_parse_expr.proofs.ExpressionLaws.{ExpressionLaws}
 use Rattle.cad_parse_statement.specs.Reading.{Sort, a_statement, an_if}
 use Rattle.cad_parse_statement.specs.Reading as r
-use Rattle.cad_parse_statement.proofs.Parts.{ValuedAs, TestedAs, SecondedAs, LoopsAs, variable_made, loops_sound, named_value_sound, tested_sound, seconded_sound}
+use Rattle.cad_parse_statement.proofs.PartLaws.{ValuedAs, TestedAs, SecondedAs, LoopsAs, variable_made, loops_sound, named_value_sound, tested_sound, seconded_sound}
 
 if_found : {A : Type 0} (P : A → Type 0) (b : Bool) (x y : Option A) → (b ≡ true → IfFound P x) → (b ≡ false → IfFound P y) → IfFound P (if b then x else y)
 if_found P true x y h g = h refl
@@ -108,7 +108,7 @@ module _ (types : TypeLaws) (expressions : ExpressionLaws) where
       (statements_found item h turns (found ++ x.0 ∷ []) q))))
 
   module _ (read : Sort → Reader StmtTree) (h : (sort : Sort) (p : Spot) → IfFound (SortAs sort p) (read sort p)) where
-    body_sound : (p : Spot) (x : List StmtTree × Spot) → r.body read p ≡ Some x → Statements p x.0 x.1
+    pub body_sound : (p : Spot) (x : List StmtTree × Spot) → r.body read p ≡ Some x → Statements p x.0 x.1
     unfolding r.body
     body_sound p x e =
         let w = found_is (StatementsAs [] p) _ x (statements_found (read a_statement) (h a_statement) (length p.tokens) [] p) e in

@@ -1,5 +1,5 @@
 -- The readers, a step at a time, over any reader of what stands one nesting deeper.
-use Rattle.std.proofs.Common.{◌≡◌, ℕ, zero, suc, ◌<◌, ◌≤◌, Bool, true, false, if◌then◌else◌, List, [], ◌∷◌, length, Option, Some, None, refl, sym, ap, ◌∙◌, subst, arith}
+use Rattle.std.proofs.Common.{◌≡◌, ℕ, zero, suc, ◌<◌, ◌≤◌, Bool, true, false, if◌then◌else◌, List, [], ◌∷◌, ◌++◌, length, Option, Some, None, refl, sym, ap, ◌∙◌, subst, arith}
 use Rattle.cad_syntax.specs.declared.token.Sign.TheVariants as s
 use Rattle.cad_syntax.specs.declared.token.Keyword.{Keyword}
 use Rattle.cad_syntax.specs.declared.token.Keyword.TheVariants as k
@@ -25,7 +25,7 @@ use Rattle.cad_parse_expr.specs.Reading.{expression}
 use Rattle.cad_parse_expr.proofs.ExpressionLaws.{ExpressionLaws}
 use Rattle.cad_parse_statement.specs.Reading.{Sort, a_statement, an_if, NamedValue}
 use Rattle.cad_parse_statement.specs.Reading as r
-use Rattle.cad_parse_statement.proofs.Parts.{Valued, valued}
+use Rattle.cad_parse_statement.proofs.PartLaws.{Valued, valued}
 use Rattle.cad_parse_statement.proofs.Facts.{transfer_weak, variable_start}
 
 pub if_is : {A : Type 0} (b : Bool) (x y : A) → b ≡ true → (if b then x else y) ≡ x
@@ -257,6 +257,28 @@ module _ (read : Sort → Reader StmtTree) where
   expression_is p a lt yes e1 no none =
       plain_is p lt ∙ if_is (begins_plainly p) _ _ yes ∙ then_is (expression p) _ a e1 ∙ either_not (transfer a.1) _ _ no ∙ either_not (after s.Swap a.1) _ _ none
 
+-- ---- loops
+
+pub statements_end : (item : Reader StmtTree) (turns : ℕ) (found : List StmtTree) (p : Spot) → 0 < turns → ends p ≡ true → r.statements item turns found p ≡ Some (found, p)
+unfolding r.statements
+statements_end item zero found p lt e = let never : ⊥ = omega (arith, lt) in absurd never
+statements_end item (suc turns) found p lt e = if_is (ends p) _ _ e
+
+pub statements_more : (item : Reader StmtTree) (turns : ℕ) (found : List StmtTree) (p q : Spot) (x : StmtTree × Spot) → ends p ≡ false → item p ≡ Some x → parted x.1 ≡ Some q
+    → r.statements item (suc turns) found p ≡ r.statements item turns (found ++ x.0 ∷ []) q
+unfolding r.statements
+statements_more item turns found p q x no d e = if_not (ends p) _ _ no ∙ then_is (item p) _ x d ∙ then_is (parted x.1) _ q e
+
+pub cases_end : (read : Sort → Reader StmtTree) (turns : ℕ) (found : List CaseTree) (p : Spot) → 0 < turns → keyword k.Case p ≡ None → r.cases read turns found p ≡ Some (found, p)
+unfolding r.cases
+cases_end read zero found p lt e = let never : ⊥ = omega (arith, lt) in absurd never
+cases_end read (suc turns) found p lt e = either_not (keyword k.Case p) _ _ e
+
+pub cases_more : (read : Sort → Reader StmtTree) (turns : ℕ) (found : List CaseTree) (p q : Spot) (x : CaseTree × Spot) → keyword k.Case p ≡ Some q → r.one_case read q ≡ Some x
+    → r.cases read (suc turns) found p ≡ r.cases read turns (found ++ x.0 ∷ []) x.1
+unfolding r.cases
+cases_more read turns found p q x e d = either_is (keyword k.Case p) _ _ q e ∙ then_is (r.one_case read q) _ x d
+
 -- ---- one nesting deeper
 
 pub read_deep : (p : Spot) (x : StmtTree × Spot) (depth : ℕ) → p.left < depth → ((d : ℕ) → p.left ≤ d → r.statement (r.read d) p ≡ Some x) → r.read depth a_statement p ≡ Some x
@@ -269,3 +291,7 @@ pub if_deep : (p q : Spot) (x : StmtTree × Spot) (depth : ℕ) → p.left < dep
 unfolding r.read r.whole_if
 if_deep p q x zero lt e h = let never : ⊥ = omega (arith, lt) in absurd never
 if_deep p q x (suc d) lt e h = then_is (keyword k.If p) _ q e ∙ h d (omega (arith, lt))
+
+-- one spot stands behind a keyword
+pub same_conditional : (depth : ℕ) (p q u : Spot) (x : StmtTree × Spot) → keyword k.If p ≡ Some q → keyword k.If p ≡ Some u → r.conditional (r.read depth) u ≡ Some x → r.conditional (r.read depth) q ≡ Some x
+same_conditional depth p q u x e f d = ap (r.conditional (r.read depth)) (some_same q u (sym e ∙ f)) ∙ d

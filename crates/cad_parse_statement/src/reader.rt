@@ -15,7 +15,7 @@ use cad_syntax::{Keyword, Sign};
 use std::alloc::{AllocError, Global};
 
 #[cycle(read)]
-#[tactic(auto, unfolding(crate::specs::Reading::body))]
+#[tactic(auto)]
 fn body(
     alloc: Global,
     depth: u64,
@@ -215,7 +215,7 @@ fn one_case(
 }
 
 #[cycle(read)]
-#[tactic(auto, unfolding(crate::specs::Reading::cases))]
+#[tactic(auto)]
 fn all_cases(
     alloc: Global,
     depth: u64,
