@@ -6,6 +6,9 @@ mod reader;
 mod simple;
 mod words;
 
+#[cfg(test)]
+mod tests;
+
 pub use parts::maybe_annotated;
 pub use reader::{block, statements};
 pub use words::{begins_plainly, parted, variable_word};
