@@ -184,11 +184,11 @@ module _ (types : TypeLaws) (expressions : ExpressionLaws) where
   valued_left (valued n a t e) = expressions.expression_left e ∙ read_left _ _ _ t ∙ annotated_left a ∙ name_left _ _ n
 
   pub tested_shorter : {p q : Spot} {t : TestTree} → Tested p t q → length q.tokens < length p.tokens
-  tested_shorter (g.expression_test no e) = expressions.expression_shorter e
+  tested_shorter (g.expression_test lacks e) = expressions.expression_shorter e
   tested_shorter (g.binding f n a t e) = omega (arith, read_shorter _ _ _ f, valued_shorter (valued n a t e))
 
   pub tested_left : {p q : Spot} {t : TestTree} → Tested p t q → q.left ≡ p.left
-  tested_left (g.expression_test no e) = expressions.expression_left e
+  tested_left (g.expression_test lacks e) = expressions.expression_left e
   tested_left (g.binding f n a t e) = valued_left (valued n a t e) ∙ read_left _ _ _ f
 
   seconded_short : {p q : Spot} {x : Option SecondTree} → Seconded p x q → length q.tokens ≤ length p.tokens
@@ -212,27 +212,27 @@ module _ (types : TypeLaws) (expressions : ExpressionLaws) where
     stmt_shorter (g.switch w e o c d z) = omega (arith, keyword_shorter _ _ _ w, expressions.expression_shorter e, opening_shorter _ _ _ o, cases_short c, default_short d, after_shorter _ _ _ z)
     stmt_shorter (g.break_loop w) = keyword_shorter _ _ _ w
     stmt_shorter (g.continue_loop w) = keyword_shorter _ _ _ w
-    stmt_shorter (g.return_nothing w no) = keyword_shorter _ _ _ w
-    stmt_shorter (g.return_value w yes e) = omega (arith, keyword_shorter _ _ _ w, expressions.expression_shorter e)
+    stmt_shorter (g.return_nothing w lacks) = keyword_shorter _ _ _ w
+    stmt_shorter (g.return_value w holds_so e) = omega (arith, keyword_shorter _ _ _ w, expressions.expression_shorter e)
     stmt_shorter (g.emit w e) = omega (arith, keyword_shorter _ _ _ w, expressions.expression_shorter e)
     stmt_shorter (g.assignment b a t e) = omega (arith, expressions.expression_shorter a, read_shorter _ _ _ t, expressions.expression_shorter e)
     stmt_shorter (g.swap b a t e) = omega (arith, expressions.expression_shorter a, after_shorter _ _ _ t, expressions.expression_shorter e)
-    stmt_shorter (g.expression b a no none) = expressions.expression_shorter a
+    stmt_shorter (g.expression b a lacks lacks_too) = expressions.expression_shorter a
 
     if_shorter : {p q : Spot} {x : StmtTree} → ReadsIf p x q → length q.tokens < length p.tokens
     if_shorter (g.if_else w t b o) = omega (arith, keyword_shorter _ _ _ w, tested_shorter t, block_shorter b, otherwise_short o)
 
     otherwise_short : {p q : Spot} {x : OtherwiseTree} → ReadsOtherwise p x q → length q.tokens ≤ length p.tokens
-    otherwise_short (g.nothing no) = omega arith
+    otherwise_short (g.nothing lacks) = omega arith
     otherwise_short (g.else_block w b) = omega (arith, keyword_shorter _ _ _ w, block_shorter b)
     otherwise_short (g.else_if w o d) = omega (arith, keyword_shorter _ _ _ w, ap length (opened_is _ _ o).1, if_shorter d)
 
     pub cases_short : {p q : Spot} {x : List CaseTree} → ReadsCases p x q → length q.tokens ≤ length p.tokens
-    cases_short (g.no_case no) = omega arith
+    cases_short (g.no_case lacks) = omega arith
     cases_short (g.case w e c b d) = omega (arith, keyword_shorter _ _ _ w, expressions.expression_shorter e, after_shorter _ _ _ c, statements_short b, cases_short d)
 
     pub default_short : {p q : Spot} {x : Default} → ReadsDefault p x q → length q.tokens ≤ length p.tokens
-    default_short (g.no_default no) = omega arith
+    default_short (g.no_default lacks) = omega arith
     default_short (g.default w c b) = omega (arith, keyword_shorter _ _ _ w, after_shorter _ _ _ c, statements_short b)
 
     pub block_shorter : {p q : Spot} {x : List StmtTree} → Block p x q → length q.tokens < length p.tokens
@@ -253,19 +253,19 @@ module _ (types : TypeLaws) (expressions : ExpressionLaws) where
   stmt_left (g.switch w e o c d z) = refl
   stmt_left (g.break_loop w) = keyword_left _ _ _ w
   stmt_left (g.continue_loop w) = keyword_left _ _ _ w
-  stmt_left (g.return_nothing w no) = keyword_left _ _ _ w
-  stmt_left (g.return_value w yes e) = expressions.expression_left e ∙ keyword_left _ _ _ w
+  stmt_left (g.return_nothing w lacks) = keyword_left _ _ _ w
+  stmt_left (g.return_value w holds_so e) = expressions.expression_left e ∙ keyword_left _ _ _ w
   stmt_left (g.emit w e) = expressions.expression_left e ∙ keyword_left _ _ _ w
   stmt_left (g.assignment b a t e) = expressions.expression_left e ∙ read_left _ _ _ t ∙ expressions.expression_left a
   stmt_left (g.swap b a t e) = expressions.expression_left e ∙ after_left _ _ _ t ∙ expressions.expression_left a
-  stmt_left (g.expression b a no none) = expressions.expression_left a
+  stmt_left (g.expression b a lacks lacks_too) = expressions.expression_left a
 
   pub statements_left : {p q : Spot} {x : List StmtTree} → Statements p x q → q.left ≡ p.left
   statements_left (g.no_statement e) = refl
   statements_left (g.statement d e r) = statements_left r ∙ parted_left _ _ e ∙ stmt_left d
 
   pub cases_left : {p q : Spot} {x : List CaseTree} → ReadsCases p x q → q.left ≡ p.left
-  cases_left (g.no_case no) = refl
+  cases_left (g.no_case lacks) = refl
   cases_left (g.case w e c b d) = cases_left d ∙ statements_left b ∙ after_left _ _ _ c ∙ expressions.expression_left e ∙ keyword_left _ _ _ w
 
   if_begins : {p q : Spot} {x : StmtTree} → ReadsIf p x q → Begins p
@@ -279,12 +279,12 @@ module _ (types : TypeLaws) (expressions : ExpressionLaws) where
   stmt_begins (g.switch w e o c d z) = begins_by k.Switch _ _ refl refl w
   stmt_begins (g.break_loop w) = begins_by k.Break _ _ refl refl w
   stmt_begins (g.continue_loop w) = begins_by k.Continue _ _ refl refl w
-  stmt_begins (g.return_nothing w no) = begins_by k.Return _ _ refl refl w
-  stmt_begins (g.return_value w yes e) = begins_by k.Return _ _ refl refl w
+  stmt_begins (g.return_nothing w lacks) = begins_by k.Return _ _ refl refl w
+  stmt_begins (g.return_value w holds_so e) = begins_by k.Return _ _ refl refl w
   stmt_begins (g.emit w e) = begins_by k.Emit _ _ refl refl w
   stmt_begins (g.assignment b a t e) = plainly_begins _ b (expressions.expression_starts a)
   stmt_begins (g.swap b a t e) = plainly_begins _ b (expressions.expression_starts a)
-  stmt_begins (g.expression b a no none) = plainly_begins _ b (expressions.expression_starts a)
+  stmt_begins (g.expression b a lacks lacks_too) = plainly_begins _ b (expressions.expression_starts a)
 
   statements_weak : {p q : Spot} {x : List StmtTree} → Statements p x q → breaks_or_ends p ≡ true → token_strength p ≡ 0
   statements_weak (g.no_statement e) h = ends_weak _ e
@@ -295,5 +295,5 @@ module _ (types : TypeLaws) (expressions : ExpressionLaws) where
   weak_before {u = u} {x = x} p (inr w) d = statements_weak (subst (λ z. Statements z x u) (sym w.1) d) w.0
 
   -- nothing goes on behind a statement that further ones follow
-  pub parted_weak : {p q u : Spot} {x : List StmtTree} → parted p ≡ Some q → Statements q x u → token_strength p ≡ 0
-  parted_weak {p} {q} e d = weak_before p (parted_is p q e) d
+  pub parted_weak : {q u : Spot} {x : List StmtTree} (p : Spot) → parted p ≡ Some q → Statements q x u → token_strength p ≡ 0
+  parted_weak {q} p e d = weak_before p (parted_is p q e) d

@@ -11,7 +11,7 @@ use Rattle.cad_grammar.specs.declared.statement.VariableKind.{VariableKind}
 use Rattle.cad_grammar.specs.declared.statement.Transfer.{Transfer}
 use Rattle.cad_grammar.specs.Trees.{Annotation, ExprTree, TestTree, SecondTree, StmtTree, OtherwiseTree, CaseTree, stmts_of, cases_of, Default}
 use Rattle.cad_grammar.specs.Trees as tree
-use Rattle.cad_grammar.specs.Spots.{Spot, back, behind, then, either, only_if, next_of, next, after, keyword, name, opened, opening}
+use Rattle.cad_grammar.specs.Spots.{Spot, back, behind, then, either, only_if, next_of, next, is_keyword, after, keyword, name, opened, opening}
 use Rattle.cad_grammar.specs.Levels.{token_strength, keyword_start, start}
 use Rattle.cad_grammar.specs.StatementGrammar.{Tested, Seconded, Loops, MaybeAnnotated, variable_word, variable_kind_of, transfer, begins_plainly, parted, ends, value_follows}
 use Rattle.cad_grammar.specs.StatementGrammar as g
@@ -62,16 +62,17 @@ next_of_any test p q u (t ∷ ts) e = (behind u ts, only_if_any (test t.after_br
 pub opened_keyword : (word : Keyword) (p q u : Spot) → opened p ≡ Some q → keyword word q ≡ Some u → (x : Spot) × (keyword word p ≡ Some x)
 unfolding next
 opened_keyword word p q u o e =
-    let w = next_of_any _ q u p q.tokens e in
-    (w.0, ap (λ ts. next_of _ p ts) (sym (opened_is p q o).1) ∙ w.1)
+    let test : Bool → TokenKind → Bool = λ broken found. is_keyword word found in
+    let w = next_of_any test q u p q.tokens e in
+    (w.0, ap (λ ts. next_of test p ts) (sym (opened_is p q o).1) ∙ w.1)
 
 -- ---- parts
 
 pub loops_exact : {p q : Spot} {i : Option Name} {n : Name} → Loops p i n q → r.loops p ≡ Some ((i, n), q)
 unfolding r.loops
-loops_exact {p} {z} (g.over {q = q} {n = n} a b) =
+loops_exact {p} {q = z} (g.over {q = q} {n = n} a b) =
     then_is (name p) _ (n, q) a ∙ either_not (after s.Comma q) _ _ (keyword_no_sign s.Comma k.In q (keyword_head k.In q z b)) ∙ then_is (keyword k.In q) _ z b
-loops_exact {p} {z} (g.indexed {q = q} {r = w} {u = u} {i = i} {n = n} a b c d) =
+loops_exact {p} {q = z} (g.indexed {q = q} {r = w} {u = u} {i = i} {n = n} a b c d) =
     then_is (name p) _ (i, q) a ∙ either_is (after s.Comma q) _ _ w b ∙ then_is (name w) _ (n, u) c ∙ then_is (keyword k.In u) _ z d
 
 module _ (types : TypeLaws) (expressions : ExpressionLaws) where
@@ -82,21 +83,21 @@ module _ (types : TypeLaws) (expressions : ExpressionLaws) where
 
   pub named_value_exact : {p q : Spot} {b : NamedValue} → Valued p b q → token_strength q ≡ 0 → r.named_value p ≡ Some (b, q)
   unfolding r.named_value
-  named_value_exact {p} {z} (valued {q = q} {r = w} {u = u} {n = n} {a = a} {t = t} {e = v} e1 e2 e3 e4) st =
+  named_value_exact {p} {q = z} (valued {q = q} {r = w} {u = u} {n = n} {a = a} {t = t} {e = v} e1 e2 e3 e4) st =
       then_is (name p) _ (n, q) e1 ∙ then_is (r.maybe_annotated q) _ (a, w) (annotated_exact e2 (transfer_weak w (t, u) e3))
       ∙ then_is (transfer w) _ (t, u) e3 ∙ then_is (expression u) _ (v, z) (expressions.expression_exact e4 st)
 
   pub tested_exact : {p q : Spot} {t : TestTree} → Tested p t q → token_strength q ≡ 0 → r.tested p ≡ Some (t, q)
   unfolding r.tested
-  tested_exact {p} {z} (g.expression_test {e = v} no d) st = either_not (variable_word p) _ _ no ∙ then_is (expression p) _ (v, z) (expressions.expression_exact d st)
-  tested_exact {p} {z} (g.binding {q = q} {kind = found} {n = n} {a = a} {t = t} {e = v} e0 e1 e2 e3 e4) st =
+  tested_exact {p} {q = z} (g.expression_test {e = v} lacks d) st = either_not (variable_word p) _ _ lacks ∙ then_is (expression p) _ (v, z) (expressions.expression_exact d st)
+  tested_exact {p} {q = z} (g.binding {q = q} {kind = found} {n = n} {a = a} {t = t} {e = v} e0 e1 e2 e3 e4) st =
       either_is (variable_word p) _ _ (found, q) e0
       ∙ then_is (r.named_value q) _ (record { name = n; annotation = a; transfer = t; value = v }, z) (named_value_exact (valued e1 e2 e3 e4) st)
 
   pub seconded_exact : {p q : Spot} {x : Option SecondTree} → Seconded p x q → token_strength q ≡ 0 → r.seconded p ≡ Some (x, q)
   unfolding r.seconded
   seconded_exact {p} (g.no_second e) st = either_not (transfer p) _ _ e
-  seconded_exact {p} {z} (g.second {q = q} {t = t} {e = v} e d) st = either_is (transfer p) _ _ (t, q) e ∙ then_is (expression q) _ (v, z) (expressions.expression_exact d st)
+  seconded_exact {p} {q = z} (g.second {q = q} {t = t} {e = v} e d) st = either_is (transfer p) _ _ (t, q) e ∙ then_is (expression q) _ (v, z) (expressions.expression_exact d st)
 
 -- ---- statements
 
@@ -116,7 +117,7 @@ module _ (read : Sort → Reader StmtTree) where
   pub else_block_is : (p q : Spot) (x : List StmtTree × Spot) → keyword k.Else p ≡ Some q → keyword k.If q ≡ None → r.block read q ≡ Some x
       → r.otherwise read p ≡ Some (tree.else_block (stmts_of x.0), x.1)
   unfolding r.otherwise r.alternative
-  else_block_is p q x e no b = either_is (keyword k.Else p) _ _ q e ∙ either_not (keyword k.If q) _ _ no ∙ then_is (r.block read q) _ x b
+  else_block_is p q x e lacks b = either_is (keyword k.Else p) _ _ q e ∙ either_not (keyword k.If q) _ _ lacks ∙ then_is (r.block read q) _ x b
 
   pub else_if_is : (p q u v : Spot) (x : StmtTree × Spot) → keyword k.Else p ≡ Some q → keyword k.If q ≡ Some v → opened q ≡ Some u → read an_if u ≡ Some x
       → r.otherwise read p ≡ Some (tree.else_if x.0, x.1)
@@ -216,12 +217,12 @@ module _ (read : Sort → Reader StmtTree) where
 
   pub return_nothing_is : (p q : Spot) → keyword k.Return p ≡ Some q → value_follows q ≡ false → r.statement read p ≡ Some (tree.return_value None, q)
   unfolding r.returned
-  return_nothing_is p q e no = return_is p q e ∙ if_not (value_follows q) _ _ no
+  return_nothing_is p q e lacks = return_is p q e ∙ if_not (value_follows q) _ _ lacks
 
   pub return_value_is : (p q : Spot) (v : ExprTree × Spot) → keyword k.Return p ≡ Some q → value_follows q ≡ true → expression q ≡ Some v
       → r.statement read p ≡ Some (tree.return_value (Some v.0), v.1)
   unfolding r.returned
-  return_value_is p q v e yes d = return_is p q e ∙ if_is (value_follows q) _ _ yes ∙ then_is (expression q) _ v d
+  return_value_is p q v e holds_so d = return_is p q e ∙ if_is (value_follows q) _ _ holds_so ∙ then_is (expression q) _ v d
 
   pub emit_is : (p q : Spot) (v : ExprTree × Spot) → keyword k.Emit p ≡ Some q → expression q ≡ Some v → r.statement read p ≡ Some (tree.emit v.0, v.1)
   unfolding r.unnested r.emitted
@@ -241,21 +242,21 @@ module _ (read : Sort → Reader StmtTree) where
   pub assignment_is : (p : Spot) (a v : ExprTree × Spot) (t : Transfer × Spot) → 12 ≤ start p → begins_plainly p ≡ true
       → expression p ≡ Some a → transfer a.1 ≡ Some t → expression t.1 ≡ Some v → r.statement read p ≡ Some (tree.assignment a.0 t.0 v.0, v.1)
   unfolding r.plain
-  assignment_is p a v t lt yes e1 e2 e3 =
-      plain_is p lt ∙ if_is (begins_plainly p) _ _ yes ∙ then_is (expression p) _ a e1 ∙ either_is (transfer a.1) _ _ t e2 ∙ then_is (expression t.1) _ v e3
+  assignment_is p a v t lt holds_so e1 e2 e3 =
+      plain_is p lt ∙ if_is (begins_plainly p) _ _ holds_so ∙ then_is (expression p) _ a e1 ∙ either_is (transfer a.1) _ _ t e2 ∙ then_is (expression t.1) _ v e3
 
   pub swap_is : (p q : Spot) (a b : ExprTree × Spot) → 12 ≤ start p → begins_plainly p ≡ true
       → expression p ≡ Some a → transfer a.1 ≡ None → after s.Swap a.1 ≡ Some q → expression q ≡ Some b → r.statement read p ≡ Some (tree.swap a.0 b.0, b.1)
   unfolding r.plain
-  swap_is p q a b lt yes e1 no e2 e3 =
-      plain_is p lt ∙ if_is (begins_plainly p) _ _ yes ∙ then_is (expression p) _ a e1 ∙ either_not (transfer a.1) _ _ no ∙ either_is (after s.Swap a.1) _ _ q e2
+  swap_is p q a b lt holds_so e1 lacks e2 e3 =
+      plain_is p lt ∙ if_is (begins_plainly p) _ _ holds_so ∙ then_is (expression p) _ a e1 ∙ either_not (transfer a.1) _ _ lacks ∙ either_is (after s.Swap a.1) _ _ q e2
       ∙ then_is (expression q) _ b e3
 
   pub expression_is : (p : Spot) (a : ExprTree × Spot) → 12 ≤ start p → begins_plainly p ≡ true
       → expression p ≡ Some a → transfer a.1 ≡ None → after s.Swap a.1 ≡ None → r.statement read p ≡ Some (tree.expression a.0, a.1)
   unfolding r.plain
-  expression_is p a lt yes e1 no none =
-      plain_is p lt ∙ if_is (begins_plainly p) _ _ yes ∙ then_is (expression p) _ a e1 ∙ either_not (transfer a.1) _ _ no ∙ either_not (after s.Swap a.1) _ _ none
+  expression_is p a lt holds_so e1 lacks lacks_too =
+      plain_is p lt ∙ if_is (begins_plainly p) _ _ holds_so ∙ then_is (expression p) _ a e1 ∙ either_not (transfer a.1) _ _ lacks ∙ either_not (after s.Swap a.1) _ _ lacks_too
 
 -- ---- loops
 
@@ -267,7 +268,7 @@ statements_end item (suc turns) found p lt e = if_is (ends p) _ _ e
 pub statements_more : (item : Reader StmtTree) (turns : ℕ) (found : List StmtTree) (p q : Spot) (x : StmtTree × Spot) → ends p ≡ false → item p ≡ Some x → parted x.1 ≡ Some q
     → r.statements item (suc turns) found p ≡ r.statements item turns (found ++ x.0 ∷ []) q
 unfolding r.statements
-statements_more item turns found p q x no d e = if_not (ends p) _ _ no ∙ then_is (item p) _ x d ∙ then_is (parted x.1) _ q e
+statements_more item turns found p q x lacks d e = if_not (ends p) _ _ lacks ∙ then_is (item p) _ x d ∙ then_is (parted x.1) _ q e
 
 pub cases_end : (read : Sort → Reader StmtTree) (turns : ℕ) (found : List CaseTree) (p : Spot) → 0 < turns → keyword k.Case p ≡ None → r.cases read turns found p ≡ Some (found, p)
 unfolding r.cases

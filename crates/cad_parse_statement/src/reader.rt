@@ -1,5 +1,5 @@
 // The readers of statements and blocks. `depth` bounds how deep they call each other.
-ghost use Rattle.std.specs.Prelude.{◌≡◌, IfOk, option_map};
+ghost use Rattle.std.specs.Prelude.{◌≡◌, suc, IfOk, option_map};
 ghost use Rattle.cad_grammar.specs.Views.{stmt_of, otherwise_of, case_of};
 ghost use Rattle.cad_parse_statement.specs.Reading as spec;
 ghost use Rattle.cad_parse_statement.specs.Views.{stmts_in, cases_in, default_in, branches_in, sections_in};
@@ -384,6 +384,14 @@ fn read_if(
     whole_if(alloc, depth - 1, spot)
 }
 
+// How deep the readers may call each other from a spot on: once more than nestings may be opened.
+#[tactic(auto, unfolding(cad_parse_type::specs::Views::seen))]
+fn depth_at(spot: Spot<'_>) -> u64
+    ensures { result ≡ suc (seen spot.entry).left }
+{
+    u64::from(spot.left) + 1
+}
+
 /// The statements from a spot on up to where they end, and the spot there; None where none stand there that end.
 #[tactic(auto, unfolding(crate::specs::Reading::statements_in))]
 pub fn statements(
@@ -392,7 +400,7 @@ pub fn statements(
 ) -> Result<Option<(Vec<Stmt>, Spot<'_>)>, AllocError>
     ensures { IfOk result (λ o. option_map (seen_with stmts_in) o ≡ spec.statements_in (seen spot.entry)) }
 {
-    body(alloc, u64::from(spot.left) + 1, spot)
+    body(alloc, depth_at(spot), spot)
 }
 
 /// The block that begins at a spot, and the spot behind it; None where none begins.
@@ -400,5 +408,5 @@ pub fn statements(
 pub fn block(alloc: Global, spot: Spot<'_>) -> Result<Option<(Vec<Stmt>, Spot<'_>)>, AllocError>
     ensures { IfOk result (λ o. option_map (seen_with stmts_in) o ≡ spec.block_in (seen spot.entry)) }
 {
-    block_at(alloc, u64::from(spot.left) + 1, spot)
+    block_at(alloc, depth_at(spot), spot)
 }
