@@ -1,8 +1,7 @@
 -- Options, and chains of tails.
-use Rattle.std.proofs.Common.{◌≡◌, ℕ, zero, suc, ◌<◌, ◌≤◌, List, [], ◌∷◌, length, Option, Some, None, refl, sym, ap, ◌∙◌, subst, ◌⊎◌, inl, inr, arith}
-use Rattle.cad_syntax.specs.declared.token.Token.{Token}
+use Rattle.std.proofs.Common.{◌≡◌, ℕ, zero, suc, ◌<◌, ◌≤◌, length, Option, Some, None, refl, sym, ap, ◌∙◌, subst, ◌⊎◌, inl, inr, arith}
 use Rattle.cad_grammar.specs.Spots.{Spot, then, either}
-use Rattle.cad_parse_type.specs.Reading.{Found, Reader, climb}
+use Rattle.cad_parse_type.specs.Reading.{Reader, climb}
 use Rattle.cad_parse_type.proofs.Heads.{none_of}
 
 pub then_is : {A B : Type 0} (o : Option A) (f : A → Option B) (x : A) → o ≡ Some x → then o f ≡ f x
@@ -99,6 +98,13 @@ module _ {A T : Type 0} (grow : A → T → A) (tail : Reader T) where
       cases_of _ (tail p) (λ e. ((a, p), either_not (tail p) _ _ e, inl refl)) (λ x e.
       let w = climb_gives h turns (grow a x.0) x.1 in
       (w.0, either_is (tail p) _ _ x e ∙ w.1, inr (gone w.0 (grow a x.0, x.1) (length p.tokens) w.2 (h p x e))))
+
+  -- a chain with turns for each token ends where no tail follows
+  pub climb_ends : Shrinks tail → (turns : ℕ) (a : A) (p : Spot) → length p.tokens ≤ turns → IfFound (λ x. tail x.1 ≡ None) (climb grow tail turns a p)
+  unfolding climb
+  climb_ends h zero a p le = none_of (tail p) (λ x e. omega (arith, h p x e))
+  climb_ends h (suc turns) a p le =
+      either_found (λ x. tail x.1 ≡ None) (tail p) _ _ (λ x e. climb_ends h turns (grow a x.0) x.1 (omega (arith, h p x e))) (λ e. e)
 
   -- what holds at the start and is kept by each tail holds of what a chain gives
   pub climb_keeps : (P : A → Spot → Type 0) → ((a : A) (p : Spot) (x : T × Spot) → P a p → tail p ≡ Some x → P (grow a x.0) x.1)

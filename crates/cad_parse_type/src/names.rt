@@ -1,5 +1,6 @@
 // Dotted names, lists of them, and entitlements.
 ghost use Rattle.std.specs.Prelude.{◌≡◌, [], length, IfOk, Some, option_map};
+ghost use Rattle.cad_grammar.specs.TypeGrammar.{dot_name};
 ghost use Rattle.cad_parse_type.specs.Reading as spec;
 ghost use Rattle.cad_parse_type.specs.Views.{seen, seen_with, seen_name};
 
@@ -9,21 +10,21 @@ use cad_syntax::{Items, Name, Sign};
 use std::alloc::{AllocError, Global};
 
 // The name behind a `.`, and the spot behind it; None where none stands there.
-#[tactic(auto, unfolding(crate::specs::Reading::further))]
-fn further(spot: Spot<'_>) -> Option<(&Name, Spot<'_>)>
-    ensures { option_map (seen_with seen_name) result ≡ spec.further (seen spot.entry) }
+#[tactic(auto, unfolding(cad_grammar::specs::TypeGrammar::dot_name))]
+fn dot_name(spot: Spot<'_>) -> Option<(&Name, Spot<'_>)>
+    ensures { option_map (seen_with seen_name) result ≡ dot_name (seen spot.entry) }
 {
     spot.after(Sign::Dot)?.name()
 }
 
 // The names with all that stand behind them, each behind a `.`, and the spot behind the last.
 #[tactic(auto, unfolding(crate::specs::Reading::climb))]
-fn with_further(mut names: Dotted, spot: Spot<'_>) -> Result<(Dotted, Spot<'_>), AllocError>
-    ensures { IfOk result (λ x. spec.climb spec.appended spec.further (length spot.entry.tokens.now) names (seen spot.entry) ≡ Some (seen_with (λ n. n) x)) }
+fn with_dot_names(mut names: Dotted, spot: Spot<'_>) -> Result<(Dotted, Spot<'_>), AllocError>
+    ensures { IfOk result (λ x. spec.climb spec.appended dot_name (length spot.entry.tokens.now) names (seen spot.entry) ≡ Some (seen_with (λ n. n) x)) }
 {
     let mut rest = spot;
     for _turn in 0..spot.tokens.len() {
-        let Some((name, next)) = further(rest) else {
+        let Some((name, next)) = dot_name(rest) else {
             return Ok((names, rest));
         };
         names.push(name.clone()?)?;
@@ -42,7 +43,7 @@ pub fn dotted(alloc: Global, spot: Spot<'_>) -> Result<Option<(Dotted, Spot<'_>)
     };
     let mut names = Items::new(alloc);
     names.push(first.clone()?)?;
-    Ok(Some(with_further(names, rest)?))
+    Ok(Some(with_dot_names(names, rest)?))
 }
 
 // The dotted names with commas between them, and the spot behind the closing sign; None where they don't go on up to it.

@@ -4,8 +4,8 @@ ghost use Rattle.cad_grammar.specs.Views.{type_of, annotation_of};
 ghost use Rattle.cad_parse_type.specs.Reading as spec;
 ghost use Rattle.cad_parse_type.specs.Views.{seen, seen_with, annotations_in};
 
-use crate::types::{annotated, annotation_list, whole};
 use crate::spot::Spot;
+use crate::types::{annotated, annotation_list, whole};
 use cad_grammar::{TypeAnnotation, TypeExpr, TypePosition};
 use std::alloc::{AllocError, Global};
 

@@ -6,8 +6,8 @@ ghost use Rattle.cad_grammar.specs.declared.level.TypePosition.TheVariants as po
 ghost use Rattle.cad_parse_type.specs.Reading as spec;
 ghost use Rattle.cad_parse_type.specs.Views.{seen, seen_with, annotations_in};
 
-use crate::names::{authorized, dotted, dotted_list};
 use crate::marks::type_tail;
+use crate::names::{authorized, dotted, dotted_list};
 use crate::spot::Spot;
 use cad_grammar::{Dotted, Entitlements, TypeAnnotation, TypeExpr, TypePosition};
 use cad_syntax::{Keyword, Sign};
@@ -89,13 +89,25 @@ pub fn annotated(
             return Ok(None);
         };
         let is_resource = true;
-        return Ok(Some((TypeAnnotation { is_resource, written }, rest)));
+        return Ok(Some((
+            TypeAnnotation {
+                is_resource,
+                written,
+            },
+            rest,
+        )));
     }
     let Some((written, rest)) = whole(alloc, depth, position, spot)? else {
         return Ok(None);
     };
     let is_resource = false;
-    Ok(Some((TypeAnnotation { is_resource, written }, rest)))
+    Ok(Some((
+        TypeAnnotation {
+            is_resource,
+            written,
+        },
+        rest,
+    )))
 }
 
 // A reference, behind the `&`.
@@ -116,7 +128,13 @@ fn referenced(
         return Ok(None);
     };
     let target = Box::new(alloc, target)?;
-    Ok(Some((TypeExpr::Reference { authorization, target }, rest)))
+    Ok(Some((
+        TypeExpr::Reference {
+            authorization,
+            target,
+        },
+        rest,
+    )))
 }
 
 // A reference, behind the `auth`.

@@ -1,6 +1,5 @@
-use Rattle.std.proofs.Common.{◌≡◌, ap, arith, rules}
+use Rattle.std.proofs.Common.{arith, rules}
 use Rattle.std.proofs.lemmas.Grind.{common_steps}
-use Rattle.cad_parse_type.specs.Reading as spec
 use Rattle.cad_parse_type.specs.Reading.{alternatives}
 use Rattle.cad_parse_type.specs.Views.{seen}
 use Rattle.cad_parse_type.proofs.Turns.{one_more}
