@@ -67,9 +67,12 @@ module _ (types : TypeLaws) (expressions : ExpressionLaws) where
     if_exact : {p q : Spot} {x : StmtTree} → ReadsIf p x q → (depth : ℕ) → p.left ≤ depth
         → (u : Spot) × (keyword k.If p ≡ Some u) × (r.conditional (r.read depth) u ≡ Some (x, q))
     if_exact {p} {q = z} (g.if_else {q = q} {r = w} {u = u} {test = test} {then = body} {otherwise = other} e t b o) depth le =
-        let below : w.left ≤ depth = omega (arith, le, keyword_left _ _ _ e, tested_left types expressions t) in
-        (q, e, steps.conditional_is (r.read depth) q (test, w) (body, u) (other, z) (steps.tested_exact types expressions t (block_weak b)) (block_exact b depth below)
-        (otherwise_exact o depth (omega (arith, below, block_left types expressions b))))
+        let below : w.left ≤ depth = omega (arith, le, keyword_left _ _ _ e, tested_left types expressions t) in (
+          q,
+          e,
+          steps.conditional_is (r.read depth) q (test, w) (body, u) (other, z) (steps.tested_exact types expressions t (block_weak b)) (block_exact b depth below)
+              (otherwise_exact o depth (omega (arith, below, block_left types expressions b))),
+        )
 
     otherwise_exact : {p q : Spot} {x : OtherwiseTree} → ReadsOtherwise p x q → (depth : ℕ) → p.left ≤ depth → r.otherwise (r.read depth) p ≡ Some (x, q)
     otherwise_exact {p} (g.nothing lacks) depth le = steps.nothing_is (r.read depth) p lacks
@@ -108,7 +111,7 @@ module _ (types : TypeLaws) (expressions : ExpressionLaws) where
         steps.cases_more (r.read depth) turns found p q (record { value = e; body = body }, v) e0
         (steps.one_case_is (r.read depth) q u (e, w) (body, v) (expressions.expression_exact e1 (sign_weak s.Colon w u (λ c. refl) e2)) e2 (steps.body_is (r.read depth) u (body, v) (statements_exact b depth below (length u.tokens) (omega arith) [])))
         ∙ cases_exact f more depth (omega (arith, below, statements_left types expressions b)) turns
-          (omega (arith, le, keyword_shorter _ _ _ e0, expressions.expression_shorter e1, after_shorter _ _ _ e2, statements_short types expressions b)) (found ++ (record { value = e; body = body }) ∷ [])
+        (omega (arith, le, keyword_shorter _ _ _ e0, expressions.expression_shorter e1, after_shorter _ _ _ e2, statements_short types expressions b)) (found ++ (record { value = e; body = body }) ∷ [])
         ∙ ap (λ y. Some (y, z)) (append_assoc found ((record { value = e; body = body }) ∷ []) all)
 
     default_exact : {p q : Spot} {x : Default} → ReadsDefault p x q → (depth : ℕ) → p.left < depth → r.default (r.read depth) p ≡ Some (x, q)

@@ -197,21 +197,21 @@ module _ (read : Sort → Reader StmtTree) where
   unfolding r.unnested
   break_is p q e =
       unnested_is p (no_variable k.Break p q refl e) (other_keyword k.Break k.If p q (λ z. cc) e) (other_keyword k.Break k.While p q (λ z. cc) e)
-        (other_keyword k.Break k.For p q (λ z. cc) e) (other_keyword k.Break k.Switch p q (λ z. cc) e)
+      (other_keyword k.Break k.For p q (λ z. cc) e) (other_keyword k.Break k.Switch p q (λ z. cc) e)
       ∙ either_is (keyword k.Break p) _ _ q e
 
   pub continue_is : (p q : Spot) → keyword k.Continue p ≡ Some q → r.statement read p ≡ Some (tree.continue_loop, q)
   unfolding r.unnested
   continue_is p q e =
       unnested_is p (no_variable k.Continue p q refl e) (other_keyword k.Continue k.If p q (λ z. cc) e) (other_keyword k.Continue k.While p q (λ z. cc) e)
-        (other_keyword k.Continue k.For p q (λ z. cc) e) (other_keyword k.Continue k.Switch p q (λ z. cc) e)
+      (other_keyword k.Continue k.For p q (λ z. cc) e) (other_keyword k.Continue k.Switch p q (λ z. cc) e)
       ∙ either_not (keyword k.Break p) _ _ (other_keyword k.Continue k.Break p q (λ z. cc) e) ∙ either_is (keyword k.Continue p) _ _ q e
 
   return_is : (p q : Spot) → keyword k.Return p ≡ Some q → r.statement read p ≡ r.returned q
   unfolding r.unnested
   return_is p q e =
       unnested_is p (no_variable k.Return p q refl e) (other_keyword k.Return k.If p q (λ z. cc) e) (other_keyword k.Return k.While p q (λ z. cc) e)
-        (other_keyword k.Return k.For p q (λ z. cc) e) (other_keyword k.Return k.Switch p q (λ z. cc) e)
+      (other_keyword k.Return k.For p q (λ z. cc) e) (other_keyword k.Return k.Switch p q (λ z. cc) e)
       ∙ either_not (keyword k.Break p) _ _ (other_keyword k.Return k.Break p q (λ z. cc) e) ∙ either_not (keyword k.Continue p) _ _ (other_keyword k.Return k.Continue p q (λ z. cc) e)
       ∙ either_is (keyword k.Return p) _ _ q e
 
@@ -228,7 +228,7 @@ module _ (read : Sort → Reader StmtTree) where
   unfolding r.unnested r.emitted
   emit_is p q v e d =
       unnested_is p (no_variable k.Emit p q refl e) (other_keyword k.Emit k.If p q (λ z. cc) e) (other_keyword k.Emit k.While p q (λ z. cc) e)
-        (other_keyword k.Emit k.For p q (λ z. cc) e) (other_keyword k.Emit k.Switch p q (λ z. cc) e)
+      (other_keyword k.Emit k.For p q (λ z. cc) e) (other_keyword k.Emit k.Switch p q (λ z. cc) e)
       ∙ either_not (keyword k.Break p) _ _ (other_keyword k.Emit k.Break p q (λ z. cc) e) ∙ either_not (keyword k.Continue p) _ _ (other_keyword k.Emit k.Continue p q (λ z. cc) e)
       ∙ either_not (keyword k.Return p) _ _ (other_keyword k.Emit k.Return p q (λ z. cc) e) ∙ either_is (keyword k.Emit p) _ _ q e ∙ then_is (expression q) _ v d
 

@@ -4,10 +4,9 @@
 mod parts;
 mod reader;
 mod simple;
-mod words;
-
 #[cfg(test)]
 mod tests;
+mod words;
 
 pub use parts::maybe_annotated;
 pub use reader::{block, statements};

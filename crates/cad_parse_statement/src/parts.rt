@@ -8,7 +8,7 @@ ghost use Rattle.cad_parse_type.specs.Views.{seen, seen_with};
 use crate::words::{transfer, variable_word};
 use cad_grammar::{Expr, Test, Transfer, TypeAnnotation, VariableKind};
 use cad_parse_expr::expression;
-use cad_parse_type::{annotation, Spot};
+use cad_parse_type::{Spot, annotation};
 use cad_syntax::{Keyword, Name, Sign};
 use std::alloc::{AllocError, Global};
 

@@ -116,7 +116,7 @@ fn statements_stand_apart(rt: HostRuntime) -> Result<(), Fail> {
         ("; break }", "none"),
         ("break", "none"),
         ("break ;", "none"),
-        ("a | - b }", "none"),
+        ("break | - b }", "none"),
         ("- b }", "none"),
         ("{ }", "none"),
     ] {
@@ -174,7 +174,10 @@ fn nested_statements(rt: HostRuntime) -> Result<(), Fail> {
             "switch a { case b : break ; case c : default : d } }",
             "[Switch { value: Name(a), cases: [Case { value: Name(b), body: [Break] }, Case { value: Name(c), body: [] }], default: Some([Expr(Name(d))]) }] 1",
         ),
-        ("switch a { } }", "[Switch { value: Name(a), cases: [], default: None }] 1"),
+        (
+            "switch a { } }",
+            "[Switch { value: Name(a), cases: [], default: None }] 1",
+        ),
         ("switch a { default : case b : } }", "none"),
         ("if a { } { } }", "none"),
     ] {
@@ -190,7 +193,11 @@ fn nestings(rt: HostRuntime) -> Result<(), Fail> {
         (0, "if a { } }", false),
         (2, "if a { } else if b { } }", true),
         (1, "if a { } else if b { } }", false),
-        (2, "if a { } else if b { } | if c { } else { while d { } } }", true),
+        (
+            2,
+            "if a { } else if b { } | if c { } else { while d { } } }",
+            true,
+        ),
         (1, "if c { } else { while d { } } }", false),
     ] {
         let found = read(rt.alloc(), left, text)?;

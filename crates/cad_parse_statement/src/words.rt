@@ -63,12 +63,7 @@ fn begins_no_statement(kind: &TokenKind) -> bool
     matches!(
         kind,
         TokenKind::Sign(
-            Sign::OpenBrace
-                | Sign::Minus
-                | Sign::Star
-                | Sign::Ampersand
-                | Sign::Move
-                | Sign::Slash
+            Sign::OpenBrace | Sign::Minus | Sign::Star | Sign::Ampersand | Sign::Move | Sign::Slash
         )
     )
 }
