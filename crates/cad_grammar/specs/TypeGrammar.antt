@@ -9,7 +9,7 @@ use Rattle.cad_grammar.specs.declared.type_expr.Entitlements.{Entitlements}
 use Rattle.cad_grammar.specs.declared.type_expr.Entitlements.TheVariants as entitlements
 use Rattle.cad_grammar.specs.Trees.{TypeTree, Annotation, annotations_of}
 use Rattle.cad_grammar.specs.Trees as tree
-use Rattle.cad_grammar.specs.Spots.{Spot, back, after, keyword, name, opened, opening, resumed}
+use Rattle.cad_grammar.specs.Spots.{Spot, back, then, ◌>>=◌, after, keyword, name, opened, opening, resumed}
 use Rattle.cad_grammar.specs.Lists.{Listed, Maybe}
 use Rattle.cad_grammar.specs.Levels.{question, questions}
 
@@ -17,6 +17,10 @@ use Rattle.cad_grammar.specs.Levels.{question, questions}
 pub data Dotted : Spot → List Name → Spot → Type 0 where
   single : {p q : Spot} {n : Name} → name p ≡ Some (n, q) → Dotted p (n ∷ []) q
   further : {p q r t : Spot} {n : Name} {names : List Name} → name p ≡ Some (n, q) → after s.Dot q ≡ Some r → Dotted r names t → Dotted p (n ∷ names) t
+
+-- "." Name
+unfoldable pub dot_name : Spot → Option (Name × Spot)
+dot_name p = after s.Dot p >>= name
 
 -- Dotted { "|" Dotted } ")"
 pub data Alternatives : Spot → List (List Name) → Spot → Type 0 where
@@ -64,8 +68,9 @@ mutual
         → ReadsType position.Anywhere u value v → resumed s.CloseBrace p v ≡ Some w → ReadsCore p (tree.dictionary key value) w
     -- "{" Dotted { "," Dotted } "}"
     intersection : {p q r : Spot} {all : List (List Name)} → opening s.OpenBrace p ≡ Some q → Intersected q all r → ReadsCore p (tree.intersection all) (back p r)
-    -- Dotted, where no "<" follows
-    named : {p q : Spot} {n : List Name} → Dotted p n q → after s.Less q ≡ None → ReadsCore p (tree.named n tree.no_annotations) q
+    -- Dotted, all of it, where no "<" follows
+    named : {p q : Spot} {n : List Name}
+        → Dotted p n q → dot_name q ≡ None → after s.Less q ≡ None → ReadsCore p (tree.named n tree.no_annotations) q
     -- Dotted "<" TypeAnnotation { "," TypeAnnotation } ">"
     applied : {p q r u : Spot} {n : List Name} {a : Annotation} {all : List Annotation}
         → Dotted p n q → opening s.Less q ≡ Some r → AnnotationList r (a ∷ all) u → ReadsCore p (tree.named n (annotations_of (a ∷ all))) (back q u)

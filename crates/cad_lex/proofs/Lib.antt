@@ -1,2 +1,12 @@
+pub mod Seams
 pub mod Runs
 pub mod Keywords
+pub mod Numbers
+pub mod Numerals
+pub mod Quotes
+pub mod Gaps
+pub mod Literals
+pub mod Signs
+pub mod Shapes
+pub mod Tokens
+pub mod Turns

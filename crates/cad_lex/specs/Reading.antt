@@ -1,5 +1,5 @@
 -- The lexer as a function on lists.
-use Rattle.std.specs.Prelude.{ℕ, zero, suc, ◌&&◌, ◌||◌, ◌+◌, ◌-◌, ◌*◌, ◌^◌, Bool, true, false, List, [], ◌∷◌, ◌++◌, length, codes, encode_utf8, Option, Some, None, if◌then◌else◌, ◌==◌, nat_lt, nat_le, option_map}
+use Rattle.std.specs.Prelude.{ℕ, zero, suc, ◌&&◌, ◌||◌, ◌+◌, ◌-◌, ◌*◌, ◌^◌, Bool, false, List, [], ◌∷◌, ◌++◌, length, codes, encode_utf8, Option, Some, None, if◌then◌else◌, ◌==◌, nat_lt, nat_le, option_map}
 use Rattle.std.specs.Char.{is_digit, digit_value}
 use Rattle.std.specs.Borrow.{Bor}
 use Rattle.std.specs.Str.{bytes_eq}

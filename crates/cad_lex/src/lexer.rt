@@ -65,7 +65,7 @@ fn word(alloc: Global, bytes: &[u8]) -> Result<(TokenKind, &[u8]), AllocError>
 }
 
 // What `as` begins, before these bytes.
-#[tactic(auto, unfolding(crate::specs::Reading::cast, crate::specs::Reading::judge))]
+#[tactic(auto, unfolding(crate::specs::Reading::cast, crate::specs::Reading::judge, crate::specs::Reading::word_kind, crate::specs::Reading::keyword, crate::specs::Reading::of_two))]
 fn cast(bytes: &[u8]) -> (TokenKind, &[u8])
     ensures { Some (spec.seen result) ≡ spec.judged (Some (spec.cast bytes.now)) }
 {
@@ -121,7 +121,7 @@ pub fn lex(alloc: Global, bytes: &[u8]) -> Result<Tokens, LexStop>
     let mut rest = bytes;
     while !rest.is_empty() {
         if let Some((has_line_feed, behind)) = gap(rest) {
-            after_break = after_break || has_line_feed;
+            after_break |= has_line_feed;
             rest = behind;
             continue;
         }

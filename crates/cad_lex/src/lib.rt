@@ -12,4 +12,6 @@ mod word;
 pub use lexer::{LexStop, lex, one_lexing, one_stop};
 
 #[cfg(test)]
+mod rows;
+#[cfg(test)]
 mod tests;

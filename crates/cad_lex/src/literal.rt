@@ -109,9 +109,7 @@ fn fixed(whole: Option<u128>, decimals: Option<u128>, lacking: usize) -> Option<
     if whole >= 1 << 64 || decimals >= 100_000_000 {
         return None;
     }
-    Some(TokenKind::Fixed(
-        whole * 100_000_000 + decimals * power_of_ten(lacking),
-    ))
+    Some(TokenKind::Fixed(whole * 100_000_000 + decimals * power_of_ten(lacking)))
 }
 
 /// The literal of a number at the front, and the bytes behind it. None where its digits make no literal.

@@ -27,9 +27,8 @@ pub fn is_digit(byte: u8, radix: u8) -> bool
 pub fn add_digit(radix: u8, number: Option<u128>, digit: u8) -> Option<u128>
     ensures { result ≡ spec.add_digit radix number digit }
 {
-    number?
-        .checked_mul(u128::from(radix))?
-        .checked_add(u128::from(digit_value(digit)))
+    let shifted = u128::from(radix).checked_mul(number?)?;
+    shifted.checked_add(u128::from(digit_value(digit)))
 }
 
 /// Digits at the front, with underscores between them.

@@ -139,17 +139,20 @@ pub fn quotation(alloc: Global, mut bytes: &[u8]) -> Result<Option<(Text, &[u8])
     for _turn in 0..bytes.len() {
         let (plain, rest) = split_plain(bytes);
         content.push_str(plain)?;
-        match rest {
-            [b'"', behind @ ..] => return Ok(Some((content, behind))),
-            [b'\\', written @ ..] => {
-                let Some((character, behind)) = escape(written) else {
-                    return Ok(None);
-                };
-                content.push(character)?;
-                bytes = behind;
-            }
-            _ => return Ok(None),
+        let [mark, behind @ ..] = rest else {
+            return Ok(None);
+        };
+        if *mark == b'"' {
+            return Ok(Some((content, behind)));
         }
+        if *mark != b'\\' {
+            return Ok(None);
+        }
+        let Some((character, behind)) = escape(behind) else {
+            return Ok(None);
+        };
+        content.push(character)?;
+        bytes = behind;
     }
     Ok(None)
 }

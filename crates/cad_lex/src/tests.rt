@@ -1,5 +1,6 @@
-// Texts with their tokens. A token is told as its place and its kind; `!` stands where a line feed comes before.
+// Texts with their tokens.
 use super::*;
+use crate::rows::{GAPS, NUMBERS, QUOTATIONS, SIGNS, WORDS};
 use cad_syntax::{Token, TokenKind};
 use std::alloc::{AllocError, Global};
 use std::test::Fail;
@@ -8,25 +9,28 @@ fn push_kind(out: &mut String, kind: &TokenKind) -> Result<(), AllocError> {
     match kind {
         TokenKind::Name(name) => out.push_str(name.0.as_str()),
         TokenKind::Keyword(keyword) => write!(out, "{keyword:?}"),
-        TokenKind::Whole { value, .. } => write!(out, "{value}"),
+        TokenKind::Whole { value, hexadecimal } => {
+            write!(out, "{value}{}", if *hexadecimal { "x" } else { "" })
+        }
+        TokenKind::Fixed(value) => write!(out, "fixed {value}"),
+        TokenKind::Text(text) => write!(out, "{:?}", text.as_str()),
         TokenKind::Sign(sign) => write!(out, "{sign:?}"),
-        _ => out.push_str("unread"),
     }
 }
 
 fn push_token(out: &mut String, token: &Token) -> Result<(), AllocError> {
+    if !out.is_empty() {
+        out.push_str(", ")?;
+    }
     if token.after_break {
         out.push_str("!")?;
     }
-    let start = token.start;
-    let end = token.end;
-    write!(out, "{start}-{end} ")?;
-    push_kind(out, &token.kind)?;
-    out.push_str("; ")
+    write!(out, "{}-{} ", token.start, token.end)?;
+    push_kind(out, &token.kind)
 }
 
-fn told(alloc: Global, text: &str) -> Result<String, AllocError> {
-    match lex(alloc, text.as_bytes()) {
+fn told(alloc: Global, code: &[u8]) -> Result<String, AllocError> {
+    match lex(alloc, code) {
         Ok(tokens) => {
             let mut out = String::new(alloc);
             for token in tokens.as_slice() {
@@ -39,83 +43,63 @@ fn told(alloc: Global, text: &str) -> Result<String, AllocError> {
     }
 }
 
-#[test]
-fn texts(rt: HostRuntime) -> Result<(), Fail> {
-    let rows = [
-        ("", ""),
-        (" \t\r\n ", ""),
-        ("access", "0-6 Access; "),
-        ("accessx all", "0-7 accessx; 8-11 all; "),
-        ("self_ self _", "0-5 self_; 6-10 Self_; 11-12 _; "),
-        ("1_a", "0-1 1; 1-3 _a; "),
-        ("007", "0-3 7; "),
-        ("a1 b", "0-2 a1; 3-4 b; "),
-        ("a\nb\r\nc\rd", "0-1 a; !2-3 b; !5-6 c; 7-8 d; "),
-        ("\n x", "!2-3 x; "),
-        ("a\n\n + 1", "0-1 a; !4-5 Plus; 6-7 1; "),
-        (
-            "{}():.,<>!/&+*",
-            "0-1 OpenBrace; 1-2 CloseBrace; 2-3 OpenParenthesis; 3-4 CloseParenthesis; 4-5 Colon; 5-6 Dot; 6-7 Comma; 7-8 Less; 8-9 Greater; 9-10 Bang; 10-11 Slash; 11-12 Ampersand; 12-13 Plus; 13-14 Star; ",
-        ),
-        (
-            "fun f(): Int { return 1 }",
-            "0-3 Fun; 4-5 f; 5-6 OpenParenthesis; 6-7 CloseParenthesis; 7-8 Colon; 9-12 Int; 13-14 OpenBrace; 15-21 Return; 22-23 1; 24-25 CloseBrace; ",
-        ),
-        (
-            "340282366920938463463374607431768211455",
-            "0-39 340282366920938463463374607431768211455; ",
-        ),
-    ];
-    for (text, tokens) in rows {
-        let told = told(rt.alloc(), text)?;
-        assert_eq!(rt; told.as_str(), tokens, "in {text:?}");
+// The rows that are told otherwise than they say.
+fn differences(alloc: Global, rows: &str) -> Result<String, AllocError> {
+    let mut out = String::new(alloc);
+    for row in rows.split('\n') {
+        let Some((code, want)) = row.split_once(" ⇒") else {
+            continue;
+        };
+        let code = code.replace(alloc, "↵", "\n")?;
+        let code = code.replace(alloc, "↤", "\r")?;
+        let told = told(alloc, code.as_bytes())?;
+        if told.as_str() != want.trim_start() {
+            write!(out, "{row}: {told}\n")?;
+        }
     }
+    Ok(out)
+}
+
+#[test]
+fn words_are_read(rt: HostRuntime) -> Result<(), Fail> {
+    assert_eq!(rt; differences(rt.alloc(), WORDS)?.as_str(), "");
     Ok(())
 }
 
 #[test]
-fn stops(rt: HostRuntime) -> Result<(), Fail> {
-    let rows = [
-        ("# x", "stop 0"),
-        ("a #", "stop 2"),
-        ("12a", "stop 0"),
-        ("1 12a", "stop 2"),
-        ("0x1", "stop 0"),
-        ("a\n;", "stop 2"),
-        ("aé", "stop 1"),
-        ("x 340282366920938463463374607431768211456", "stop 2"),
-        ("3402823669209384634633746074317682114550", "stop 0"),
-    ];
-    for (text, stop) in rows {
-        let told = told(rt.alloc(), text)?;
-        assert_eq!(rt; told.as_str(), stop, "in {text:?}");
-    }
+fn numbers_are_read(rt: HostRuntime) -> Result<(), Fail> {
+    assert_eq!(rt; differences(rt.alloc(), NUMBERS)?.as_str(), "");
     Ok(())
 }
 
-// Every keyword, and no other word of the grammar.
 #[test]
-fn keywords(rt: HostRuntime) -> Result<(), Fail> {
-    let words =
-        "access as auth break case continue contract create default destroy else emit enum event execute false for fun if import in init interface let nil post pre prepare resource return self struct switch transaction true var while";
-    let mut count = 0usize;
-    for word in words.split(' ') {
-        let tokens = lex(rt.alloc(), word.as_bytes())?;
-        assert_eq!(rt; tokens.len(), 1);
-        assert!(rt;
-            matches!(tokens.as_slice()[0].kind, TokenKind::Keyword(_)),
-            "{word:?}"
-        );
-        count = count.wrapping_add(1);
-    }
-    assert_eq!(rt; count, 37);
-    for word in "all account entitlement from include mapping view As".split(' ') {
-        let tokens = lex(rt.alloc(), word.as_bytes())?;
-        assert_eq!(rt; tokens.len(), 1);
-        assert!(rt;
-            matches!(tokens.as_slice()[0].kind, TokenKind::Name(_)),
-            "{word:?}"
-        );
-    }
+fn quotations_are_read(rt: HostRuntime) -> Result<(), Fail> {
+    assert_eq!(rt; differences(rt.alloc(), QUOTATIONS)?.as_str(), "");
+    Ok(())
+}
+
+#[test]
+fn gaps_are_passed(rt: HostRuntime) -> Result<(), Fail> {
+    assert_eq!(rt; differences(rt.alloc(), GAPS)?.as_str(), "");
+    Ok(())
+}
+
+#[test]
+fn signs_are_read(rt: HostRuntime) -> Result<(), Fail> {
+    assert_eq!(rt; differences(rt.alloc(), SIGNS)?.as_str(), "");
+    Ok(())
+}
+
+// The first byte that isn't UTF-8 goes before all else.
+#[test]
+fn bad_bytes_stop(rt: HostRuntime) -> Result<(), Fail> {
+    let alloc = rt.alloc();
+    assert_eq!(rt; told(alloc, b"a\x80")?.as_str(), "stop 1");
+    assert_eq!(rt; told(alloc, b"# \xff")?.as_str(), "stop 2");
+    assert_eq!(rt; told(alloc, b"\"ab\xff")?.as_str(), "stop 3");
+    assert_eq!(rt; told(alloc, b"/* \xff")?.as_str(), "stop 3");
+    assert_eq!(rt; told(alloc, b"a \xe2\x82")?.as_str(), "stop 2");
+    assert_eq!(rt; told(alloc, b"\"\xe2\x82x\"")?.as_str(), "stop 1");
+    assert_eq!(rt; told(alloc, b"\"\xed\xa0\x80\"")?.as_str(), "stop 1");
     Ok(())
 }

@@ -1,2 +1,6 @@
 //! Reading of declarations and programs.
 #![tactic(auto)]
+
+mod program;
+
+pub use program::{ParseStop, parse_program};
