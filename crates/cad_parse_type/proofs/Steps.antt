@@ -11,12 +11,12 @@ use Rattle.cad_grammar.specs.Trees.{TypeTree, Annotation, annotations_of}
 use Rattle.cad_grammar.specs.Trees as tree
 use Rattle.cad_grammar.specs.Spots.{Spot, back, then, either, after, keyword, opened, opening, resumed}
 use Rattle.cad_grammar.specs.Levels.{question, questions}
-use Rattle.cad_grammar.specs.TypeGrammar.{Dotted, Authorized}
+use Rattle.cad_grammar.specs.TypeGrammar.{dot_name, Dotted, Authorized}
 use Rattle.cad_parse_type.specs.Reading.{Reader, climb, marked, dotted, dotted_list}
 use Rattle.cad_parse_type.specs.Reading as r
 use Rattle.cad_parse_type.proofs.Heads.{after_head, opening_is, opening_head, other, sign_no_keyword, name_no_keyword, name_no_sign}
 use Rattle.cad_parse_type.proofs.Climbs.{then_is, then_not, either_is, either_not, climb_stops}
-use Rattle.cad_parse_type.proofs.NameLaws.{dotted_exact, dotted_head, authorized_exact}
+use Rattle.cad_parse_type.proofs.NameLaws.{dotted_exact, dotted_whole, dotted_head, authorized_exact}
 use Rattle.cad_parse_type.proofs.TypeLaws.{TypeOver}
 
 -- ---- the `?` behind a type
@@ -125,9 +125,9 @@ module _ (core : Reader TypeTree) where
       ∙ either_not (after s.OpenParenthesis p) _ _ (name_no_sign s.OpenParenthesis h.0 p h.1) ∙ either_not (after s.OpenBracket p) _ _ (name_no_sign s.OpenBracket h.0 p h.1)
       ∙ either_not (after s.OpenBrace p) _ _ (name_no_sign s.OpenBrace h.0 p h.1)
 
-  pub named_is : (p q : Spot) (n : List Name) → Dotted p n q → after s.Less q ≡ None → after s.Dot q ≡ None → r.core_of core p ≡ Some (tree.named n tree.no_annotations, q)
+  pub named_is : (p q : Spot) (n : List Name) → Dotted p n q → dot_name q ≡ None → after s.Less q ≡ None → r.core_of core p ≡ Some (tree.named n tree.no_annotations, q)
   unfolding r.named_type
-  named_is p q n d less dot = name_begins p q n d ∙ then_is (dotted p) _ (n, q) (dotted_exact d dot) ∙ either_not (after s.Less q) _ _ less
+  named_is p q n d over less = name_begins p q n d ∙ then_is (dotted p) _ (n, q) (dotted_whole d over) ∙ either_not (after s.Less q) _ _ less
 
   pub applied_is : (p q u v : Spot) (n : List Name) (all : List Annotation) → Dotted p n q → opening s.Less q ≡ Some u → r.annotation_list core u ≡ Some (all, v)
       → r.core_of core p ≡ Some (tree.named n (annotations_of all), back q v)

@@ -12,6 +12,7 @@ use Rattle.cad_grammar.specs.Trees.{TypeTree, Annotation, annotations_of}
 use Rattle.cad_grammar.specs.Trees as tree
 use Rattle.cad_grammar.specs.Spots.{Spot, back, ◌>>=◌, either, after, keyword, name, opened, resumed}
 use Rattle.cad_grammar.specs.Levels.{question, questions}
+use Rattle.cad_grammar.specs.TypeGrammar.{dot_name}
 
 abbrev pub Found : Type 0 → Type 0
 Found A = Option (A × Spot)
@@ -46,17 +47,13 @@ maybe begins item p = either (begins p) (λ q. item q >>= (λ x. Some (Some x.0,
 
 -- ---- names
 
--- "." Name
-unfoldable pub further : Reader Name
-further p = after s.Dot p >>= name
-
 abbrev pub appended : {A : Type 0} → List A → A → List A
 appended all a = all ++ a ∷ []
 
 unfoldable pub dotted : Reader (List Name)
 dotted p = do
   x ← name p
-  climb appended further (length x.1.tokens) (x.0 ∷ []) x.1
+  climb appended dot_name (length x.1.tokens) (x.0 ∷ []) x.1
 
 unfoldable pub dotted_list : Sign → Reader (List (List Name))
 dotted_list closing p = listed dotted closing (length p.tokens) [] p >>= filled

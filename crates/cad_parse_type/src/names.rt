@@ -1,5 +1,6 @@
 // Dotted names, lists of them, and entitlements.
 ghost use Rattle.std.specs.Prelude.{◌≡◌, [], length, IfOk, Some, option_map};
+ghost use Rattle.cad_grammar.specs.TypeGrammar.{dot_name};
 ghost use Rattle.cad_parse_type.specs.Reading as spec;
 ghost use Rattle.cad_parse_type.specs.Views.{seen, seen_with, seen_name};
 
@@ -9,9 +10,9 @@ use cad_syntax::{Items, Name, Sign};
 use std::alloc::{AllocError, Global};
 
 // The name behind a `.`, and the spot behind it; None where none stands there.
-#[tactic(auto, unfolding(crate::specs::Reading::further))]
+#[tactic(auto, unfolding(cad_grammar::specs::TypeGrammar::dot_name))]
 fn further(spot: Spot<'_>) -> Option<(&Name, Spot<'_>)>
-    ensures { option_map (seen_with seen_name) result ≡ spec.further (seen spot.entry) }
+    ensures { option_map (seen_with seen_name) result ≡ dot_name (seen spot.entry) }
 {
     spot.after(Sign::Dot)?.name()
 }
@@ -19,7 +20,7 @@ fn further(spot: Spot<'_>) -> Option<(&Name, Spot<'_>)>
 // The names with all that stand behind them, each behind a `.`, and the spot behind the last.
 #[tactic(auto, unfolding(crate::specs::Reading::climb))]
 fn with_further(mut names: Dotted, spot: Spot<'_>) -> Result<(Dotted, Spot<'_>), AllocError>
-    ensures { IfOk result (λ x. spec.climb spec.appended spec.further (length spot.entry.tokens.now) names (seen spot.entry) ≡ Some (seen_with (λ n. n) x)) }
+    ensures { IfOk result (λ x. spec.climb spec.appended dot_name (length spot.entry.tokens.now) names (seen spot.entry) ≡ Some (seen_with (λ n. n) x)) }
 {
     let mut rest = spot;
     for _turn in 0..spot.tokens.len() {
