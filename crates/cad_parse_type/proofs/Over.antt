@@ -32,9 +32,9 @@ pub no_questions : (at : TypePosition) (p : Spot) → after s.Coalesce p ≡ Non
 no_questions at p h = none_of (questions at p) (λ q e. let c = sym h ∙ questions_after at p q e in cc)
 
 -- a type is over before another sign
-pub over_sign : (at : TypePosition) (sign : Sign) (q : Spot) → (sign ≡ s.Dot → ⊥) → (sign ≡ s.Question → ⊥) → (sign ≡ s.Coalesce → ⊥)
+pub over_sign : (at : TypePosition) (sign : Sign) (q : Spot) → (sign ≡ s.Question → ⊥) → (sign ≡ s.Coalesce → ⊥)
     → head q ≡ Some (kind.Sign sign) → TypeOver at q
-over_sign at sign q dot question questions e = record {
+over_sign at sign q question questions e = record {
   no_question = no_question at q (not_after sign s.Question q question e);
   no_questions = no_questions at q (not_after sign s.Coalesce q questions e);
 }

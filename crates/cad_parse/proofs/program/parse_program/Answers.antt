@@ -3,7 +3,7 @@ use Rattle.cad_syntax.specs.Lexes.{Lexes, Stops}
 use Rattle.cad_grammar.specs.declared.phase.Phase.TheVariants.{Lex}
 use Rattle.cad_parse.specs.Program.{Refuses}
 use Rattle.cad_parse.proofs.Programs.{never_refused}
-use Rattle.cad_parse.proofs.Answering.{at_same, parsed, accepted, stopped}
+use Rattle.cad_parse.proofs.Answering.{parsed, accepted, stopped, stopped_lexing}
 use Rattle.cad_parse.proofs.Whole.{declaration_laws}
 use Rattle.cad_parse.proofs.program.parse_program.Goals as goal
 
@@ -20,6 +20,4 @@ pub returns-in-Ok-clause-stops : goal.returns-in-Ok-clause-stops
 returns-in-Ok-clause-stops c = λ phase n e. stopped c.args.bytes.now c.as_slice.result.now (subst (Lexes c.args.bytes.now) (sym c.as_slice.ensures) c.in-Ok.ensures.found) phase n (c.tokens_program.ensures.stops phase n e)
 
 pub returns-in-Err-At-clause-stops : goal.returns-in-Err-At-clause-stops
-returns-in-Err-At-clause-stops c = λ phase n e.
-    let same = at_same {phase = Lex} {other = phase} {m = c.in-Err-At.at} {n = n} e in
-    subst (λ p. Refuses c.args.bytes.now p n) same.0 (subst (Stops c.args.bytes.now) same.1 (c.in-Err-At.ensures.place c.in-Err-At.at ?))
+returns-in-Err-At-clause-stops c = λ phase n e. stopped_lexing c.args.bytes.now phase _ n (let w = c.in-Err-At.ensures.place in let v = c.in-Err-At.at-is in let u = c.in-Err-At.is in ?) e

@@ -1,6 +1,7 @@
 use Rattle.cad_grammar.specs.TypeGrammar.{dot_name}
 use Rattle.std.proofs.Common.{arith, rules}
 use Rattle.std.proofs.lemmas.Grind.{common_steps}
+use Rattle.cad_grammar.specs.TypeGrammar.{dot_name}
 use Rattle.cad_parse_type.specs.Reading as spec
 use Rattle.cad_parse_type.specs.Reading.{climb}
 use Rattle.cad_parse_type.specs.Views.{seen}
