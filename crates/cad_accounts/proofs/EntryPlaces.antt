@@ -9,6 +9,7 @@ use Rattle.std.specs.declared.cmp.Ordering.{Ordering}
 use Rattle.std.specs.declared.cmp.Ordering.TheVariants.{Less, Equal, Greater}
 use Rattle.std.proofs.lemmas.Cmp.{nat_list_cmp_total, tied_itself, alike_right}
 use Rattle.std.proofs.lemmas.Map.Lookups.{exact_bytes}
+use Rattle.std.proofs.lemmas.List.{get_or_default}
 use Rattle.cad_wire.specs.declared.entry.Entry.{Entry}
 use Rattle.cad_wire.specs.Body.{are_ascending}
 use Rattle.cad_accounts.specs.Registers.{Map, same_key, changed, applied}
@@ -86,7 +87,7 @@ steps Greater Greater f g = omega arith
 steps_by : (x y key : List ℕ) → compared x y ≡ Less → ordering_index (compared x key) ≤ ordering_index (compared y key)
 steps_by x y key lt = steps (compared x key) (compared y key) (λ e. less-trans x y key lt e) (λ e. sym (alike_right nat_list_cmp_total y key x e) ∙ lt)
 
-at_under : (key : List ℕ) (es : List Entry) (i : ℕ) (d : Entry) → Under key es → i < length es → compared key (get_or es i d).key.0 ≡ Less
+pub at_under : (key : List ℕ) (es : List Entry) (i : ℕ) (d : Entry) → Under key es → i < length es → compared key (get_or es i d).key.0 ≡ Less
 at_under key [] i d u lt = absurd (omega arith)
 at_under key (e ∷ es) zero d u lt = u.0
 at_under key (e ∷ es) (suc i) d u lt = at_under key es i d u.1 (omega arith)
@@ -101,6 +102,43 @@ searchable key (e ∷ es) r (suc i) (suc j) d le lt = searchable key es r.1 i j 
 pub found_place : (key : List ℕ) (es : List Entry) (place : Result ℕ ℕ) → are_ascending es ≡ true → IsSearchInRange place (length es) → IsBinarySearchResult (λ e. compared e.key.0 key) es place → IsPlace es key place
 found_place key es (Ok i) a bound position = record { below = bound; is = λ d. exact_bytes (get_or es i d).key.0 key (position d) }
 found_place key es (Err i) a bound position = record { within = bound; parts = position (searchable key es (rising es a)) }
+
+-- ---- what the calls' answers say
+
+pub key_there : (es items : List Entry) (key now : List ℕ) (i : ℕ) → items ≡ es → now ≡ key → HasKey items now i → HasKey es key i
+key_there es items key now i e f h = subst (λ (l : List Entry). HasKey l key i) e (subst (λ (k : List ℕ). HasKey items k i) f h)
+
+pub belongs_there : (es items : List Entry) (key now : List ℕ) (i : ℕ) → items ≡ es → now ≡ key → Belongs items now i → Belongs es key i
+belongs_there es items key now i e f h = subst (λ (l : List Entry). Belongs l key i) e (subst (λ (k : List ℕ). Belongs items k i) f h)
+
+-- ---- the last entry
+
+-- each of these keys is less
+abbrev pub Below : List ℕ → List Entry → Type 0
+Below key = AllByRecursion (λ e. compared e.key.0 key ≡ Less)
+
+below_last : (key : List ℕ) (es : List Entry) (i : ℕ) (d : Entry) → Rising es → suc i ≡ length es → compared (get_or es i d).key.0 key ≡ Less → Below key es
+below_last key [] i d r n lt = tt
+below_last key (e ∷ []) zero d r n lt = (lt, tt)
+below_last key (e ∷ f ∷ es) zero d r n lt = absurd (omega (arith, n))
+below_last key (e ∷ []) (suc i) d r n lt = absurd (omega (arith, n))
+below_last key (e ∷ f ∷ es) (suc i) d r n lt =
+    let rest = below_last key (f ∷ es) i d r.1 (omega (arith, n)) lt in
+    (less-trans e.key.0 f.key.0 key r.0.0 rest.0, rest)
+
+each_below : (key : List ℕ) (es : List Entry) → Below key es → (k : ℕ) (d : Entry) → k < length es → compared (get_or es k d).key.0 key ≡ Less
+each_below key [] b k d lt = absurd (omega arith)
+each_below key (e ∷ es) b zero d lt = b.0
+each_below key (e ∷ es) b (suc k) d lt = each_below key es b.1 k d (omega arith)
+
+pub behind_last : (es : List Entry) (key now : List ℕ) (i : ℕ) (d : Entry) (o : Ordering) → are_ascending es ≡ true → suc i ≡ length es → now ≡ (get_or es i d).key.0 → o ≡ compared now key → o ≡ Less → Belongs es key (length es)
+behind_last es key now i d o a last is answer less =
+    let below = below_last key es i d (rising es a) last (ap (λ (k : List ℕ). compared k key) (sym is) ∙ sym answer ∙ less) in
+    record { within = omega arith; parts = (λ k f lo hi. each_below key es below k f hi, λ k f lo hi. absurd (omega (arith, lo, hi))) }
+
+pub stands_at : (es : List Entry) (key now : List ℕ) (i : ℕ) (d : Entry) (o : Ordering) → i < length es → now ≡ (get_or es i d).key.0 → o ≡ compared now key → o ≡ Equal → HasKey es key i
+stands_at es key now i d o below is answer same =
+    record { below = below; is = λ f. ap (λ (x : Entry). x.key.0) (get_or_default es i f d below) ∙ sym is ∙ exact_bytes now key (sym answer ∙ same) }
 
 -- ---- an entry that is there
 
@@ -118,12 +156,12 @@ free_above : (es : List Entry) (key : List ℕ) → AllWithin (λ e. compared e.
 free_above [] key above = tt
 free_above (e ∷ es) key above = (greater-less e.key.0 key (above 0 e (omega arith) (omega arith)), free_above es key (λ k d lo hi. above (suc k) d (omega arith) (omega arith)))
 
-parts_tail : (e : Entry) (es : List Entry) (key : List ℕ) (i : ℕ) → Belongs (e ∷ es) key (suc i) → Belongs es key i
+pub parts_tail : (e : Entry) (es : List Entry) (key : List ℕ) (i : ℕ) → Belongs (e ∷ es) key (suc i) → Belongs es key i
 parts_tail e es key i b =
     let w = b.within in
     record { within = omega arith; parts = (λ k d lo hi. b.parts.0 (suc k) d (omega arith) (omega arith), λ k d lo hi. b.parts.1 (suc k) d (omega arith) (omega arith)) }
 
-before_it : (e : Entry) (es : List Entry) (key : List ℕ) (i : ℕ) → Belongs (e ∷ es) key (suc i) → compared e.key.0 key ≡ Less
+pub before_it : (e : Entry) (es : List Entry) (key : List ℕ) (i : ℕ) → Belongs (e ∷ es) key (suc i) → compared e.key.0 key ≡ Less
 before_it e es key i b = b.parts.0 0 e (omega arith) (omega arith)
 
 pub belongs_free : (es : List Entry) (key : List ℕ) (i : ℕ) → Belongs es key i → Free key es

@@ -4,12 +4,13 @@ use Rattle.std.specs.Prelude.{sum_by, map, nat_lt}
 use Rattle.std.specs.List.{insert, remove, flat_map}
 use Rattle.std.specs.List.Sorted.{IsSearchInRange, IsBinarySearchResult, IsSortedBy}
 use Rattle.std.specs.Ordering.{nat_cmp, is_lt}
-use Rattle.std.specs.declared.cmp.Ordering.TheVariants.{Less, Greater}
+use Rattle.std.specs.declared.cmp.Ordering.{Ordering}
+use Rattle.std.specs.declared.cmp.Ordering.TheVariants.{Less, Equal, Greater}
 use Rattle.std.specs.Cmp.Lexicographic.{slice_cmp}
 use Rattle.std.proofs.lemmas.Cmp.{nat_list_cmp_total}
 use Rattle.std.proofs.lemmas.List.Sorted.{searchable_from_sorted}
-use Rattle.std.proofs.lemmas.List.{take-append-drop, set_split}
-use Rattle.std.proofs.Math.Seq.{drop-cons}
+use Rattle.std.proofs.lemmas.List.{take-append-drop, set_split, get_or_default}
+use Rattle.std.proofs.Math.Seq.{drop-cons, take-length, drop-length}
 use Rattle.std.proofs.Math.ListN.{set}
 use Rattle.std.proofs.lemmas.Bool.Decides.{nat_tests}
 use Rattle.std.proofs.lemmas.List.Sums.{sum_by-cons, sum_by-insert, sum_by-remove, sum_by-set, get_or-le-sum_by}
@@ -22,7 +23,7 @@ use Rattle.cad_accounts.specs.Registers.{entry_of, size_of}
 use Rattle.cad_accounts.specs.declared.row.Row.{Row}
 use Rattle.cad_accounts.specs.Registers.{same_key, at, are_rising, changed}
 use Rattle.cad_accounts.specs.Rows.{row_size, is_short, are_short, before, AllBefore, AllBehind, StandsAt, BelongsAt, IsPlace}
-use Rattle.cad_accounts.proofs.Keys.{same_is, is_same, not_back, equal_is, greater_is}
+use Rattle.cad_accounts.proofs.Keys.{same_is, is_same, passes, not_back, equal_is, greater_is}
 use Rattle.cad_accounts.proofs.RowLaws.{both_left, both_right, tail_rises, rises_with, rises_without, before_of, behind_of, none_at, at_with, short_with, short_without}
 
 -- ---- the search
@@ -63,6 +64,30 @@ placed key rows (Err i) e inside h =
       in_front = before_so key rows i (λ k d lt in_rows. parts.0 k d (omega arith) lt);
       behind = behind_so key rows i (λ k d le in_rows. parts.1 k d le in_rows);
     }
+
+-- ---- the last row
+
+before_last : (key : List ℕ) (rows : List Row) (i : ℕ) (d : Row) → are_rising rows ≡ true → suc i ≡ length rows → before (get_or rows i d).key.0 key ≡ true → AllBefore rows key
+before_last key [] i d e n h = tt
+before_last key (r ∷ []) zero d e n h = (h, tt)
+before_last key (r ∷ s ∷ rows) zero d e n h = absurd (omega (arith, n))
+before_last key (r ∷ []) (suc i) d e n h = absurd (omega (arith, n))
+before_last key (r ∷ s ∷ rows) (suc i) d e n h =
+    let rest = before_last key (s ∷ rows) i d (tail_rises r (s ∷ rows) e) (omega (arith, n)) h in
+    (passes r.key.0 s.key.0 key (both_left (before r.key.0 s.key.0) (are_rising (s ∷ rows)) e) rest.0, rest)
+
+pub behind_last : (rows : List Row) (key now : List ℕ) (i : ℕ) (d : Row) (o : Ordering) → are_rising rows ≡ true → suc i ≡ length rows → now ≡ (get_or rows i d).key.0 → o ≡ slice_cmp nat_cmp now key → o ≡ Less → BelongsAt key rows (length rows)
+behind_last rows key now i d o e last is answer less =
+    let here : before (get_or rows i d).key.0 key ≡ true = ap (λ (k : List ℕ). before k key) (sym is) ∙ ap is_lt (sym answer ∙ less) in
+    record {
+      within = omega arith;
+      in_front = subst (λ (l : List Row). AllBefore l key) (sym (take-length rows)) (before_last key rows i d e last here);
+      behind = subst (AllBehind key) (sym (drop-length rows)) tt;
+    }
+
+pub stands_at : (rows : List Row) (key now : List ℕ) (i : ℕ) (d : Row) (o : Ordering) → i < length rows → now ≡ (get_or rows i d).key.0 → o ≡ slice_cmp nat_cmp now key → o ≡ Equal → StandsAt key rows i
+stands_at rows key now i d o within is answer same =
+    record { within = within; key_is = λ f. ap (λ (r : Row). r.key.0) (get_or_default rows i f d within) ∙ sym is ∙ equal_is now key (sym answer ∙ same) }
 
 -- ---- around a place
 

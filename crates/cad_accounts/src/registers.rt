@@ -9,6 +9,7 @@ use crate::row::Row;
 use cad_syntax::{Bytes, Items};
 use cad_wire::{Entry, Key};
 use std::alloc::{AllocError, Global};
+use std::cmp::Ordering;
 
 /// A finite map from keys to bytes, with its keys in byte order.
 pub trait Registers {
@@ -25,14 +26,35 @@ pub trait Registers {
     /// The key at a place in byte order, None exactly where there are at most `i` keys.
     fn key_at(&self, i: u64) -> Option<&Key>
         ensures { option_map (λ key. key.now) result ≡ slice_get (map (λ row. row.key) (rows self.entry.now)) i };
+
+    /// The bytes at a place in byte order of the keys, None exactly where there are at most `i` registers.
+    fn value_at(&self, i: u64) -> Option<&[u8]>
+        ensures { option_map (λ bytes. bytes.now) result ≡ slice_get (map (λ row. row.value) (rows self.entry.now)) i };
 }
 
-// The place of a key's row, or where it belongs.
-fn place_of(rows: &[Row], key: &[u8]) -> Result<usize, usize>
+// The place of a key's row, or where it belongs, by halving.
+fn search(rows: &[Row], key: &[u8]) -> Result<usize, usize>
     requires { are_rising rows.now ≡ true }
     ensures { IsPlace key.now rows.now result }
 {
     rows.binary_search_by(|row| row.key.0.as_slice().cmp(key))
+}
+
+// The place of a key's row, or where it belongs. The last row is looked at before others, since rows are mostly added behind
+// it.
+fn place_of(rows: &[Row], key: &[u8]) -> Result<usize, usize>
+    requires { are_rising rows.now ≡ true }
+    ensures { IsPlace key.now rows.now result }
+{
+    let count = rows.len();
+    if count == 0 {
+        return Err(0);
+    }
+    match rows[count - 1].key.0.as_slice().cmp(key) {
+        Ordering::Less => Err(count),
+        Ordering::Equal => Ok(count - 1),
+        Ordering::Greater => search(rows, key),
+    }
 }
 
 // How many bytes the entry of a row has.
@@ -83,6 +105,11 @@ impl Registers for MapRegisters {
             Some(row) => Some(&row.key),
             None => None,
         }
+    }
+
+    fn value_at(&self, i: u64) -> Option<&[u8]> {
+        let row = self.rows.as_slice().get(i as usize)?;
+        Some(row.value.as_slice())
     }
 }
 
