@@ -7,7 +7,8 @@ use Rattle.std.proofs.lemmas.List.Elements.{filter_passes}
 use Rattle.cad_wire.specs.declared.entry.Entry.{Entry}
 use Rattle.cad_wire.specs.Body.{are_ascending}
 use Rattle.cad_accounts.specs.Registers.{Map, same_key, changed, applied, Leads}
-use Rattle.cad_accounts.proofs.Maps.{same_key-self, keys_same, some_key, other_key, changed_kept, applied_after}
+use Rattle.cad_accounts.proofs.Maps.{some_key, other_key, changed_kept, applied_after}
+use Rattle.cad_accounts.proofs.Keys.{itself, same_is}
 use Rattle.cad_accounts.proofs.EntryPlaces.{Under, Under-Free, Rising, rising, ascending}
 
 -- ---- a test whether bytes differ
@@ -32,7 +33,7 @@ differ-true None (Some v) e same = absurd cc
 differ-true (Some u) None e same = absurd cc
 differ-true (Some u) (Some v) e same =
     let w : u ≡ v = cc in
-    let t : same_key u v ≡ true = subst (λ (x : List ℕ). same_key u x ≡ true) w (same_key-self u) in
+    let t : same_key u v ≡ true = subst (λ (x : List ℕ). same_key u x ≡ true) w (itself u) in
     let f : same_key u v ≡ false = not_true (same_key u v) e in
     let c : true ≡ false = sym t ∙ f in
     absurd cc
@@ -41,7 +42,7 @@ pub differ-false : (a b : Option (List ℕ)) → differ a b ≡ false → a ≡ 
 differ-false None None e = refl
 differ-false None (Some v) e = absurd cc
 differ-false (Some u) None e = absurd cc
-differ-false (Some u) (Some v) e = ap (λ (x : List ℕ). Some x) (keys_same u v (not_false (same_key u v) e))
+differ-false (Some u) (Some v) e = ap (λ (x : List ℕ). Some x) (same_is u v (not_false (same_key u v) e))
 
 one_test : (r s : Bool) → (r ≡ true → s ≡ true) → (s ≡ true → r ≡ true) → r ≡ s
 one_test true s f g = sym (f refl)

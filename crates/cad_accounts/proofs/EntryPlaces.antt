@@ -14,7 +14,8 @@ use Rattle.cad_wire.specs.declared.entry.Entry.{Entry}
 use Rattle.cad_wire.specs.Body.{are_ascending}
 use Rattle.cad_accounts.specs.Registers.{Map, same_key, changed, applied}
 use Rattle.cad_accounts.specs.Places.{HasKey, Belongs, IsPlace}
-use Rattle.cad_accounts.proofs.Maps.{keys_differ, same_key-comm, changed_there, changed_twice, Free, applied_after, applied_free}
+use Rattle.cad_accounts.proofs.Maps.{changed_there, changed_twice, Free, applied_after, applied_free}
+use Rattle.cad_accounts.proofs.Keys.{not_same, not_same_back}
 
 abbrev pub compared : List ℕ → List ℕ → Ordering
 compared = slice_cmp nat_cmp
@@ -25,13 +26,13 @@ pub less-trans : (x y z : List ℕ) → compared x y ≡ Less → compared y z �
 less-trans = nat_list_cmp_total.trans
 
 pub less-differ : (x y : List ℕ) → compared x y ≡ Less → same_key x y ≡ false
-less-differ x y e = keys_differ x y (λ h. let t : compared x y ≡ Equal = subst (λ (k : List ℕ). compared x k ≡ Equal) h (tied_itself nat_list_cmp_total x) in cc)
+less-differ x y e = not_same x y (λ h. let t : compared x y ≡ Equal = subst (λ (k : List ℕ). compared x k ≡ Equal) h (tied_itself nat_list_cmp_total x) in cc)
 
 pub greater-less : (x y : List ℕ) → compared x y ≡ Greater → compared y x ≡ Less
 greater-less x y e = nat_list_cmp_total.antisymm y x ∙ ap ordering_reverse e
 
 pub greater-differ : (x y : List ℕ) → compared x y ≡ Greater → same_key x y ≡ false
-greater-differ x y e = same_key-comm y x (less-differ y x (greater-less x y e))
+greater-differ x y e = not_same_back y x (less-differ y x (greater-less x y e))
 
 is_less : (o : Ordering) → is_lt o ≡ true → o ≡ Less
 is_less Less e = refl
@@ -167,7 +168,7 @@ before_it e es key i b = b.parts.0 0 e (omega arith) (omega arith)
 pub belongs_free : (es : List Entry) (key : List ℕ) (i : ℕ) → Belongs es key i → Free key es
 belongs_free es key zero b = Under-Free key es (free_above es key b.parts.1)
 belongs_free [] key (suc i) b = tt
-belongs_free (e ∷ es) key (suc i) b = (same_key-comm e.key.0 key (less-differ e.key.0 key (before_it e es key i b)), belongs_free es key i (parts_tail e es key i b))
+belongs_free (e ∷ es) key (suc i) b = (not_same_back e.key.0 key (less-differ e.key.0 key (before_it e es key i b)), belongs_free es key i (parts_tail e es key i b))
 
 -- ---- an entry with a new value
 

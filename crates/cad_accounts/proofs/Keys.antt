@@ -24,6 +24,9 @@ is_false false h = refl
 pub not_same : (a b : List ℕ) → (a ≡ b → ⊥) → same_key a b ≡ false
 not_same a b h = is_false (same_key a b) (λ e. h (same_is a b e))
 
+pub not_same_back : (a b : List ℕ) → same_key a b ≡ false → same_key b a ≡ false
+not_same_back a b e = not_same b a (λ s. let wrong : true ≡ false = sym (is_same a b (sym s)) ∙ e in cc)
+
 pub is_less : (o : Ordering) → is_lt o ≡ true → o ≡ Less
 is_less Less e = refl
 is_less Equal e = absurd cc

@@ -7,7 +7,8 @@ use Rattle.cad_wire.specs.declared.entry.Entry.{Entry}
 use Rattle.cad_wire.specs.Body.{are_ascending}
 use Rattle.cad_accounts.specs.Registers.{Map, same_key, changed, applied}
 use Rattle.cad_accounts.specs.Places.{HasKey, Belongs, IsLate, AreLate}
-use Rattle.cad_accounts.proofs.Maps.{Free, same_key-comm, applied_after}
+use Rattle.cad_accounts.proofs.Maps.{Free, applied_after}
+use Rattle.cad_accounts.proofs.Keys.{not_same_back}
 use Rattle.cad_accounts.proofs.OneByOne.{applied_append}
 use Rattle.cad_accounts.proofs.EntryPlaces.{compared, less-trans, less-differ, greater-less, Rising, rising, Below, at_under, parts_tail, before_it, put_there, put_more}
 
@@ -25,11 +26,11 @@ rest e es key i has = let h = has.below in record { below = omega (arith, h); is
 late_differs : (es : List Entry) (key other : List ℕ) (i : ℕ) → Rising es → IsLate key es → HasKey es other i → same_key other key ≡ false
 late_differs [] key other i r l has = absurd l
 late_differs (e ∷ es) key other zero r (inl lt) has =
-    same_key-comm key other (less-differ key other (subst (λ (k : List ℕ). compared key k ≡ Less) (has.is e) lt))
+    not_same_back key other (less-differ key other (subst (λ (k : List ℕ). compared key k ≡ Less) (has.is e) lt))
 late_differs (e ∷ es) key other (suc i) r (inl lt) has =
     let h = rest e es other i has in
     let there : compared e.key.0 other ≡ Less = subst (λ (k : List ℕ). compared e.key.0 k ≡ Less) (h.is e) (at_under e.key.0 es i e r.0 h.below) in
-    same_key-comm key other (less-differ key other (less-trans key e.key.0 other lt there))
+    not_same_back key other (less-differ key other (less-trans key e.key.0 other lt there))
 late_differs (e ∷ es) key other zero r (inr l) has = less-differ other key (subst (λ (k : List ℕ). compared k key ≡ Less) (has.is e) l.0)
 late_differs (e ∷ es) key other (suc i) r (inr l) has = late_differs es key other i r.1 l.1 (rest e es other i has)
 
@@ -71,7 +72,7 @@ free_there es (e ∷ late) key i r has l = (late_differs es e.key.0 key i r l.0 
 
 free_behind : (es late : List Entry) (key : List ℕ) → Below key es → AreLate es late → Free key late
 free_behind es [] key b l = tt
-free_behind es (e ∷ late) key b l = (same_key-comm e.key.0 key (less-differ e.key.0 key (late_less es e.key.0 key l.0 b)), free_behind es late key b l.1)
+free_behind es (e ∷ late) key b l = (not_same_back e.key.0 key (less-differ e.key.0 key (late_less es e.key.0 key l.0 b)), free_behind es late key b l.1)
 
 below_all : (es : List Entry) (key : List ℕ) (i : ℕ) → i ≡ length es → Belongs es key i → Below key es
 below_all [] key i n b = tt

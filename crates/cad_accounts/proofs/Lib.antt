@@ -1,7 +1,6 @@
 pub mod Maps
 pub mod EntryPlaces
 pub mod LateEntries
-pub mod KeyLaws
 pub mod States
 pub mod OneSize
 pub mod Creating

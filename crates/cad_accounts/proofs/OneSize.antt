@@ -9,7 +9,7 @@ use Rattle.std.proofs.lemmas.Map.Lookups.{exact_bytes}
 use Rattle.cad_accounts.specs.declared.row.Row.{Row}
 use Rattle.cad_accounts.specs.Registers.{same_key, at, are_rising, size_of}
 use Rattle.cad_accounts.specs.Accounts.{Accounts, HasSize}
-use Rattle.cad_accounts.proofs.Maps.{same_key-self, keys_same}
+use Rattle.cad_accounts.proofs.Keys.{itself, same_is}
 use Rattle.cad_accounts.proofs.EntryPlaces.{compared, less-trans, less-differ, greater-less}
 use Rattle.cad_accounts.proofs.States.{one_map_lem}
 
@@ -48,7 +48,7 @@ at_under key [] u = refl
 at_under key (r ∷ rows) u = rw (less-differ key r.key.0 u.0) (at_under key rows u.1)
 
 pub at_first : (r : Row) (rows : List Row) → at (r ∷ rows) r.key.0 ≡ Some r.value
-at_first r rows = rw (same_key-self r.key.0) refl
+at_first r rows = rw (itself r.key.0) refl
 
 -- a row that is there has the least key, or a greater one
 least : (o : Ordering) (r : Row) (s : Row) (rows ss : List Row) → compared r.key.0 s.key.0 ≡ o → RisingRows (r ∷ rows) → RisingRows (s ∷ ss) → ((key : List ℕ) → at (r ∷ rows) key ≡ at (s ∷ ss) key) → r.key.0 ≡ s.key.0
@@ -78,7 +78,7 @@ one_list (r ∷ rows) (s ∷ ss) a b same =
     let over_it : UnderRows r.key.0 ss = subst (λ (k : List ℕ). UnderRows k ss) (sym keys) b.0 in
     let tails = one_list rows ss a.1 b.1 (λ key. behind (same_key key r.key.0) (at rows key) (at ss key) r.value s.value
     (same key ∙ ap (λ (k : List ℕ). cond (same_key key k) (Some s.value) (at ss key)) (sym keys))
-    (λ e. let k : key ≡ r.key.0 = keys_same key r.key.0 e in
+    (λ e. let k : key ≡ r.key.0 = same_is key r.key.0 e in
     ap (at rows) k ∙ at_under r.key.0 rows a.0 ∙ sym (at_under r.key.0 ss over_it) ∙ ap (at ss) (sym k))) in
     λ i. record { key = record { 0 = keys i }; value = values i } ∷ tails i
 

@@ -3,7 +3,7 @@ use Rattle.std.proofs.lemmas.Bool.Decides.{nat_tests}
 use Rattle.cad_wire.specs.declared.entry.Entry.{Entry}
 use Rattle.cad_accounts.specs.Registers.{applied, changed}
 use Rattle.cad_accounts.proofs.EntryPlaces.{key_there, belongs_there}
-use Rattle.cad_accounts.proofs.LateEntries.{Taken, takes_there, takes_behind, takes_late}
+use Rattle.cad_accounts.proofs.LateEntries.{takes_there, takes_behind, takes_late}
 use Rattle.cad_accounts.proofs.sifting.Sifted.take.Goals as goal
 
 pub invariant_of-self : goal.invariant_of-self
