@@ -8,6 +8,7 @@ pub mod Storing
 pub mod Access
 pub mod Changes
 pub mod Keys
+pub mod Order
 pub mod RowLaws
 pub mod Places
 pub mod Existing

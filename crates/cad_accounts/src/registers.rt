@@ -3,7 +3,8 @@ ghost use Rattle.std.specs.Prelude.{◌≡◌, ◌+◌, ◌<◌, ◌≤◌, ◌^
 ghost use Rattle.cad_wire.specs.Body.{Fits};
 ghost use Rattle.cad_accounts.specs.declared.row.Row.{Row};
 ghost use Rattle.cad_accounts.specs.Registers.{at, are_rising, changed, size_of};
-ghost use Rattle.cad_accounts.specs.Rows.{row_size, are_short, is_short, IsPlace};
+ghost use Rattle.cad_accounts.specs.Rows.{row_size, are_short, is_short};
+ghost use Rattle.cad_accounts.specs.Places.{IsPlace, row_key};
 
 use crate::row::Row;
 use cad_syntax::{Bytes, Items};
@@ -35,7 +36,7 @@ pub trait Registers {
 // The place of a key's row, or where it belongs, by halving.
 fn search(rows: &[Row], key: &[u8]) -> Result<usize, usize>
     requires { are_rising rows.now ≡ true }
-    ensures { IsPlace key.now rows.now result }
+    ensures { IsPlace row_key key.now rows.now result }
 {
     rows.binary_search_by(|row| row.key.0.as_slice().cmp(key))
 }
@@ -44,7 +45,7 @@ fn search(rows: &[Row], key: &[u8]) -> Result<usize, usize>
 // it.
 fn place_of(rows: &[Row], key: &[u8]) -> Result<usize, usize>
     requires { are_rising rows.now ≡ true }
-    ensures { IsPlace key.now rows.now result }
+    ensures { IsPlace row_key key.now rows.now result }
 {
     let count = rows.len();
     if count == 0 {
@@ -117,7 +118,7 @@ impl MapRegisters {
     ghost use Rattle.std.specs.Prelude.{slice_index_or, slice_set};
     ghost use Rattle.std.specs.List.{insert, remove};
     ghost use Rattle.cad_accounts.specs.Memory.{rows_of, room};
-    ghost use Rattle.cad_accounts.specs.Rows.{BelongsAt, StandsAt};
+    ghost use Rattle.cad_accounts.specs.Places.{BelongsAt, StandsAt};
 
     fn remove_at(&mut self, i: usize)
         requires { i < length (rows_of self.old) }
@@ -129,7 +130,7 @@ impl MapRegisters {
     }
 
     fn replace_at(&mut self, i: usize, row: Row)
-        requires same { StandsAt row.key.0 (rows_of self.old) i }
+        requires same { StandsAt row_key row.key.0 (rows_of self.old) i }
         requires short { is_short row ≡ true }
         ensures rows { rows_of self.new ≡ slice_set (rows_of self.old) i row }
         ensures room { room self.old ≤ room self.new }
@@ -141,7 +142,7 @@ impl MapRegisters {
     }
 
     fn insert_at(&mut self, i: usize, row: Row)
-        requires fitting { BelongsAt row.key.0 (rows_of self.old) i }
+        requires fitting { BelongsAt row_key row.key.0 (rows_of self.old) i }
         requires short { is_short row ≡ true }
         requires room { 1 ≤ room self.old }
         ensures rows { rows_of self.new ≡ insert (rows_of self.old) i row }
