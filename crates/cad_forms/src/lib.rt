@@ -13,7 +13,7 @@ mod sum;
 mod tests;
 
 pub use form::Asked;
-pub use laws::one_request;
+pub use laws::{one_refusal, one_request};
 pub use program::refused;
 pub use request::asked;
 pub use save::Save;
