@@ -1,3 +1,4 @@
+pub mod Answering
 pub mod Chains
 pub mod CompositeLaws
 pub mod ContractLaws
@@ -9,3 +10,4 @@ pub mod Programs
 pub mod RepeatedLaws
 pub mod TransactionLaws
 mod Turns
+pub mod Whole
