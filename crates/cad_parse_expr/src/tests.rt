@@ -97,7 +97,7 @@ fn types_are_read(rt: HostRuntime) -> Result<(), Fail> {
         }
         Err(_) => assert!(rt; false),
     }
-    cursor.at = 5;
+    cursor.at = cursor.tokens.len();
     let Err(ParseStop::At { at, .. }) = parse_type(alloc, &mut cursor, 0) else {
         assert!(rt; false);
         return Ok(());
