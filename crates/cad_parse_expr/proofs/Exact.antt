@@ -1,5 +1,5 @@
 -- What is spelled is read: the longest that the tokens begin with.
-use Rattle.std.proofs.Common.{◌≡◌, ℕ, zero, suc, ◌<◌, ◌≤◌, Bool, List, [], ◌∷◌, ◌++◌, length, Option, Some, None, refl, sym, ap, ◌∙◌, subst, ◌⊎◌, inl, inr, arith}
+use Rattle.std.proofs.Common.{◌≡◌, ℕ, zero, suc, ◌<◌, ◌≤◌, Bool, List, [], length, Some, None, refl, sym, ap, ◌∙◌, subst, inl, inr, arith}
 use Rattle.cad_syntax.specs.declared.token.Sign.{Sign}
 use Rattle.cad_syntax.specs.declared.token.Sign.TheVariants as s
 use Rattle.cad_syntax.specs.declared.token.Keyword.TheVariants as k
@@ -8,7 +8,7 @@ use Rattle.cad_grammar.specs.declared.level.Level.TheVariants as level
 use Rattle.cad_grammar.specs.declared.expression.BinaryOperator.TheVariants as op
 use Rattle.cad_grammar.specs.Trees.{ExprTree, ArgumentTree, EntryTree}
 use Rattle.cad_grammar.specs.Trees as tree
-use Rattle.cad_grammar.specs.Spots.{Spot, after, opened, opening, resumed}
+use Rattle.cad_grammar.specs.Spots.{Spot, after, resumed}
 use Rattle.cad_grammar.specs.Lists.{Listed}
 use Rattle.cad_grammar.specs.Lists as l
 use Rattle.cad_grammar.specs.Levels.{tighter, level_number, sign_strength, sign_start, start, unary_word}

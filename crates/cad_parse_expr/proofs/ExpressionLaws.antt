@@ -1,6 +1,5 @@
 -- What is read is spelled, and what is spelled is read.
-use Rattle.std.proofs.Common.{◌≡◌, ℕ, ◌<◌, ◌≤◌, List, length, Some, None}
-use Rattle.cad_syntax.specs.declared.token.Token.{Token}
+use Rattle.std.proofs.Common.{◌≡◌, ◌<◌, ◌≤◌, length, Some}
 use Rattle.cad_grammar.specs.Trees.{ExprTree}
 use Rattle.cad_grammar.specs.Spots.{Spot}
 use Rattle.cad_grammar.specs.Levels.{token_strength, start}

@@ -1,5 +1,5 @@
 -- The end of the last token.
-use Rattle.std.proofs.Common.{◌≡◌, ℕ, suc, ◌-◌, ◌≤◌, List, [], ◌∷◌, length, slice_index_or, refl, ap, ◌∙◌, arith}
+use Rattle.std.proofs.Common.{◌≡◌, suc, ◌-◌, ◌≤◌, List, [], ◌∷◌, length, slice_index_or, refl, ap, ◌∙◌, arith}
 use Rattle.cad_syntax.specs.declared.token.Token.{Token}
 use Rattle.cad_parse_expr.specs.Cursor.{last_end}
 

@@ -1,5 +1,5 @@
 -- What is read is spelled so.
-use Rattle.std.proofs.Common.{◌≡◌, ℕ, zero, suc, ◌<◌, Bool, true, false, List, [], ◌∷◌, ◌++◌, length, Option, Some, None, refl, sym, ap, ◌∙◌, subst}
+use Rattle.std.proofs.Common.{◌≡◌, ℕ, zero, suc, Bool, true, false, List, [], ◌∷◌, length, Option, Some, None, refl, sym, ap, ◌∙◌, subst}
 use Rattle.cad_syntax.specs.declared.token.Sign.{Sign}
 use Rattle.cad_syntax.specs.declared.token.Sign.TheVariants as s
 use Rattle.cad_syntax.specs.declared.token.Keyword.TheVariants as k
@@ -8,14 +8,14 @@ use Rattle.cad_grammar.specs.declared.level.Level.TheVariants as level
 use Rattle.cad_grammar.specs.declared.level.TypePosition.TheVariants as position
 use Rattle.cad_grammar.specs.declared.expression.UnaryOperator.{UnaryOperator}
 use Rattle.cad_grammar.specs.Trees.{TypeTree, Annotation, ExprTree, ArgumentTree, EntryTree}
-use Rattle.cad_grammar.specs.Spots.{Spot, back, named, then, either, only_if, after, joined, keyword, name, opened, opening, resumed}
+use Rattle.cad_grammar.specs.Spots.{Spot, back, then, only_if, after, joined, keyword, name, opened, opening, resumed}
 use Rattle.cad_grammar.specs.Lists.{Listed}
 use Rattle.cad_grammar.specs.Lists as l
 use Rattle.cad_grammar.specs.Levels.{tighter, operator, cast_word, unary_word, dot, literal, domain_name, question, questions}
 use Rattle.cad_grammar.specs.ExpressionGrammar.{TypeArguments, HasNoTypeArguments, Tail, extend, Part, an_element, an_argument, an_entry, TreeOf, label, Reads, Tails, ReadsPart, Parts}
 use Rattle.cad_grammar.specs.ExpressionGrammar as gr
 use Rattle.cad_grammar.specs.TypeGrammar.{ReadsType}
-use Rattle.cad_parse_type.specs.Reading.{Found, Reader, climb, listed, dotted, type_at, annotation_at, arguments_at}
+use Rattle.cad_parse_type.specs.Reading.{Found, Reader, listed, dotted, type_at, annotation_at, arguments_at}
 use Rattle.cad_parse_type.proofs.Heads.{none_of, some_same}
 use Rattle.cad_parse_type.proofs.Climbs.{then_is, IfFound, then_found, either_found, found_is, if_found, found_weaker, climb_keeps}
 use Rattle.cad_parse_type.proofs.ListLaws.{listed_sound}

@@ -1,6 +1,5 @@
 -- Reading expressions as a function of the spot.
-use Rattle.std.specs.Prelude.{◌≡◌, ℕ, zero, suc, Bool, true, false, List, [], ◌∷◌, ◌++◌, length, Option, Some, None, option_map}
-use Rattle.cad_syntax.specs.declared.token.Sign.{Sign}
+use Rattle.std.specs.Prelude.{ℕ, zero, suc, Bool, List, [], length, Option, Some, None}
 use Rattle.cad_syntax.specs.declared.token.Sign.TheVariants as s
 use Rattle.cad_syntax.specs.declared.token.Keyword.TheVariants as k
 use Rattle.cad_grammar.specs.declared.level.Level.{Level}
@@ -11,7 +10,7 @@ use Rattle.cad_grammar.specs.declared.expression.UnaryOperator.{UnaryOperator}
 use Rattle.cad_grammar.specs.Trees.{TypeTree, Annotation, ExprTree, ArgumentTree, EntryTree, exprs_of, arguments_of, entries_of}
 use Rattle.cad_grammar.specs.Trees as tree
 use Rattle.cad_grammar.specs.Spots.{Spot, back, named, then, ◌>>=◌, either, only_if, after, joined, keyword, name, opened, opening, resumed}
-use Rattle.cad_grammar.specs.Levels.{tighter, operator, cast_word, unary_word, dot, literal, domain_name, question, questions, token_strength}
+use Rattle.cad_grammar.specs.Levels.{operator, cast_word, unary_word, dot, literal, domain_name, question, questions, token_strength}
 use Rattle.cad_grammar.specs.ExpressionGrammar.{Tail, operated, cast_to, member, indexed_by, called_with, forced, extend, label}
 use Rattle.cad_parse_type.specs.Reading.{Found, Reader, climb, listed, dotted, type_at, annotation_at, arguments_at}
 

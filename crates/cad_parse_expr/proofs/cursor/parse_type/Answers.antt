@@ -3,8 +3,7 @@ use Rattle.cad_grammar.specs.Views.{type_of}
 use Rattle.cad_grammar.specs.declared.level.TypePosition.TheVariants as position
 use Rattle.cad_parse_type.specs.Reading.{type_at}
 use Rattle.cad_parse_type.specs.Views.{seen, seen_with}
-use Rattle.cad_parse_expr.specs.Cursor.{before, SpellsType}
-use Rattle.cad_parse_expr.specs.Reading.{expression_at}
+use Rattle.cad_parse_expr.specs.Cursor.{before}
 use Rattle.cad_parse_expr.proofs.Whole as whole
 use Rattle.cad_parse_expr.proofs.cursor.parse_type.Goals as goal
 use Rattle.cad_parse_expr.proofs.cursor.parse_type.Goals.{In-Some, In-None}
