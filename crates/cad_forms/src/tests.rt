@@ -105,7 +105,8 @@ fn computes_saves(rt: HostRuntime) -> Result<(), Fail> {
 }
 
 // Each line with the phase and the place where its code stops, or `none`.
-const REFUSED: &str = "Lex 38 {\"kind\":\"script\",\"code\":\"access(all) fun main(): UInt { return 340282366920938463463374607431768211456 }\"}
+const REFUSED: &str =
+    "Lex 38 {\"kind\":\"script\",\"code\":\"access(all) fun main(): UInt { return 340282366920938463463374607431768211456 }\"}
 Parse 0 {\"kind\":\"script\",\"code\":\"fun\"}
 Parse 15 {\"kind\":\"transaction\",\"code\":\"transaction {} import A from 0x1\",\"signers\":[],\"arguments\":[],\"limit\":0}
 Parse 0 {\"kind\":\"script\",\"code\":\"fun\",\"signers\":1,\"x\":2}

@@ -78,8 +78,7 @@ module _ (laws : DeclarationLaws) where
       → (x : ProgramTree × Spot) × (program p ≡ Some x) × Longer x (record { imports = i; declarations = d }, r)
   unfolding program
   with_declarations p q r i d c none w =
-      let y = chain_extends declaration ReadsDecl laws.declaration_exact laws.declaration_shorter w in
-      (
+      let y = chain_extends declaration ReadsDecl laws.declaration_exact laws.declaration_shorter w in (
         (record { imports = i; declarations = y.0.0 }, y.0.1),
         then_is (imports p) _ (i, q) (chain_exact import ReadsImport laws.import_exact laws.import_shorter c none) ∙ then_is (declarations q) _ y.0 y.1,
         longer y.0 y.2,

@@ -54,10 +54,7 @@ fn plain_access(spot: Spot<'_>) -> Option<(Access, Spot<'_>)>
 }
 
 #[tactic(auto, unfolding(crate::specs::Reading::mapping_access))]
-fn mapping_access(
-    alloc: Global,
-    spot: Spot<'_>,
-) -> Result<Option<(Access, Spot<'_>)>, AllocError>
+fn mapping_access(alloc: Global, spot: Spot<'_>) -> Result<Option<(Access, Spot<'_>)>, AllocError>
     ensures { IfOk result (λ o. option_map (seen_with same) o ≡ spec.mapping_access (seen spot.entry)) }
 {
     let Some(spot) = spot.word("mapping") else {
@@ -94,10 +91,7 @@ fn is_plain_access(entitlements: &Entitlements) -> bool
 }
 
 #[tactic(auto, unfolding(crate::specs::Reading::entitled_access))]
-fn entitled_access(
-    alloc: Global,
-    spot: Spot<'_>,
-) -> Result<Option<(Access, Spot<'_>)>, AllocError>
+fn entitled_access(alloc: Global, spot: Spot<'_>) -> Result<Option<(Access, Spot<'_>)>, AllocError>
     ensures { IfOk result (λ o. option_map (seen_with same) o ≡ spec.entitled_access (seen spot.entry)) }
 {
     let Some((entitlements, spot)) = entitled(alloc, spot)? else {

@@ -41,10 +41,7 @@ pub fn composite_word(spot: Spot<'_>) -> Option<(CompositeKind, Spot<'_>)>
 }
 
 #[tactic(auto, unfolding(crate::specs::Reading::conforms))]
-fn conforms(
-    alloc: Global,
-    spot: Spot<'_>,
-) -> Result<Option<(Items<Dotted>, Spot<'_>)>, AllocError>
+fn conforms(alloc: Global, spot: Spot<'_>) -> Result<Option<(Items<Dotted>, Spot<'_>)>, AllocError>
     ensures { IfOk result (λ o. option_map (seen_with same) o ≡ spec.conforms (seen spot.entry)) }
 {
     let Some((all, end)) = dotted_list(alloc, Sign::OpenBrace, spot)? else {

@@ -55,10 +55,7 @@ fn parameter_behind<'a>(
 
 /// The parameter that begins at a spot, and the spot behind its type; None where none begins.
 #[tactic(auto, unfolding(crate::specs::Reading::parameter))]
-pub fn parameter(
-    alloc: Global,
-    spot: Spot<'_>,
-) -> Result<Option<(Parameter, Spot<'_>)>, AllocError>
+pub fn parameter(alloc: Global, spot: Spot<'_>) -> Result<Option<(Parameter, Spot<'_>)>, AllocError>
     ensures { IfOk result (λ o. option_map (seen_with parameter_of) o ≡ spec.parameter (seen spot.entry)) }
 {
     let Some((name, spot)) = spot.name() else {
@@ -142,10 +139,7 @@ fn maybe_annotated(
 
 // A `:` and a message, or nothing.
 #[tactic(auto, unfolding(cad_parse_type::specs::Reading::maybe))]
-fn message(
-    alloc: Global,
-    spot: Spot<'_>,
-) -> Result<Option<(Option<Expr>, Spot<'_>)>, AllocError>
+fn message(alloc: Global, spot: Spot<'_>) -> Result<Option<(Option<Expr>, Spot<'_>)>, AllocError>
     ensures { IfOk result (λ o. option_map (seen_with maybe_expr_of) o ≡ types.maybe (spots.after s.Colon) expressions.expression (seen spot.entry)) }
 {
     let Some(behind) = spot.after(Sign::Colon) else {
@@ -284,10 +278,7 @@ fn condition_list(
 }
 
 #[tactic(auto, unfolding(crate::specs::Reading::conditions, cad_parse_type::specs::Views::seen))]
-fn conditions(
-    alloc: Global,
-    spot: Spot<'_>,
-) -> Result<Option<(Conditions, Spot<'_>)>, AllocError>
+fn conditions(alloc: Global, spot: Spot<'_>) -> Result<Option<(Conditions, Spot<'_>)>, AllocError>
     ensures { IfOk result (λ o. option_map (seen_with conditions_in) o ≡ spec.conditions (seen spot.entry)) }
 {
     let Some(inner) = spot.opening(Sign::OpenBrace) else {

@@ -87,10 +87,7 @@ fn prepared(alloc: Global, spot: Spot<'_>) -> Result<Option<(Prepare, Spot<'_>)>
 }
 
 #[tactic(auto, unfolding(crate::specs::Reading::prepare, cad_parse_type::specs::Reading::maybe))]
-fn prepare(
-    alloc: Global,
-    spot: Spot<'_>,
-) -> Result<Option<(Option<Prepare>, Spot<'_>)>, AllocError>
+fn prepare(alloc: Global, spot: Spot<'_>) -> Result<Option<(Option<Prepare>, Spot<'_>)>, AllocError>
     ensures { IfOk result (λ o. option_map (seen_with maybe_prepare_of) o ≡ spec.prepare (seen spot.entry)) }
 {
     let Some(behind) = spot.keyword(Keyword::Prepare) else {

@@ -17,11 +17,9 @@ const NO_FORM: &str = "{\"error\":\"29\",\"reply\":\"bad\"}\n";
 
 const UNPARSED: &str = "{\"kind\":\"script\",\"code\":\"fun\"}";
 
-const UNLEXED: &str =
-    "{\"kind\":\"transaction\",\"code\":\"transaction { # }\",\"limit\":7}";
+const UNLEXED: &str = "{\"kind\":\"transaction\",\"code\":\"transaction { # }\",\"limit\":7}";
 
-const REJECTED: &str =
-    "{\"at\":\"0\",\"in\":\"\",\"phase\":\"parse\",\"reply\":\"rejected\"}
+const REJECTED: &str = "{\"at\":\"0\",\"in\":\"\",\"phase\":\"parse\",\"reply\":\"rejected\"}
 {\"at\":\"14\",\"in\":\"\",\"phase\":\"lex\",\"reply\":\"rejected\"}
 ";
 

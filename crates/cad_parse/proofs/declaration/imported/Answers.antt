@@ -34,4 +34,3 @@ unfolding imported
 loop-turn-preserved c =
     let e = one_more (λ n. imported n c.loop-turn.names (seen c.loop-turn.here)) _ c.loop-turn._turn c.loop-turn-test.true c.loop-turn.invariant in
     first_of (search rules, grind (arith, common_steps))
-

@@ -18,4 +18,3 @@ unfolding chain
 loop-turn-preserved c =
     let e = one_more (λ n. chain spec.import n (items_in c.loop-turn.found) (seen c.loop-turn.here)) _ c.loop-turn._turn c.loop-turn-test.true c.loop-turn.invariant in
     first_of (search rules, grind (arith, common_steps))
-

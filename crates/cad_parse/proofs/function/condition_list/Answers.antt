@@ -25,4 +25,3 @@ unfolding repeated
 loop-turn-preserved c =
     let e = one_more (λ n. repeated spec.parted_condition s.CloseBrace n (conditions_in c.loop-turn.found) (seen c.loop-turn.here)) _ c.loop-turn._turn c.loop-turn-test.true c.loop-turn.invariant in
     first_of (search rules, grind (arith, common_steps))
-

@@ -37,4 +37,3 @@ unfolding listed
 loop-turn-preserved c =
     let e = one_more (λ n. listed spec.parameter s.CloseParenthesis n (parameters_in c.loop-turn.found) (seen c.loop-turn.here)) _ c.loop-turn._turn c.loop-turn-test.true c.loop-turn.invariant in
     first_of (search rules, grind (arith, common_steps))
-
