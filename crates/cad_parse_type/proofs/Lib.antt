@@ -1,4 +1,4 @@
-mod Turns
+pub mod Turns
 pub mod Heads
 pub mod Climbs
 pub mod ListLaws
