@@ -155,17 +155,17 @@ module _ (types : TypeLaws) (expressions : ExpressionLaws) (statements : Stateme
   block_opens : {p q : Spot} {b : FunctionBlockTree} → FunctionBlock p b q → (u : Spot) × (after s.OpenBrace p ≡ Some u)
   block_opens (g.function_block {p} {q} e a b d c) = let w = opening_is s.OpenBrace p q e in (w.0, w.1)
 
-  block_exact : {p q : Spot} {b : Option FunctionBlockTree} → (in_interface : Bool) → BlockOf in_interface p b q → block_of in_interface p ≡ Some (b, q)
+  block_exact : (p q : Spot) (b : Option FunctionBlockTree) (in_interface : Bool) → BlockOf in_interface p b q → block_of in_interface p ≡ Some (b, q)
   unfolding block_of maybe_blocked blocked
-  block_exact true (g.no_block {p} e) = either_not (after s.OpenBrace p) _ _ e
-  block_exact true (g.a_block {p} {q} {b} d) = let w = block_opens d in either_is (after s.OpenBrace p) _ _ w.0 w.1 ∙ then_is (function_block p) _ (b, q) (function_block_exact d)
-  block_exact false (g.blocked {p} {q} {b} d) = then_is (function_block p) _ (b, q) (function_block_exact d)
+  block_exact _ _ _ true (g.no_block {p} e) = either_not (after s.OpenBrace p) _ _ e
+  block_exact _ _ _ true (g.a_block {p} {q} {b} d) = let w = block_opens d in either_is (after s.OpenBrace p) _ _ w.0 w.1 ∙ then_is (function_block p) _ (b, q) (function_block_exact d)
+  block_exact _ _ _ false (g.blocked {p} {q} {b} d) = then_is (function_block p) _ (b, q) (function_block_exact d)
 
   -- a block begins with a token that goes on nothing, and so does what follows where there is none
-  block_weak : {p q : Spot} {b : Option FunctionBlockTree} → (in_interface : Bool) → BlockOf in_interface p b q → (in_interface ≡ true → token_strength q ≡ 0) → token_strength p ≡ 0
-  block_weak true (g.no_block e) weak = weak refl
-  block_weak true (g.a_block {p} d) weak = let w = block_opens d in sign_weak s.OpenBrace p w.0 (λ b. refl) w.1
-  block_weak false (g.blocked {p} d) weak = let w = block_opens d in sign_weak s.OpenBrace p w.0 (λ b. refl) w.1
+  block_weak : (p q : Spot) (b : Option FunctionBlockTree) (in_interface : Bool) → BlockOf in_interface p b q → (in_interface ≡ true → token_strength q ≡ 0) → token_strength p ≡ 0
+  block_weak _ _ _ true (g.no_block e) weak = weak refl
+  block_weak _ _ _ true (g.a_block {p} d) weak = let w = block_opens d in sign_weak s.OpenBrace p w.0 (λ b. refl) w.1
+  block_weak _ _ _ false (g.blocked {p} d) weak = let w = block_opens d in sign_weak s.OpenBrace p w.0 (λ b. refl) w.1
 
   -- how a function is read behind its access
   pub record WithRead (in_interface : Bool) (p : Spot) (f : FunctionTree) (q : Spot) : Type 0 where
@@ -187,7 +187,7 @@ module _ (types : TypeLaws) (expressions : ExpressionLaws) (statements : Stateme
     accesses = d;
     views = e1;
     reads = then_is (viewed k.Fun q) _ (is_view, r) e1 ∙ then_is (name r) _ (n, u) e2 ∙ then_is (parameters u) _ (all, v) (parameters_exact types h)
-        ∙ then_is (maybe_annotated v) _ (result, w) (annotated_exact types a (block_weak in_interface b weak)) ∙ then_is (block_of in_interface w) _ (block, x) (block_exact in_interface b);
+        ∙ then_is (maybe_annotated v) _ (result, w) (annotated_exact types a (block_weak _ _ _ in_interface b weak)) ∙ then_is (block_of in_interface w) _ (block, x) (block_exact _ _ _ in_interface b);
   }
 
   pub function_exact : {p q : Spot} {f : FunctionTree} → ReadsFunction p f q → FunctionRead p f q
@@ -210,27 +210,27 @@ module _ (types : TypeLaws) (expressions : ExpressionLaws) (statements : Stateme
   function_block_shorter (g.function_block {p} {q} {r} {u} {v} {w} e a b d c) =
       omega (arith, opening_shorter s.OpenBrace p q e, behind_short expressions k.Pre a, behind_short expressions k.Post b, statements.statements_shorter d, after_shorter s.CloseBrace v w c)
 
-  block_short : {p q : Spot} {b : Option FunctionBlockTree} → (in_interface : Bool) → BlockOf in_interface p b q → length q.tokens ≤ length p.tokens
-  block_short true (g.no_block e) = omega arith
-  block_short true (g.a_block d) = omega (arith, function_block_shorter d)
-  block_short false (g.blocked d) = omega (arith, function_block_shorter d)
+  block_short : (p q : Spot) (b : Option FunctionBlockTree) (in_interface : Bool) → BlockOf in_interface p b q → length q.tokens ≤ length p.tokens
+  block_short _ _ _ true (g.no_block e) = omega arith
+  block_short _ _ _ true (g.a_block d) = omega (arith, function_block_shorter d)
+  block_short _ _ _ false (g.blocked d) = omega (arith, function_block_shorter d)
 
   pub function_shorter : {p q : Spot} {f : FunctionTree} → (in_interface : Bool) → FunctionWith (BlockOf in_interface) p f q → length q.tokens < length p.tokens
   function_shorter in_interface (g.function {p} {q} {r} {u} {v} {w} {x} {is_view} {n} c e1 e2 d a b) =
-      omega (arith, access_shorter types c, viewed_shorter k.Fun q (is_view, r) e1, name_shorter r (n, u) e2, parameters_shorter types d, annotated_short types a, block_short in_interface b)
+      omega (arith, access_shorter types c, viewed_shorter k.Fun q (is_view, r) e1, name_shorter r (n, u) e2, parameters_shorter types d, annotated_short types a, block_short _ _ _ in_interface b)
 
   pub init_shorter : {p q : Spot} {i : InitTree} → ReadsInit p i q → length q.tokens < length p.tokens
   init_shorter (g.init {p} {q} {r} {u} {is_view} e d f) = omega (arith, viewed_shorter k.Init p (is_view, q) e, parameters_shorter types d, function_block_shorter f)
 
-block_left : {p q : Spot} {b : Option FunctionBlockTree} → (in_interface : Bool) → BlockOf in_interface p b q → q.left ≡ p.left
-block_left true (g.no_block e) = refl
-block_left true (g.a_block (g.function_block e a b d c)) = refl
-block_left false (g.blocked (g.function_block e a b d c)) = refl
+block_left : (p q : Spot) (b : Option FunctionBlockTree) (in_interface : Bool) → BlockOf in_interface p b q → q.left ≡ p.left
+block_left _ _ _ true (g.no_block e) = refl
+block_left _ _ _ true (g.a_block (g.function_block e a b d c)) = refl
+block_left _ _ _ false (g.blocked (g.function_block e a b d c)) = refl
 
 module _ (types : TypeLaws) where
   pub function_left : {p q : Spot} {f : FunctionTree} → (in_interface : Bool) → FunctionWith (BlockOf in_interface) p f q → q.left ≡ p.left
   function_left in_interface (g.function {p} {q} {r} {u} {v} {w} {x} {is_view} {n} c e1 e2 d a b) =
-      block_left in_interface b ∙ annotated_left types a ∙ parameters_left d ∙ name_left r (n, u) e2 ∙ viewed_left k.Fun q (is_view, r) e1 ∙ access_left c
+      block_left _ _ _ in_interface b ∙ annotated_left types a ∙ parameters_left d ∙ name_left r (n, u) e2 ∙ viewed_left k.Fun q (is_view, r) e1 ∙ access_left c
 
   pub init_left : {p q : Spot} {i : InitTree} → ReadsInit p i q → q.left ≡ p.left
   init_left (g.init {p} {q} {r} {u} {is_view} e d (g.function_block f a b h c)) = parameters_left d ∙ viewed_left k.Init p (is_view, q) e

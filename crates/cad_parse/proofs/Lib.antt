@@ -6,4 +6,7 @@ pub mod AccessLaws
 pub mod ParameterLaws
 pub mod ConditionLaws
 pub mod FunctionLaws
+pub mod MemberReads
+pub mod Members
+pub mod ImportLaws
 mod Turns
