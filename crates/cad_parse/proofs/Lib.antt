@@ -1,3 +1,4 @@
+pub mod Answering
 pub mod Chains
 pub mod MemberLaws
 pub mod Programs
@@ -10,3 +11,4 @@ pub mod MemberReads
 pub mod Members
 pub mod ImportLaws
 mod Turns
+pub mod Whole

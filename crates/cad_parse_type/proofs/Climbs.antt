@@ -78,6 +78,16 @@ module _ {A T : Type 0} (grow : A → T → A) (tail : Reader T) where
       cases_of _ (tail p) (λ e. either_not (tail p) _ _ e ∙ sym (either_not (tail p) _ _ e)) (λ x e.
       either_is (tail p) _ _ x e ∙ climb_turns h j k (grow a x.0) x.1 (omega (arith, h p x e)) (omega (arith, h p x e)) ∙ sym (either_is (tail p) _ _ x e))
 
+  -- no tail follows where a chain stops
+  climb_stopped : Shrinks tail → (turns : ℕ) (a : A) (p : Spot) → length p.tokens ≤ turns → IfFound (λ x. tail x.1 ≡ None) (climb grow tail turns a p)
+  unfolding climb
+  climb_stopped h zero a p le = none_of (tail p) (λ x e. omega (arith, h p x e))
+  climb_stopped h (suc turns) a p le =
+      either_found (λ x. tail x.1 ≡ None) (tail p) _ _ (λ x e. climb_stopped h turns (grow a x.0) x.1 (omega (arith, h p x e))) (λ e. e)
+
+  pub climb_over : Shrinks tail → (a : A) (p : Spot) → IfFound (λ x. tail x.1 ≡ None) (climb grow tail (length p.tokens) a p)
+  climb_over h a p = climb_stopped h (length p.tokens) a p (omega arith)
+
   climb_further : Shrinks tail → (turns : ℕ) (a : A) (p : Spot) (x : T × Spot) → length p.tokens ≤ turns → tail p ≡ Some x
       → climb grow tail turns a p ≡ climb grow tail (length x.1.tokens) (grow a x.0) x.1
   unfolding climb
@@ -98,13 +108,6 @@ module _ {A T : Type 0} (grow : A → T → A) (tail : Reader T) where
       cases_of _ (tail p) (λ e. ((a, p), either_not (tail p) _ _ e, inl refl)) (λ x e.
       let w = climb_gives h turns (grow a x.0) x.1 in
       (w.0, either_is (tail p) _ _ x e ∙ w.1, inr (gone w.0 (grow a x.0, x.1) (length p.tokens) w.2 (h p x e))))
-
-  -- a chain with turns for each token ends where no tail follows
-  pub climb_ends : Shrinks tail → (turns : ℕ) (a : A) (p : Spot) → length p.tokens ≤ turns → IfFound (λ x. tail x.1 ≡ None) (climb grow tail turns a p)
-  unfolding climb
-  climb_ends h zero a p le = none_of (tail p) (λ x e. omega (arith, h p x e))
-  climb_ends h (suc turns) a p le =
-      either_found (λ x. tail x.1 ≡ None) (tail p) _ _ (λ x e. climb_ends h turns (grow a x.0) x.1 (omega (arith, h p x e))) (λ e. e)
 
   -- what holds at the start and is kept by each tail holds of what a chain gives
   pub climb_keeps : (P : A → Spot → Type 0) → ((a : A) (p : Spot) (x : T × Spot) → P a p → tail p ≡ Some x → P (grow a x.0) x.1)

@@ -1,5 +1,5 @@
 -- What is spelled as a type is read, where nothing follows that goes on after it.
-use Rattle.std.proofs.Common.{◌≡◌, Bool, true, false, ℕ, zero, suc, ◌<◌, ◌≤◌, List, [], ◌∷◌, length, Some, None, inl, inr, sym, ap, ◌∙◌, arith}
+use Rattle.std.proofs.Common.{◌≡◌, Bool, true, false, ℕ, zero, suc, ◌<◌, ◌≤◌, List, [], ◌∷◌, length, Some, None, sym, ap, ◌∙◌, arith}
 use Rattle.cad_syntax.specs.declared.token.Sign.{Sign}
 use Rattle.cad_syntax.specs.declared.token.Sign.TheVariants as s
 use Rattle.cad_syntax.specs.declared.token.Keyword.TheVariants as k
@@ -19,12 +19,12 @@ use Rattle.cad_parse_type.specs.Reading as r
 use Rattle.cad_parse_type.proofs.Heads.{after_head, keyword_head, after_shorter, after_left, resumed_is, resumed_head, resumed_left, opening_is, opening_left, opened_is, not_resumed, other, keyword_no_sign, name_no_sign}
 use Rattle.cad_parse_type.proofs.Climbs.{then_is, Shrinks, climb_stops, climb_more}
 use Rattle.cad_parse_type.proofs.ListLaws.{IsRead, listed_exact}
-use Rattle.cad_parse_type.proofs.NameLaws.{climbed, dot_name_stops, dotted_left, dotted_head, dotted_list_exact}
+use Rattle.cad_parse_type.proofs.NameLaws.{climbed, mapped, dot_name_stops, dotted_left, dotted_head, dotted_list_exact}
 use Rattle.cad_parse_type.proofs.Over.{question_after, questions_after, no_question, over_sign, over_weak}
 use Rattle.cad_parse_type.proofs.Sound.{MarkAs, mark_sound, read_core_sound, annotated_sound}
 use Rattle.cad_parse_type.proofs.Facts.{authorization_falls, annotation_shorter}
 use Rattle.cad_parse_type.proofs.Steps as steps
-use Rattle.cad_parse_type.proofs.TypeLaws.{Extends, Reaches, TypeOver}
+use Rattle.cad_parse_type.proofs.TypeLaws.{Reaches, TypeOver}
 
 -- ---- what a type begins with
 
@@ -45,7 +45,7 @@ core_begins {sign} h (g.grouped {p} {q} o d c) = opens_otherwise s.OpenParenthes
 core_begins {sign} h (g.array {p} {q} o d c) = opens_otherwise s.OpenBracket sign p q h.bracket o
 core_begins {sign} h (g.dictionary {p} {q} o d c d2 c2) = opens_otherwise s.OpenBrace sign p q h.brace o
 core_begins {sign} h (g.intersection {p} {q} o d) = opens_otherwise s.OpenBrace sign p q h.brace o
-core_begins {sign} h (g.named {p} d o e) = let n = dotted_head d in name_no_sign sign n.0 p n.1
+core_begins {sign} h (g.named {p} d m e) = let n = dotted_head d in name_no_sign sign n.0 p n.1
 core_begins {sign} h (g.applied {p} d o w) = let n = dotted_head d in name_no_sign sign n.0 p n.1
 
 pub type_begins : {sign : Sign} {at : TypePosition} {p q : Spot} {t : TypeTree} → BeginsNoType sign → ReadsType at p t q → after sign p ≡ None
@@ -74,8 +74,8 @@ tail_shrinks at p x e = taken x.0 x.1 (mark_sound at p x e)
 
 -- ---- before a sign that goes on nothing
 
-over_before : (at : TypePosition) (sign : Sign) (p q v : Spot) → (sign ≡ s.Dot → ⊥) → (sign ≡ s.Question → ⊥) → (sign ≡ s.Coalesce → ⊥) → resumed sign p q ≡ Some v → TypeOver at q
-over_before at sign p q v dot once twice e = over_sign at sign q dot once twice (resumed_head sign p q v e)
+over_before : (at : TypePosition) (sign : Sign) (p q v : Spot) → (sign ≡ s.Question → ⊥) → (sign ≡ s.Coalesce → ⊥) → resumed sign p q ≡ Some v → TypeOver at q
+over_before at sign p q v once twice e = over_sign at sign q once twice (resumed_head sign p q v e)
 
 -- one call deeper
 deeper : (depth : ℕ) (p q : Spot) (t : TypeTree) → p.left < depth → ((d : ℕ) → p.left ≤ d → r.core_of (r.read_core d) p ≡ Some (t, q)) → r.read_core depth p ≡ Some (t, q)
@@ -89,7 +89,7 @@ named_whole : (depth : ℕ) (p q : Spot) (n : List Name) (sign : Sign) → p.lef
 named_whole depth p q n sign lt dot once twice less d v e =
     steps.whole_core (r.read_core depth) position.Anywhere p q (tree.named n tree.no_annotations)
     (deeper depth p q (tree.named n tree.no_annotations) lt (λ x le. steps.named_is (r.read_core x) p q n d (dot_name_stops q (other sign s.Dot q v dot e)) (other sign s.Less q v less e)))
-    (over_sign position.Anywhere sign q dot once twice (after_head sign q v e))
+    (over_sign position.Anywhere sign q once twice (after_head sign q v e))
 
 no_dictionary : (depth : ℕ) (p q u v : Spot) (n : List Name) (sign : Sign) → q.left < depth → (sign ≡ s.Dot → ⊥) → (sign ≡ s.Question → ⊥) → (sign ≡ s.Coalesce → ⊥) → (sign ≡ s.Less → ⊥) → (sign ≡ s.Colon → ⊥)
     → Dotted q n u → after sign u ≡ Some v → r.dictionary (r.read_core depth) p q ≡ None
@@ -136,19 +136,19 @@ mutual
       (core_exact d y (omega (arith, m, after_left s.Ampersand q v e, (opened_is v u o).0))))
   core_exact (g.grouped {p} {q} {r = v} {u = w} {t} o d c) depth lt =
       deeper depth p w t lt (λ x le. steps.grouped_is (r.read_core x) p q v w t o
-      (closed _ _ _ _ x (type_climbs d x (omega (arith, opening_left s.OpenParenthesis p q o))) (over_before position.Anywhere s.CloseParenthesis p v w (λ y. cc) (λ y. cc) (λ y. cc) c)) c)
+      (closed _ _ _ _ x (type_climbs d x (omega (arith, opening_left s.OpenParenthesis p q o))) (over_before position.Anywhere s.CloseParenthesis p v w (λ y. cc) (λ y. cc) c)) c)
   core_exact (g.array {p} {q} {r = v} {u = w} {t} o d c) depth lt =
       deeper depth p w (tree.array t) lt (λ x le. steps.array_is (r.read_core x) p q v w t o
-      (closed _ _ _ _ x (type_climbs d x (omega (arith, opening_left s.OpenBracket p q o))) (over_before position.Anywhere s.CloseBracket p v w (λ y. cc) (λ y. cc) (λ y. cc) c)) c)
+      (closed _ _ _ _ x (type_climbs d x (omega (arith, opening_left s.OpenBracket p q o))) (over_before position.Anywhere s.CloseBracket p v w (λ y. cc) (λ y. cc) c)) c)
   core_exact (g.dictionary {p} {q} {r = v} {u} {v = x} {w} {key} {value} o d c d2 c2) depth lt =
       deeper depth p w (tree.dictionary key value) lt (λ y le. steps.dictionary_is (r.read_core y) p q v u x w key value o
-      (closed _ _ _ _ y (type_climbs d y (omega (arith, opening_left s.OpenBrace p q o))) (over_before position.Anywhere s.Colon q v u (λ z. cc) (λ z. cc) (λ z. cc) c)) c
-      (closed _ _ _ _ y (type_climbs d2 y (omega (arith, opening_left s.OpenBrace p q o, resumed_left s.Colon q v u c))) (over_before position.Anywhere s.CloseBrace p x w (λ z. cc) (λ z. cc) (λ z. cc) c2)) c2)
+      (closed _ _ _ _ y (type_climbs d y (omega (arith, opening_left s.OpenBrace p q o))) (over_before position.Anywhere s.Colon q v u (λ z. cc) (λ z. cc) c)) c
+      (closed _ _ _ _ y (type_climbs d2 y (omega (arith, opening_left s.OpenBrace p q o, resumed_left s.Colon q v u c))) (over_before position.Anywhere s.CloseBrace p x w (λ z. cc) (λ z. cc) c2)) c2)
   core_exact (g.intersection {p} {q} o (g.intersected {q = v} {n} {all} d)) depth lt =
       deeper depth p (back p v) (tree.intersection (n ∷ all)) lt (λ x le. steps.intersection_is (r.read_core x) p q v (n ∷ all) o
       (intersection_no_dictionary x p (omega (arith, opening_left s.OpenBrace p q o)) d) (dotted_list_exact (λ y. cc) (λ y. cc) d))
-  core_exact (g.named {p} {q} {n} d o e) depth lt =
-      deeper depth p q (tree.named n tree.no_annotations) lt (λ x le. steps.named_is (r.read_core x) p q n d o e)
+  core_exact (g.named {p} {q} {n} d m e) depth lt =
+      deeper depth p q (tree.named n tree.no_annotations) lt (λ x le. steps.named_is (r.read_core x) p q n d m e)
   core_exact (g.applied {p} {q} {r = u} {u = v} {n} {a} {all} d o w) depth lt =
       deeper depth p (back q v) (tree.named n (annotations_of (a ∷ all))) lt (λ x le. steps.applied_is (r.read_core x) p q u v n (a ∷ all) d o
       (list_exact x (arguments_read w x (omega (arith, opening_left s.Less q u o, dotted_left d)))))
@@ -174,15 +174,23 @@ mutual
       → Listed (IsRead (r.annotated (r.read_core depth) position.Anywhere)) s.Greater p all q
   arguments_read (g.no_annotation e) depth lt = l.none e
   arguments_read (g.last_annotation {p} {q} {r = v} d e) depth lt =
-      l.last (annotation_exact d depth lt (over_before position.Anywhere s.Greater p q v (λ x. cc) (λ x. cc) (λ x. cc) e)) e
+      l.last (annotation_exact d depth lt (over_before position.Anywhere s.Greater p q v (λ x. cc) (λ x. cc) e)) e
   arguments_read (g.more_annotations {p} {q} {r = v} d e w) depth lt =
-      l.more (annotation_exact d depth lt (over_before position.Anywhere s.Comma p q v (λ x. cc) (λ x. cc) (λ x. cc) e)) e
+      l.more (annotation_exact d depth lt (over_before position.Anywhere s.Comma p q v (λ x. cc) (λ x. cc) e)) e
       (arguments_read w depth (omega (arith, resumed_left s.Comma p q v e)))
 
-extends_as : (is_resource : Bool) (x y : TypeTree × Spot) → Extends x y
-    → Extends {A = Annotation} (record { is_resource = is_resource; written = x.0 }, x.1) (record { is_resource = is_resource; written = y.0 }, y.1)
-extends_as is_resource x y (inl e) = inl (ap (λ z. (record { is_resource = is_resource; written = z.0 }, z.1)) e)
-extends_as is_resource x y (inr lt) = inr lt
+-- a type as it is, or with further `?` behind it
+whole_reach : {at : TypePosition} {p q : Spot} {t : TypeTree} → ReadsType at p t q → (depth : ℕ) → p.left < depth → Reaches (TypeOver at q) (r.whole (r.read_core depth) at p) t q
+whole_reach {at} {p} {q} {t} d depth lt =
+    let w = climbed marked (r.type_tail at) (tail_shrinks at) (r.whole (r.read_core depth) at p) t q (type_climbs d depth lt) in
+    (w.0, w.1, w.2, λ over. w.3 (steps.tail_stops at q over))
+
+annotated_reach : {at : TypePosition} {p q : Spot} {a : Annotation} → ReadsAnnotation at p a q → (depth : ℕ) → p.left < depth → Reaches (TypeOver at q) (r.annotated (r.read_core depth) at p) a q
+annotated_reach (g.plain {at} {p} {q} {t} d) depth lt =
+    mapped (λ u. record { is_resource = false; written = u }) (λ x e. steps.plain_is (r.read_core depth) at p x.1 x.0 (type_begins at_begins d) e) (whole_reach d depth lt)
+annotated_reach (g.resource {at} {p} {q = u} {r = q} {t} e d) depth lt =
+    mapped (λ w. record { is_resource = true; written = w }) (λ x f. steps.resource_is (r.read_core depth) at p u x.1 x.0 e f)
+    (whole_reach d depth (omega (arith, after_left s.At p u e)))
 
 -- ---- from here on
 
@@ -190,33 +198,13 @@ pub type_at_exact : {at : TypePosition} {p q : Spot} {t : TypeTree} → ReadsTyp
 unfolding r.type_at
 type_at_exact {p = p} d over = closed _ _ _ _ (suc p.left) (type_climbs d (suc p.left) (omega arith)) over
 
--- the same, or a longer one
-type_reaches : {at : TypePosition} {p q : Spot} {t : TypeTree} → ReadsType at p t q → (depth : ℕ) → p.left < depth → Reaches (TypeOver at q) (r.whole (r.read_core depth) at p) t q
-type_reaches {at} {p} {q} {t} d depth lt =
-    let w = climbed marked (r.type_tail at) (tail_shrinks at) (r.whole (r.read_core depth) at p) t q (type_climbs d depth lt) in
-    (w.0, w.1, w.2, λ over. w.3 (steps.tail_stops at q over))
-
-pub type_reach : {at : TypePosition} {p q : Spot} {t : TypeTree} → ReadsType at p t q → Reaches (TypeOver at q) (r.type_at at p) t q
+pub type_at_reach : {at : TypePosition} {p q : Spot} {t : TypeTree} → ReadsType at p t q → Reaches (TypeOver at q) (r.type_at at p) t q
 unfolding r.type_at
-type_reach {p = p} d = type_reaches d (suc p.left) (omega arith)
-
-annotation_as : {at : TypePosition} {q : Spot} {t : TypeTree} (is_resource : Bool) (found : r.Found TypeTree) (made : r.Found Annotation)
-    → ((x : TypeTree × Spot) → found ≡ Some x → made ≡ Some (record { is_resource = is_resource; written = x.0 }, x.1))
-    → Reaches (TypeOver at q) found t q → Reaches (TypeOver at q) made (record { is_resource = is_resource; written = t }) q
-annotation_as {at} {q} {t} is_resource found made h w = (
-  (record { is_resource = is_resource; written = w.0.0 }, w.0.1),
-  h w.0 w.1,
-  extends_as is_resource w.0 (t, q) w.2,
-  λ over. ap (λ x. (record { is_resource = is_resource; written = x.0 }, x.1)) (w.3 over),
-)
+type_at_reach {p = p} d = whole_reach d (suc p.left) (omega arith)
 
 pub annotation_at_reach : {at : TypePosition} {p q : Spot} {a : Annotation} → ReadsAnnotation at p a q → Reaches (TypeOver at q) (r.annotation_at at p) a q
 unfolding r.annotation_at
-annotation_at_reach (g.plain {at} {p} {q} {t} d) =
-    annotation_as false (r.whole (r.read_core (suc p.left)) at p) _ (λ x e. steps.plain_is (r.read_core (suc p.left)) at p x.1 x.0 (type_begins at_begins d) e) (type_reaches d (suc p.left) (omega arith))
-annotation_at_reach (g.resource {at} {p} {q = u} {r = q} {t} e d) =
-    annotation_as true (r.whole (r.read_core (suc p.left)) at u) _ (λ x f. steps.resource_is (r.read_core (suc p.left)) at p u x.1 x.0 e f)
-    (type_reaches d (suc p.left) (omega (arith, after_left s.At p u e)))
+annotation_at_reach {p = p} d = annotated_reach d (suc p.left) (omega arith)
 
 pub annotation_at_exact : {at : TypePosition} {p q : Spot} {a : Annotation} → ReadsAnnotation at p a q → TypeOver at q → r.annotation_at at p ≡ Some (a, q)
 unfolding r.annotation_at

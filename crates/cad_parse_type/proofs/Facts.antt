@@ -40,7 +40,7 @@ mutual
   core_shorter (g.dictionary {p} {q} {r} {u} {v} {w} o d c d2 c2) =
       omega (arith, opening_shorter s.OpenBrace p q o, type_shorter d, resumed_shorter s.Colon q r u c, type_shorter d2, resumed_shorter s.CloseBrace p v w c2)
   core_shorter (g.intersection {p} {q} o (g.intersected d)) = omega (arith, opening_shorter s.OpenBrace p q o, list_shorter d)
-  core_shorter (g.named d o e) = dotted_shorter d
+  core_shorter (g.named d m e) = dotted_shorter d
   core_shorter (g.applied {p} {q} {r} d o w) = omega (arith, dotted_shorter d, opening_shorter s.Less q r o, arguments_shorter w)
 
   pub annotation_shorter : {at : TypePosition} {p q : Spot} {a : Annotation} → ReadsAnnotation at p a q → length q.tokens < length p.tokens
@@ -65,7 +65,7 @@ mutual
   core_falls (g.array {p} {q} {r} {u} o d c) = omega (arith, resumed_left s.CloseBracket p r u c)
   core_falls (g.dictionary {p} {q} {r} {u} {v} {w} o d c d2 c2) = omega (arith, resumed_left s.CloseBrace p v w c2)
   core_falls (g.intersection o d) = omega arith
-  core_falls (g.named d o e) = omega (arith, dotted_left d)
+  core_falls (g.named d m e) = omega (arith, dotted_left d)
   core_falls (g.applied d o w) = omega (arith, dotted_left d)
 
 pub annotation_falls : {at : TypePosition} {p q : Spot} {a : Annotation} → ReadsAnnotation at p a q → q.left ≤ p.left
@@ -94,7 +94,7 @@ mutual
       ends_trans p q w (opening_ends s.OpenBrace p q o) (ends_trans q r w (type_ends d) (ends_trans r u w (resumed_ends s.Colon q r u c)
       (ends_trans u v w (type_ends d2) (resumed_ends s.CloseBrace p v w c2))))
   core_ends (g.intersection {p} {q} {r} o (g.intersected d)) = let w = ends_trans p q r (opening_ends s.OpenBrace p q o) (list_ends d) in (w.0, w.1)
-  core_ends (g.named d o e) = dotted_ends d
+  core_ends (g.named d m e) = dotted_ends d
   core_ends (g.applied {p} {q} {r} {u} d o w) = let v = ends_trans p q u (dotted_ends d) (ends_trans q r u (opening_ends s.Less q r o) (arguments_ends w)) in (v.0, v.1)
 
   pub annotation_ends : {at : TypePosition} {p q : Spot} {a : Annotation} → ReadsAnnotation at p a q → Ends p q

@@ -1,5 +1,5 @@
 -- Dotted names, lists of them and entitlements.
-use Rattle.std.proofs.Common.{◌≡◌, ℕ, zero, suc, ◌<◌, ◌≤◌, List, [], ◌∷◌, ◌++◌, length, Some, None, refl, sym, ap, ◌∙◌, subst, arith, append_assoc}
+use Rattle.std.proofs.Common.{◌≡◌, ℕ, zero, suc, ◌<◌, ◌≤◌, List, [], ◌∷◌, ◌++◌, length, Some, None, refl, sym, ap, ◌∙◌, subst, arith, append_assoc, ◌⊎◌, inl, inr}
 use Rattle.cad_syntax.specs.declared.token.Sign.{Sign}
 use Rattle.cad_syntax.specs.declared.token.Sign.TheVariants as s
 use Rattle.cad_syntax.specs.declared.token.TokenKind.TheVariants as kind
@@ -14,9 +14,9 @@ use Rattle.cad_grammar.specs.TypeGrammar as g
 use Rattle.cad_parse_type.specs.Reading.{Found, Reader, climb, appended, filled, dotted, dotted_list, entitled}
 use Rattle.cad_parse_type.specs.Reading as r
 use Rattle.cad_parse_type.proofs.Heads.{some_same, then_some, head, name_head, other, name_no_sign, resumed_is, after_shorter, after_left, after_ends, name_shorter, name_left, name_ends, opening_is, opening_shorter, opening_ends, Ends, ends_trans}
-use Rattle.cad_parse_type.proofs.Climbs.{then_is, then_not, either_is, either_not, IfFound, then_found, either_found, found_is, found_weaker, Shrinks, climb_stops, climb_more, climb_gives, climb_ends, climb_keeps}
+use Rattle.cad_parse_type.proofs.Climbs.{then_is, then_not, either_is, either_not, IfFound, then_found, either_found, found_is, found_weaker, Shrinks, climb_stops, climb_more, climb_gives, climb_over, climb_keeps}
 use Rattle.cad_parse_type.proofs.ListLaws.{ReadBefore, AllShorter, AllEnd, listed_sound, listed_read, listed_exact, listed_shorter, listed_left, listed_ends}
-use Rattle.cad_parse_type.proofs.TypeLaws.{Reaches}
+use Rattle.cad_parse_type.proofs.TypeLaws.{Extends, Reaches}
 
 -- a chain that went on as far as here
 pub climbed : {A T : Type 0} (grow : A → T → A) (tail : Reader T) → Shrinks tail → (found : Found A) (a : A) (q : Spot)
@@ -27,6 +27,21 @@ climbed grow tail h found a q e =
 
 pub reached : {A : Type 0} {Over : Type 0} {found : Found A} {a : A} {q : Spot} → Reaches Over found a q → Over → found ≡ Some (a, q)
 reached w over = w.1 ∙ ap Some (w.3 over)
+
+pub extends_trans : {A : Type 0} (x y z : A × Spot) → Extends x y → Extends y z → Extends x z
+extends_trans x y z (inl e) (inl f) = inl (e ∙ f)
+extends_trans x y z (inl e) (inr lt) = inr (omega (arith, ap (λ w. length w.1.tokens) e))
+extends_trans x y z (inr lt) (inl f) = inr (omega (arith, ap (λ w. length w.1.tokens) f))
+extends_trans x y z (inr lt) (inr lu) = inr (omega arith)
+
+pub extends_mapped : {A B : Type 0} (f : A → B) (x y : A × Spot) → Extends x y → Extends {A = B} (f x.0, x.1) (f y.0, y.1)
+extends_mapped f x y (inl e) = inl (ap (λ z. (f z.0, z.1)) e)
+extends_mapped f x y (inr lt) = inr lt
+
+-- a reader that is applied to something read
+pub mapped : {A B : Type 0} {Over : Type 0} {found : Found A} {made : Found B} {a : A} {q : Spot} (f : A → B)
+    → ((x : A × Spot) → found ≡ Some x → made ≡ Some (f x.0, x.1)) → Reaches Over found a q → Reaches Over made (f a) q
+mapped {a = a} {q = q} f h w = ((f w.0.0, w.0.1), h w.0 w.1, extends_mapped f w.0 (a, q) w.2, λ over. ap (λ x. (f x.0, x.1)) (w.3 over))
 
 -- ---- a dotted name
 
@@ -58,16 +73,8 @@ dotted_found p =
     then_found (λ x. Dotted p x.0 x.1) (name p) _ (λ x e. climb_keeps appended dot_name (DottedAs p)
     (λ a q y d f. let w = dot_name_some q y f in dotted_more d w.1 w.2) (length x.1.tokens) (x.0 ∷ []) x.1 (g.single e))
 
-dotted_over : (p : Spot) → IfFound (λ x. dot_name x.1 ≡ None) (dotted p)
-unfolding dotted
-dotted_over p = then_found (λ x. dot_name x.1 ≡ None) (name p) _ (λ x e. climb_ends appended dot_name dot_name_shrinks (length x.1.tokens) (x.0 ∷ []) x.1 (omega arith))
-
 pub dotted_sound : (p : Spot) (x : List Name × Spot) → dotted p ≡ Some x → Dotted p x.0 x.1
 dotted_sound p x e = found_is (λ x. Dotted p x.0 x.1) (dotted p) x (dotted_found p) e
-
--- a name is read whole
-pub dotted_whole : (p : Spot) (x : List Name × Spot) → dotted p ≡ Some x → dot_name x.1 ≡ None
-dotted_whole p x e = found_is (λ x. dot_name x.1 ≡ None) (dotted p) x (dotted_over p) e
 
 names_climb : {q t : Spot} {n : List Name} → Dotted q n t → (found : List Name) (p : Spot) → after s.Dot p ≡ Some q
     → climb appended dot_name (length p.tokens) found p ≡ climb appended dot_name (length t.tokens) (found ++ n) t
@@ -81,14 +88,22 @@ unfolding dotted
 dotted_climb (g.single {p} {q} {n} e) = then_is (name p) _ (n, q) e
 dotted_climb (g.further {p} {q} {r} {t} {n} {names} e d w) = then_is (name p) _ (n, q) e ∙ names_climb w (n ∷ []) q d
 
--- where no `.` Name follows
-pub dotted_exactly : {p q : Spot} {n : List Name} → Dotted p n q → dot_name q ≡ None → dotted p ≡ Some (n, q)
-dotted_exactly {p} {q} {n} d over = let w = climbed appended dot_name dot_name_shrinks (dotted p) n q (dotted_climb d) in w.1 ∙ ap Some (w.3 over)
-
 pub dotted_reach : {p q : Spot} {n : List Name} → Dotted p n q → Reaches (after s.Dot q ≡ None) (dotted p) n q
 dotted_reach {p} {q} {n} d =
     let w = climbed appended dot_name dot_name_shrinks (dotted p) n q (dotted_climb d) in
     (w.0, w.1, w.2, λ over. w.3 (dot_name_stops q over))
+
+-- where no further name follows
+pub dotted_whole : {p q : Spot} {n : List Name} → Dotted p n q → dot_name q ≡ None → dotted p ≡ Some (n, q)
+dotted_whole {p} {q} {n} d over = dotted_climb d ∙ climb_stops appended dot_name (length q.tokens) n q over
+
+dotted_stopped : (p : Spot) → IfFound (λ x. dot_name x.1 ≡ None) (dotted p)
+unfolding dotted
+dotted_stopped p = then_found (λ x. dot_name x.1 ≡ None) (name p) _ (λ x e. climb_over appended dot_name dot_name_shrinks (x.0 ∷ []) x.1)
+
+-- no further name follows what is read
+pub dotted_over : (p : Spot) (x : List Name × Spot) → dotted p ≡ Some x → dot_name x.1 ≡ None
+dotted_over p x e = found_is (λ y. dot_name y.1 ≡ None) (dotted p) x (dotted_stopped p) e
 
 pub dotted_exact : {p q : Spot} {n : List Name} → Dotted p n q → after s.Dot q ≡ None → dotted p ≡ Some (n, q)
 dotted_exact d over = reached (dotted_reach d) over

@@ -32,10 +32,9 @@ pub no_questions : (at : TypePosition) (p : Spot) → after s.Coalesce p ≡ Non
 no_questions at p h = none_of (questions at p) (λ q e. let c = sym h ∙ questions_after at p q e in cc)
 
 -- a type is over before another sign
-pub over_sign : (at : TypePosition) (sign : Sign) (q : Spot) → (sign ≡ s.Dot → ⊥) → (sign ≡ s.Question → ⊥) → (sign ≡ s.Coalesce → ⊥)
+pub over_sign : (at : TypePosition) (sign : Sign) (q : Spot) → (sign ≡ s.Question → ⊥) → (sign ≡ s.Coalesce → ⊥)
     → head q ≡ Some (kind.Sign sign) → TypeOver at q
-over_sign at sign q dot question questions e = record {
-  no_dot = not_after sign s.Dot q dot e;
+over_sign at sign q question questions e = record {
   no_question = no_question at q (not_after sign s.Question q question e);
   no_questions = no_questions at q (not_after sign s.Coalesce q questions e);
 }
@@ -43,7 +42,6 @@ over_sign at sign q dot question questions e = record {
 -- and before what goes on nothing
 pub over_weak : (at : TypePosition) (q : Spot) → token_strength q ≡ 0 → TypeOver at q
 over_weak at q e = record {
-  no_dot = weak_after s.Dot q 13 (λ b. omega arith) (omega (arith, e));
   no_question = no_question at q (weak_after s.Question q 1 (λ b. omega arith) (omega (arith, e)));
   no_questions = no_questions at q (weak_after s.Coalesce q 5 (λ b. omega arith) (omega (arith, e)));
 }

@@ -19,7 +19,7 @@ use Rattle.cad_parse_type.specs.Reading as r
 use Rattle.cad_parse_type.proofs.Heads.{then_some}
 use Rattle.cad_parse_type.proofs.Climbs.{then_is, IfFound, then_found, either_found, found_is, climb_keeps}
 use Rattle.cad_parse_type.proofs.ListLaws.{IsSound, listed_sound}
-use Rattle.cad_parse_type.proofs.NameLaws.{dotted_sound, dotted_whole, dotted_list_sound, dotted_list_filled, authorized_sound, filled_same}
+use Rattle.cad_parse_type.proofs.NameLaws.{dotted_sound, dotted_over, dotted_list_sound, dotted_list_filled, authorized_sound, filled_same}
 
 abbrev pub IsSoundCore : Reader TypeTree → Type 0
 IsSoundCore core = IsSound ReadsCore core
@@ -151,7 +151,7 @@ module _ (core : Reader TypeTree) (h : IsSoundCore core) where
   unfolding r.named_type
   named_found p =
       let P = CoreAs p in
-      then_found P (dotted p) _ (λ n e. either_found P (after s.Less n.1) _ _ (λ v e1. applied_found p n.1 v n.0 (dotted_sound p n e) e1) (λ none. g.named (dotted_sound p n e) (dotted_whole p n e) none))
+      then_found P (dotted p) _ (λ n e. either_found P (after s.Less n.1) _ _ (λ v e1. applied_found p n.1 v n.0 (dotted_sound p n e) e1) (λ none. g.named (dotted_sound p n e) (dotted_over p n e) none))
 
   core_found : (p : Spot) → IfFound (CoreAs p) (r.core_of core p)
   unfolding r.core_of

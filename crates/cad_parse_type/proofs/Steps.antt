@@ -16,7 +16,7 @@ use Rattle.cad_parse_type.specs.Reading.{Reader, climb, marked, dotted, dotted_l
 use Rattle.cad_parse_type.specs.Reading as r
 use Rattle.cad_parse_type.proofs.Heads.{after_head, opening_is, opening_head, other, sign_no_keyword, name_no_keyword, name_no_sign}
 use Rattle.cad_parse_type.proofs.Climbs.{then_is, then_not, either_is, either_not, climb_stops}
-use Rattle.cad_parse_type.proofs.NameLaws.{dotted_exact, dotted_exactly, dotted_head, authorized_exact}
+use Rattle.cad_parse_type.proofs.NameLaws.{dotted_exact, dotted_whole, dotted_head, authorized_exact}
 use Rattle.cad_parse_type.proofs.TypeLaws.{TypeOver}
 
 -- ---- the `?` behind a type
@@ -127,7 +127,7 @@ module _ (core : Reader TypeTree) where
 
   pub named_is : (p q : Spot) (n : List Name) → Dotted p n q → dot_name q ≡ None → after s.Less q ≡ None → r.core_of core p ≡ Some (tree.named n tree.no_annotations, q)
   unfolding r.named_type
-  named_is p q n d over less = name_begins p q n d ∙ then_is (dotted p) _ (n, q) (dotted_exactly d over) ∙ either_not (after s.Less q) _ _ less
+  named_is p q n d over less = name_begins p q n d ∙ then_is (dotted p) _ (n, q) (dotted_whole d over) ∙ either_not (after s.Less q) _ _ less
 
   pub applied_is : (p q u v : Spot) (n : List Name) (all : List Annotation) → Dotted p n q → opening s.Less q ≡ Some u → r.annotation_list core u ≡ Some (all, v)
       → r.core_of core p ≡ Some (tree.named n (annotations_of all), back q v)

@@ -24,7 +24,6 @@ Reaches {A} Over found a q = (x : A × Spot) × (found ≡ Some x) × Extends x 
 
 -- nothing follows that goes on after a type
 pub record TypeOver (at : TypePosition) (q : Spot) : Type 0 where
-  pub no_dot : after s.Dot q ≡ None
   pub no_question : question at q ≡ None
   pub no_questions : questions at q ≡ None
 
@@ -41,11 +40,11 @@ pub record TypeLaws : Type 0 where
   pub entitled_sound : (p : Spot) (x : Entitlements × Spot) → entitled p ≡ Some x → Entitled p x.0 x.1
   pub entitled_exact : {p q : Spot} {e : Entitlements} → Entitled p e q → entitled p ≡ Some (e, q)
   pub type_sound : (at : TypePosition) (p : Spot) (x : TypeTree × Spot) → type_at at p ≡ Some x → ReadsType at p x.0 x.1
-  pub type_exact : {at : TypePosition} {p q : Spot} {t : TypeTree} → ReadsType at p t q → TypeOver at q → type_at at p ≡ Some (t, q)
   pub type_reach : {at : TypePosition} {p q : Spot} {t : TypeTree} → ReadsType at p t q → Reaches (TypeOver at q) (type_at at p) t q
+  pub type_exact : {at : TypePosition} {p q : Spot} {t : TypeTree} → ReadsType at p t q → TypeOver at q → type_at at p ≡ Some (t, q)
   pub annotation_at_sound : (at : TypePosition) (p : Spot) (x : Annotation × Spot) → annotation_at at p ≡ Some x → ReadsAnnotation at p x.0 x.1
-  pub annotation_at_exact : {at : TypePosition} {p q : Spot} {a : Annotation} → ReadsAnnotation at p a q → TypeOver at q → annotation_at at p ≡ Some (a, q)
   pub annotation_at_reach : {at : TypePosition} {p q : Spot} {a : Annotation} → ReadsAnnotation at p a q → Reaches (TypeOver at q) (annotation_at at p) a q
+  pub annotation_at_exact : {at : TypePosition} {p q : Spot} {a : Annotation} → ReadsAnnotation at p a q → TypeOver at q → annotation_at at p ≡ Some (a, q)
   pub arguments_sound : (p : Spot) (a : Annotation) (all : List Annotation) (q : Spot) → arguments_at p ≡ Some (a ∷ all, q) → AnnotationList p (a ∷ all) q
   pub arguments_filled : (p q : Spot) → arguments_at p ≡ Some ([], q) → ⊥
   pub arguments_exact : {p q : Spot} {a : Annotation} {all : List Annotation} → AnnotationList p (a ∷ all) q → arguments_at p ≡ Some (a ∷ all, q)

@@ -11,7 +11,7 @@ use std::alloc::{AllocError, Global};
 
 // The name behind a `.`, and the spot behind it; None where none stands there.
 #[tactic(auto, unfolding(cad_grammar::specs::TypeGrammar::dot_name))]
-fn dot_name(spot: Spot<'_>) -> Option<(&Name, Spot<'_>)>
+fn further(spot: Spot<'_>) -> Option<(&Name, Spot<'_>)>
     ensures { option_map (seen_with seen_name) result ≡ dot_name (seen spot.entry) }
 {
     spot.after(Sign::Dot)?.name()
@@ -19,12 +19,12 @@ fn dot_name(spot: Spot<'_>) -> Option<(&Name, Spot<'_>)>
 
 // The names with all that stand behind them, each behind a `.`, and the spot behind the last.
 #[tactic(auto, unfolding(crate::specs::Reading::climb))]
-fn with_dot_names(mut names: Dotted, spot: Spot<'_>) -> Result<(Dotted, Spot<'_>), AllocError>
+fn with_further(mut names: Dotted, spot: Spot<'_>) -> Result<(Dotted, Spot<'_>), AllocError>
     ensures { IfOk result (λ x. spec.climb spec.appended dot_name (length spot.entry.tokens.now) names (seen spot.entry) ≡ Some (seen_with (λ n. n) x)) }
 {
     let mut rest = spot;
     for _turn in 0..spot.tokens.len() {
-        let Some((name, next)) = dot_name(rest) else {
+        let Some((name, next)) = further(rest) else {
             return Ok((names, rest));
         };
         names.push(name.clone()?)?;
@@ -43,7 +43,7 @@ pub fn dotted(alloc: Global, spot: Spot<'_>) -> Result<Option<(Dotted, Spot<'_>)
     };
     let mut names = Items::new(alloc);
     names.push(first.clone()?)?;
-    Ok(Some(with_dot_names(names, rest)?))
+    Ok(Some(with_further(names, rest)?))
 }
 
 // The dotted names with commas between them, and the spot behind the closing sign; None where they don't go on up to it.
