@@ -5,11 +5,12 @@
   with `synchronous=FULL` and the journal DELETE, and WAL) and beside the machine's own rate of two writes and two syncs to
   one file. All on one disk, in turns of 10 commands, since a shared disk is now quick and now slow.
 - the time of 10,000 saves by that of 1,000: of the processor, on a file system in memory; and the whole time on the disk.
-- the time of a run without input on a store of 100,000 accounts, beside that of `scan` of its tape alone, by the program
-  that `bench/tapes.py` builds and proves (some minutes; --scan names one that is built, --quick leaves it out): the time
-  of the processor, the least of 20 runs in turns.
+- the time of a run without input on a store of 100,000 accounts, and on one of 50,000 accounts that each save a value in
+  turn, beside that of `scan` of its tape alone, by the program that `bench/tapes.py` builds and proves (some minutes;
+  --scan names one that is built, --quick leaves it out): the time of the processor, the least of 20 runs in turns.
+  --opening measures this alone.
 
-usage: bench/accounts.py [PROGRAM] [--within FOLDER] [--scan PROGRAM | --quick]      (crates/cadence/out/cadence)
+usage: bench/accounts.py [PROGRAM] [--within FOLDER] [--scan PROGRAM | --quick] [--opening]      (crates/cadence/out/cadence)
 """
 import argparse
 import os
@@ -154,19 +155,34 @@ def growth(program, base, memory):
     print(f"10,000 saves on the disk: {many:.2f} s; 1,000, the mean of three before and three after: {few:.3f} s; {many / few:.1f} times the time")
 
 
-def make_store(folder):
-    """A checkpoint of one account, and a record for each more."""
+def accounts_alone():
+    """The changes of each record: an account."""
+    for count in range(1, ACCOUNTS + 1):
+        yield account(count)
+
+
+def accounts_and_values():
+    """The changes of each record: an account, and a value in it, in turn."""
+    for count in range(1, ACCOUNTS // 2 + 1):
+        yield account(count)
+        yield {b"\4" + model.number_field(count) + b"v%d" % count: b"\4\0\0" + count.to_bytes(16, "big")}
+
+
+def account(count):
+    return {b"\0": model.number_field(count) + model.number_field(1), b"\1" + model.number_field(count): model.number_field(1)}
+
+
+def make_store(folder, records):
     folder.mkdir()
     with open(folder / "a", "wb") as out:
-        for count in range(1, ACCOUNTS + 1):
-            out.write(model.record_of({b"\0": model.number_field(count) + model.number_field(1), b"\1" + model.number_field(count): model.number_field(1)}))
+        for changes in records:
+            out.write(model.record_of(changes))
         out.write(b"\0")
     (folder / "pick").write_bytes(b"\1")
 
 
-def opening(program, scan, base):
-    folder = base / "store"
-    make_store(folder)
+def opening(program, scan, folder, records, accounts):
+    make_store(folder, records)
     size = (folder / "a").stat().st_size
     commands = {"a run without input": [program, "run", str(folder)], "sha256sum": ["sha256sum", str(folder / "a")]}
     if scan:
@@ -176,11 +192,11 @@ def opening(program, scan, base):
         for name, command in commands.items():
             times[name].append(processor_time(command))
     own = min(times["a run without input"])
-    print(f"{ACCOUNTS:,} accounts in a tape of {size / 1e6:.1f} MB; time of the processor, and how many times that a run without input takes")
+    print(f"{accounts:,} accounts in a tape of {size / 1e6:.1f} MB; time of the processor, and how many times that a run without input takes")
     for name, taken in times.items():
         print(f"{name}: {min(taken):.3f} s, {own / min(taken):.2f}")
     done = model.run(program, folder, model.line_of(("account",)))
-    assert done.stdout == b'{"address":"0x%016x","reply":"ok"}\n' % (ACCOUNTS + 1), done
+    assert done.stdout == b'{"address":"0x%016x","reply":"ok"}\n' % (accounts + 1), done
 
 
 def scan_program(base):
@@ -197,6 +213,7 @@ def options_of():
     parser.add_argument("--within", metavar="FOLDER", help="where the folders lie (the system's folder for temporary files)")
     parser.add_argument("--scan", metavar="PROGRAM", help="the program that bench/tapes.py builds")
     parser.add_argument("--quick", action="store_true", help="no scan to compare with")
+    parser.add_argument("--opening", action="store_true", help="measure the opening alone")
     return parser.parse_args()
 
 
@@ -206,10 +223,13 @@ def main():
     with tempfile.TemporaryDirectory(dir=options.within) as name:
         base = pathlib.Path(name)
         print(f"load {os.getloadavg()[0]:.1f} on {os.cpu_count()} processors")
-        durable(program, base)
-        with tempfile.TemporaryDirectory(dir="/dev/shm" if os.path.isdir("/dev/shm") else None) as memory:
-            growth(program, base, pathlib.Path(memory))
-        opening(program, options.scan or (None if options.quick else scan_program(base)), base)
+        if not options.opening:
+            durable(program, base)
+            with tempfile.TemporaryDirectory(dir="/dev/shm" if os.path.isdir("/dev/shm") else None) as memory:
+                growth(program, base, pathlib.Path(memory))
+        scan = options.scan or (None if options.quick else scan_program(base))
+        opening(program, scan, base / "accounts", accounts_alone(), ACCOUNTS)
+        opening(program, scan, base / "values", accounts_and_values(), ACCOUNTS // 2)
         print(f"load {os.getloadavg()[0]:.1f} at the end")
 
 

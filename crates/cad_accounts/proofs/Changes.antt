@@ -7,8 +7,11 @@ use Rattle.std.proofs.lemmas.List.Elements.{filter_passes}
 use Rattle.cad_wire.specs.declared.entry.Entry.{Entry}
 use Rattle.cad_wire.specs.Body.{are_ascending}
 use Rattle.cad_accounts.specs.Registers.{Map, same_key, changed, applied, Leads}
-use Rattle.cad_accounts.proofs.Maps.{same_key-self, keys_same, some_key, other_key, changed_kept, applied_after}
-use Rattle.cad_accounts.proofs.EntryPlaces.{Under, Under-Free, Rising, rising, ascending}
+use Rattle.cad_accounts.proofs.Maps.{some_key, other_key, changed_kept, applied_after}
+use Rattle.cad_accounts.proofs.Keys.{itself, same_is}
+use Rattle.cad_accounts.specs.Places.{entry_key, rise, AllBehind}
+use Rattle.cad_accounts.proofs.Order.{tail_rises, first_before, join}
+use Rattle.cad_accounts.proofs.EntryPlaces.{free_behind, rising, ascending}
 
 -- ---- a test whether bytes differ
 
@@ -32,7 +35,7 @@ differ-true None (Some v) e same = absurd cc
 differ-true (Some u) None e same = absurd cc
 differ-true (Some u) (Some v) e same =
     let w : u ≡ v = cc in
-    let t : same_key u v ≡ true = subst (λ (x : List ℕ). same_key u x ≡ true) w (same_key-self u) in
+    let t : same_key u v ≡ true = subst (λ (x : List ℕ). same_key u x ≡ true) w (itself u) in
     let f : same_key u v ≡ false = not_true (same_key u v) e in
     let c : true ≡ false = sym t ∙ f in
     absurd cc
@@ -41,7 +44,7 @@ pub differ-false : (a b : Option (List ℕ)) → differ a b ≡ false → a ≡ 
 differ-false None None e = refl
 differ-false None (Some v) e = absurd cc
 differ-false (Some u) None e = absurd cc
-differ-false (Some u) (Some v) e = ap (λ (x : List ℕ). Some x) (keys_same u v (not_false (same_key u v) e))
+differ-false (Some u) (Some v) e = ap (λ (x : List ℕ). Some x) (same_is u v (not_false (same_key u v) e))
 
 one_test : (r s : Bool) → (r ≡ true → s ≡ true) → (s ≡ true → r ≡ true) → r ≡ s
 one_test true s f g = sym (f refl)
@@ -64,31 +67,33 @@ module _ (p : Entry → Bool) where
   drops : (e : Entry) (es : List Entry) → p e ≡ false → filter p (e ∷ es) ≡ filter p es
   drops e es t = other_key (p e) (e ∷ filter p es) (filter p es) t
 
-  Under-filter : (key : List ℕ) (es : List Entry) → Under key es → Under key (filter p es)
-  Under-filter key [] u = tt
-  Under-filter key (e ∷ es) u =
+  behind-filter : (key : List ℕ) (es : List Entry) → AllBehind entry_key key es → AllBehind entry_key key (filter p es)
+  behind-filter key [] h = tt
+  behind-filter key (e ∷ es) h =
       elim (cases_Bool (p e)) [
-        | inl t ↦ subst (Under key) (sym (keeps e es t)) (u.0, Under-filter key es u.1)
-        | inr t ↦ subst (Under key) (sym (drops e es t)) (Under-filter key es u.1)
+        | inl t ↦ subst (AllBehind entry_key key) (sym (keeps e es t)) (h.0, behind-filter key es h.1)
+        | inr t ↦ subst (AllBehind entry_key key) (sym (drops e es t)) (behind-filter key es h.1)
       ]
 
-  Rising-filter : (es : List Entry) → Rising es → Rising (filter p es)
-  Rising-filter [] r = tt
-  Rising-filter (e ∷ es) r =
+  rises-filter : (es : List Entry) → rise entry_key es ≡ true → rise entry_key (filter p es) ≡ true
+  rises-filter [] r = refl
+  rises-filter (e ∷ es) r =
+      let rest = rises-filter es (tail_rises entry_key e es r) in
       elim (cases_Bool (p e)) [
-        | inl t ↦ subst Rising (sym (keeps e es t)) (Under-filter e.key.0 es r.0, Rising-filter es r.1)
-        | inr t ↦ subst Rising (sym (drops e es t)) (Rising-filter es r.1)
+        | inl t ↦ ap (rise entry_key) (keeps e es t) ∙ join entry_key e (filter p es) (behind-filter e.key.0 es (first_before entry_key e es r)) rest
+        | inr t ↦ ap (rise entry_key) (drops e es t) ∙ rest
       ]
 
   -- those that it drops change nothing
-  applied-filter : (m : Map) → ((e : Entry) → p e ≡ false → m e.key.0 ≡ e.value) → (es : List Entry) → Rising es → applied (filter p es) m ≡ applied es m
+  applied-filter : (m : Map) → ((e : Entry) → p e ≡ false → m e.key.0 ≡ e.value) → (es : List Entry) → rise entry_key es ≡ true → applied (filter p es) m ≡ applied es m
   applied-filter m same [] r = refl
   applied-filter m same (e ∷ es) r =
-      let rest = applied-filter m same es r.1 in
+      let rest = applied-filter m same es (tail_rises entry_key e es r) in
+      let behind = first_before entry_key e es r in
       elim (cases_Bool (p e)) [
         | inl t ↦
-            ap (λ (xs : List Entry). applied xs m) (keeps e es t) ∙ applied_after e.key.0 e.value (filter p es) m (Under-Free e.key.0 (filter p es) (Under-filter e.key.0 es r.0))
-            ∙ ap (changed e.key.0 e.value) rest ∙ sym (applied_after e.key.0 e.value es m (Under-Free e.key.0 es r.0))
+            ap (λ (xs : List Entry). applied xs m) (keeps e es t) ∙ applied_after e.key.0 e.value (filter p es) m (free_behind e.key.0 (filter p es) (behind-filter e.key.0 es behind))
+            ∙ ap (changed e.key.0 e.value) rest ∙ sym (applied_after e.key.0 e.value es m (free_behind e.key.0 es behind))
         | inr t ↦ ap (λ (xs : List Entry). applied xs m) (drops e es t) ∙ rest ∙ ap (applied es) (sym (changed_kept e.key.0 e.value m (same e t)))
       ]
 
@@ -101,7 +106,7 @@ pub leading : (m : Map) (es : List Entry) → are_ascending es ≡ true → Lead
 leading m es a =
     let p = differs_from m in
     record {
-      ascending = ascending (filter p es) (Rising-filter p es (rising es a));
+      ascending = ascending (filter p es) (rises-filter p es (rising es a));
       is = λ key. ap (λ (n : Map). n key) (sym (applied-filter p m (λ e t. differ-false (m e.key.0) e.value t) es (rising es a)));
       differ = λ k d lt. differ-true _ _ (filter_passes p es k d lt);
     }

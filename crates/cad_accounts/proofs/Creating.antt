@@ -8,8 +8,9 @@ use Rattle.cad_wire.proofs.FieldLaws.{number_again}
 use Rattle.cad_accounts.specs.Registers.{Map, same_key, changed}
 use Rattle.cad_accounts.specs.Layers.{with_account}
 use Rattle.cad_accounts.specs.Accounts.{Account, Accounts, AreRegisters, StandsFor, IsSound, IsSoundAccount, IsKey, head, controller, head_key, controller_key, stored_key, controller_bytes, stored_bytes, new_account, created, most_accounts}
-use Rattle.cad_accounts.proofs.Maps.{same_key-self, keys_same, some_key, other_key}
-use Rattle.cad_accounts.proofs.KeyLaws.{controller_apart}
+use Rattle.cad_accounts.proofs.Maps.{some_key, other_key}
+use Rattle.cad_accounts.proofs.Keys.{not_same, itself, same_is}
+use Rattle.cad_accounts.proofs.KeyOrder.{same_controller}
 use Rattle.cad_accounts.proofs.States.{past}
 
 false_unless : (b : Bool) → (b ≡ true → ⊥) → b ≡ false
@@ -23,7 +24,7 @@ numbers_apart a b n = false_unless (eqb a b) (λ e. n (eqb-true a b e))
 pub only_more : (key : List ℕ) (v : Option (List ℕ)) (m : Map) → IsKey key → ((k : List ℕ) → m k ≢ None → IsKey k) → (k : List ℕ) → changed key v m k ≢ None → IsKey k
 only_more key v m is only k there =
     elim (cases_Bool (same_key k key)) [
-      | inl e ↦ subst IsKey (sym (keys_same k key e)) is
+      | inl e ↦ subst IsKey (sym (same_is k key e)) is
       | inr e ↦ only k (λ none. there (other_key (same_key k key) v (m k) e ∙ none))
     ]
 
@@ -65,11 +66,11 @@ module _ (w : Accounts) where
   controllers_then m s lt address fits =
       elim (cases_eq address next) [
         | inl e ↦
-            let here : changed (controller_key next) (Some (number_field 1)) m (controller_key address) ≡ Some (number_field 1) = some_key (same_key (controller_key address) (controller_key next)) (Some (number_field 1)) (m (controller_key address)) (subst (λ (k : ℕ). same_key (controller_key address) (controller_key k) ≡ true) e (same_key-self (controller_key address))) in
+            let here : changed (controller_key next) (Some (number_field 1)) m (controller_key address) ≡ Some (number_field 1) = some_key (same_key (controller_key address) (controller_key next)) (Some (number_field 1)) (m (controller_key address)) (subst (λ (k : ℕ). same_key (controller_key address) (controller_key k) ≡ true) e (itself (controller_key address))) in
             here ∙ sym (ap (option_map (λ (a : Account). number_field a.next_controller)) (account_next address e))
         | inr n ↦
             let bits : next < 2 ^ 64 = omega arith in
-            let here : changed (controller_key next) (Some (number_field 1)) m (controller_key address) ≡ m (controller_key address) = other_key (same_key (controller_key address) (controller_key next)) (Some (number_field 1)) (m (controller_key address)) (controller_apart address next fits bits n) in
+            let here : changed (controller_key next) (Some (number_field 1)) m (controller_key address) ≡ m (controller_key address) = other_key (same_key (controller_key address) (controller_key next)) (Some (number_field 1)) (m (controller_key address)) (not_same (controller_key address) (controller_key next) (λ e. n (same_controller address next fits bits e))) in
             here ∙ s.are.controllers address fits ∙ sym (ap (option_map (λ (a : Account). number_field a.next_controller)) (account_else address n))
       ]
 

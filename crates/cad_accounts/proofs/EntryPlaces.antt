@@ -1,177 +1,58 @@
--- Entries in byte order of their keys: where one is found, and what one more changes.
-use Rattle.std.proofs.Common.{◌≡◌, ℕ, zero, suc, ◌<◌, ◌≤◌, Bool, true, false, cond, List, [], ◌∷◌, length, get_or, set, Option, Result, Ok, Err, refl, sym, ap, subst, ◌∙◌, arith}
+-- Entries in byte order of their keys: what is applied at a place, and what one more changes.
+use Rattle.std.proofs.Common.{◌≡◌, ℕ, suc, Bool, true, cond, List, [], ◌∷◌, ◌++◌, take, drop, get_or, set, Option, refl, sym, ap, subst, ◌∙◌}
 use Rattle.std.specs.Prelude.{◌&&◌}
-use Rattle.std.specs.List.{AllByRecursion, AllWithin, insert}
-use Rattle.std.specs.List.Sorted.{IsNonDecreasingBy, IsBinarySearchResult, IsSearchInRange}
-use Rattle.std.specs.Ordering.{nat_cmp, is_lt, ordering_index, ordering_reverse}
-use Rattle.std.specs.Cmp.Lexicographic.{slice_cmp}
-use Rattle.std.specs.declared.cmp.Ordering.{Ordering}
-use Rattle.std.specs.declared.cmp.Ordering.TheVariants.{Less, Equal, Greater}
-use Rattle.std.proofs.lemmas.Cmp.{nat_list_cmp_total, tied_itself, alike_right}
-use Rattle.std.proofs.lemmas.Map.Lookups.{exact_bytes}
+use Rattle.std.specs.List.{insert}
+use Rattle.std.proofs.lemmas.List.{take-append-drop, set_split}
 use Rattle.cad_wire.specs.declared.entry.Entry.{Entry}
 use Rattle.cad_wire.specs.Body.{are_ascending}
-use Rattle.cad_accounts.specs.Registers.{Map, same_key, changed, applied}
-use Rattle.cad_accounts.specs.Places.{HasKey, Belongs, IsPlace}
-use Rattle.cad_accounts.proofs.Maps.{keys_differ, same_key-comm, changed_there, changed_twice, Free, applied_after, applied_free}
+use Rattle.cad_accounts.specs.Registers.{Map, changed, applied}
+use Rattle.cad_accounts.specs.Places.{entry_key, before, rise, AllBefore, AllBehind, StandsAt, BelongsAt}
+use Rattle.cad_accounts.proofs.Keys.{before_differs, behind_differs}
+use Rattle.cad_accounts.proofs.Maps.{changed_there, changed_twice, Free, applied_after}
+use Rattle.cad_accounts.proofs.OneByOne.{applied_append}
+use Rattle.cad_accounts.proofs.Order.{parted, behind_it, insert_rises, set_rises}
 
-abbrev pub compared : List ℕ → List ℕ → Ordering
-compared = slice_cmp nat_cmp
+-- ---- order
 
--- ---- the order of keys
+same_order : (es : List Entry) → are_ascending es ≡ rise entry_key es
+same_order [] = refl
+same_order (e ∷ []) = refl
+same_order (e ∷ f ∷ es) = ap (λ b. before e.key.0 f.key.0 && b) (same_order (f ∷ es))
 
-pub less-trans : (x y z : List ℕ) → compared x y ≡ Less → compared y z ≡ Less → compared x z ≡ Less
-less-trans = nat_list_cmp_total.trans
+pub rising : (es : List Entry) → are_ascending es ≡ true → rise entry_key es ≡ true
+rising es a = sym (same_order es) ∙ a
 
-pub less-differ : (x y : List ℕ) → compared x y ≡ Less → same_key x y ≡ false
-less-differ x y e = keys_differ x y (λ h. let t : compared x y ≡ Equal = subst (λ (k : List ℕ). compared x k ≡ Equal) h (tied_itself nat_list_cmp_total x) in cc)
+pub ascending : (es : List Entry) → rise entry_key es ≡ true → are_ascending es ≡ true
+ascending es r = same_order es ∙ r
 
-pub greater-less : (x y : List ℕ) → compared x y ≡ Greater → compared y x ≡ Less
-greater-less x y e = nat_list_cmp_total.antisymm y x ∙ ap ordering_reverse e
+pub free_behind : (key : List ℕ) (es : List Entry) → AllBehind entry_key key es → Free key es
+free_behind key [] h = tt
+free_behind key (e ∷ es) h = (before_differs key e.key.0 h.0, free_behind key es h.1)
 
-pub greater-differ : (x y : List ℕ) → compared x y ≡ Greater → same_key x y ≡ false
-greater-differ x y e = same_key-comm y x (less-differ y x (greater-less x y e))
+free_around : (key : List ℕ) (front back : List Entry) → AllBefore entry_key front key → AllBehind entry_key key back → Free key (front ++ back)
+free_around key [] back before behind = free_behind key back behind
+free_around key (e ∷ front) back before behind = (behind_differs key e.key.0 before.0, free_around key front back before.1 behind)
 
-is_less : (o : Ordering) → is_lt o ≡ true → o ≡ Less
-is_less Less e = refl
-is_less Equal e = absurd cc
-is_less Greater e = absurd cc
+pub belongs_free : (es : List Entry) (key : List ℕ) (i : ℕ) → BelongsAt entry_key key es i → Free key es
+belongs_free es key i b = subst (Free key) (take-append-drop i es) (free_around key (take i es) (drop i es) b.in_front b.behind)
 
-both_true : (a b : Bool) → (a && b) ≡ true → (a ≡ true) × (b ≡ true)
-both_true true b e = (refl, e)
-both_true false b e = absurd cc
+-- ---- one entry, and those around it
 
--- ---- entries in order
+pub applied_with : (front : List Entry) (e : Entry) (back : List Entry) (m : Map) → AllBehind entry_key e.key.0 back → applied (front ++ e ∷ back) m ≡ changed e.key.0 e.value (applied (front ++ back) m)
+applied_with front e back m h =
+    applied_append front (e ∷ back) m
+    ∙ applied_after e.key.0 e.value back (applied front m) (free_behind e.key.0 back h)
+    ∙ ap (changed e.key.0 e.value) (sym (applied_append front back m))
 
--- this key is less than each of these
-abbrev pub Under : List ℕ → List Entry → Type 0
-Under key = AllByRecursion (λ e. compared key e.key.0 ≡ Less)
-
--- each key is less than all behind it
-abbrev pub Rising : List Entry → Type 0
-Rising [] = Unit {0}
-Rising (e ∷ es) = Under e.key.0 es × Rising es
-
-pub Under-Free : (key : List ℕ) (es : List Entry) → Under key es → Free key es
-Under-Free key [] u = tt
-Under-Free key (e ∷ es) u = (less-differ key e.key.0 u.0, Under-Free key es u.1)
-
-pub Under-less : (j k : List ℕ) (es : List Entry) → compared j k ≡ Less → Under k es → Under j es
-Under-less j k [] lt u = tt
-Under-less j k (e ∷ es) lt u = (less-trans j k e.key.0 lt u.0, Under-less j k es lt u.1)
-
-pub rising : (es : List Entry) → are_ascending es ≡ true → Rising es
-rising [] a = tt
-rising (e ∷ []) a = (tt, tt)
-rising (e ∷ f ∷ es) a =
-    let b = both_true (is_lt (compared e.key.0 f.key.0)) (are_ascending (f ∷ es)) a in
-    let lt = is_less (compared e.key.0 f.key.0) b.0 in
-    let r = rising (f ∷ es) b.1 in
-    ((lt, Under-less e.key.0 f.key.0 es lt r.0), r)
-
-pub ascending : (es : List Entry) → Rising es → are_ascending es ≡ true
-ascending [] r = refl
-ascending (e ∷ []) r = refl
-ascending (e ∷ f ∷ es) r = rw (r.0.0) (ascending (f ∷ es) r.1)
-
--- ---- places
-
-steps : (o p : Ordering) → (p ≡ Less → o ≡ Less) → (p ≡ Equal → o ≡ Less) → ordering_index o ≤ ordering_index p
-steps o Less f g = rw (f refl) (omega arith)
-steps o Equal f g = rw (g refl) (omega arith)
-steps Less Greater f g = omega arith
-steps Equal Greater f g = omega arith
-steps Greater Greater f g = omega arith
-
-steps_by : (x y key : List ℕ) → compared x y ≡ Less → ordering_index (compared x key) ≤ ordering_index (compared y key)
-steps_by x y key lt = steps (compared x key) (compared y key) (λ e. less-trans x y key lt e) (λ e. sym (alike_right nat_list_cmp_total y key x e) ∙ lt)
-
-at_under : (key : List ℕ) (es : List Entry) (i : ℕ) (d : Entry) → Under key es → i < length es → compared key (get_or es i d).key.0 ≡ Less
-at_under key [] i d u lt = absurd (omega arith)
-at_under key (e ∷ es) zero d u lt = u.0
-at_under key (e ∷ es) (suc i) d u lt = at_under key es i d u.1 (omega arith)
-
-pub searchable : (key : List ℕ) (es : List Entry) → Rising es → IsNonDecreasingBy (λ e. ordering_index (compared e.key.0 key)) es
-searchable key [] r i j d le lt = absurd (omega arith)
-searchable key (e ∷ es) r zero zero d le lt = omega arith
-searchable key (e ∷ es) r zero (suc j) d le lt = steps_by e.key.0 (get_or es j d).key.0 key (at_under e.key.0 es j d r.0 (omega arith))
-searchable key (e ∷ es) r (suc i) zero d le lt = absurd (omega arith)
-searchable key (e ∷ es) r (suc i) (suc j) d le lt = searchable key es r.1 i j d (omega arith) (omega arith)
-
-pub found_place : (key : List ℕ) (es : List Entry) (place : Result ℕ ℕ) → are_ascending es ≡ true → IsSearchInRange place (length es) → IsBinarySearchResult (λ e. compared e.key.0 key) es place → IsPlace es key place
-found_place key es (Ok i) a bound position = record { below = bound; is = λ d. exact_bytes (get_or es i d).key.0 key (position d) }
-found_place key es (Err i) a bound position = record { within = bound; parts = position (searchable key es (rising es a)) }
-
--- ---- an entry that is there
-
-pub value_there : (es : List Entry) (key : List ℕ) (i : ℕ) (d : Entry) (m : Map) → Rising es → HasKey es key i → applied es m key ≡ (get_or es i d).value
-value_there [] key i d m r has = let h = has.below in absurd (omega arith)
-value_there (e ∷ es) key zero d m r has =
-    let same : e.key.0 ≡ key = has.is d in
-    let free : Free key es = subst (λ (k : List ℕ). Free k es) same (Under-Free e.key.0 es r.0) in
-    applied_free key es (changed e.key.0 e.value m) free ∙ subst (λ (k : List ℕ). changed e.key.0 e.value m k ≡ e.value) same (changed_there e.key.0 e.value m)
-value_there (e ∷ es) key (suc i) d m r has = value_there es key i d (changed e.key.0 e.value m) r.1 (let h = has.below in record { below = omega arith; is = has.is })
-
--- ---- a key that no entry has
-
-free_above : (es : List Entry) (key : List ℕ) → AllWithin (λ e. compared e.key.0 key ≡ Greater) es 0 (length es) → Under key es
-free_above [] key above = tt
-free_above (e ∷ es) key above = (greater-less e.key.0 key (above 0 e (omega arith) (omega arith)), free_above es key (λ k d lo hi. above (suc k) d (omega arith) (omega arith)))
-
-parts_tail : (e : Entry) (es : List Entry) (key : List ℕ) (i : ℕ) → Belongs (e ∷ es) key (suc i) → Belongs es key i
-parts_tail e es key i b =
-    let w = b.within in
-    record { within = omega arith; parts = (λ k d lo hi. b.parts.0 (suc k) d (omega arith) (omega arith), λ k d lo hi. b.parts.1 (suc k) d (omega arith) (omega arith)) }
-
-before_it : (e : Entry) (es : List Entry) (key : List ℕ) (i : ℕ) → Belongs (e ∷ es) key (suc i) → compared e.key.0 key ≡ Less
-before_it e es key i b = b.parts.0 0 e (omega arith) (omega arith)
-
-pub belongs_free : (es : List Entry) (key : List ℕ) (i : ℕ) → Belongs es key i → Free key es
-belongs_free es key zero b = Under-Free key es (free_above es key b.parts.1)
-belongs_free [] key (suc i) b = tt
-belongs_free (e ∷ es) key (suc i) b = (same_key-comm e.key.0 key (less-differ e.key.0 key (before_it e es key i b)), belongs_free es key i (parts_tail e es key i b))
-
--- ---- an entry with a new value
-
-pub replaced : (es : List Entry) (key : List ℕ) (i : ℕ) (e : Entry) (m : Map) → Rising es → HasKey es key i → e.key.0 ≡ key → applied (set es i e) m ≡ changed key e.value (applied es m)
-replaced [] key i e m r has is = let h = has.below in absurd (omega arith)
-replaced (x ∷ es) key zero e m r has is =
-    let same : x.key.0 ≡ key = has.is e in
-    let free : Free key es = subst (λ (k : List ℕ). Free k es) same (Under-Free x.key.0 es r.0) in
-    let here : applied (e ∷ es) m ≡ applied es (changed key e.value m) = ap (λ (k : List ℕ). applied es (changed k e.value m)) is in
-    let once : changed key e.value (applied es (changed key x.value m)) ≡ changed key e.value (applied es m) = ap (changed key e.value) (applied_after key x.value es m free) ∙ changed_twice key e.value x.value (applied es m) in
-    here ∙ applied_after key e.value es m free ∙ sym once ∙ ap (λ (k : List ℕ). changed key e.value (applied es (changed k x.value m))) (sym same)
-replaced (x ∷ es) key (suc i) e m r has is = replaced es key i e (changed x.key.0 x.value m) r.1 (let h = has.below in record { below = omega arith; is = has.is }) is
-
-Under-set : (key j : List ℕ) (es : List Entry) (i : ℕ) (e : Entry) → Under key es → HasKey es j i → e.key.0 ≡ j → Under key (set es i e)
-Under-set key j [] i e u has is = tt
-Under-set key j (x ∷ es) zero e u has is = (subst (λ (k : List ℕ). compared key k ≡ Less) (has.is e ∙ sym is) u.0, u.1)
-Under-set key j (x ∷ es) (suc i) e u has is = (u.0, Under-set key j es i e u.1 (let h = has.below in record { below = omega arith; is = has.is }) is)
-
-pub Rising-set : (key : List ℕ) (es : List Entry) (i : ℕ) (e : Entry) → Rising es → HasKey es key i → e.key.0 ≡ key → Rising (set es i e)
-Rising-set key [] i e r has is = tt
-Rising-set key (x ∷ es) zero e r has is = (subst (λ (k : List ℕ). Under k es) (has.is e ∙ sym is) r.0, r.1)
-Rising-set key (x ∷ es) (suc i) e r has is =
-    let rest : HasKey es key i = let h = has.below in record { below = omega arith; is = has.is } in
-    (Under-set x.key.0 key es i e r.0 rest is, Rising-set key es i e r.1 rest is)
-
--- ---- an entry more
-
-pub inserted : (es : List Entry) (i : ℕ) (e : Entry) (m : Map) → Belongs es e.key.0 i → applied (insert es i e) m ≡ changed e.key.0 e.value (applied es m)
-inserted es zero e m b = applied_after e.key.0 e.value es m (Under-Free e.key.0 es (free_above es e.key.0 b.parts.1))
-inserted [] (suc i) e m b = let h = b.within in absurd (omega arith)
-inserted (x ∷ es) (suc i) e m b = inserted es i e (changed x.key.0 x.value m) (parts_tail x es e.key.0 i b)
-
-Under-insert : (key : List ℕ) (es : List Entry) (i : ℕ) (e : Entry) → Under key es → compared key e.key.0 ≡ Less → Under key (insert es i e)
-Under-insert key es zero e u lt = (lt, u)
-Under-insert key [] (suc i) e u lt = (lt, tt)
-Under-insert key (x ∷ es) (suc i) e u lt = (u.0, Under-insert key es i e u.1 lt)
-
-pub Rising-insert : (es : List Entry) (i : ℕ) (e : Entry) → Rising es → Belongs es e.key.0 i → Rising (insert es i e)
-Rising-insert es zero e r b = (free_above es e.key.0 b.parts.1, r)
-Rising-insert [] (suc i) e r b = let h = b.within in absurd (omega arith)
-Rising-insert (x ∷ es) (suc i) e r b =
-    (Under-insert x.key.0 es i e r.0 (before_it x es e.key.0 i b), Rising-insert es i e r.1 (parts_tail x es e.key.0 i b))
+pub value_there : (es : List Entry) (key : List ℕ) (i : ℕ) (d : Entry) (m : Map) → rise entry_key es ≡ true → StandsAt entry_key key es i → applied es m key ≡ (get_or es i d).value
+value_there es key i d m r has =
+    let e = get_or es i d in
+    let same : e.key.0 ≡ key = has.key_is d in
+    let back = subst (λ (k : List ℕ). AllBehind entry_key k (drop (suc i) es)) (sym same) (behind_it entry_key key es i d r has) in
+    ap (λ (l : List Entry). applied l m key) (parted entry_key es i d has.within)
+    ∙ ap (λ (n : Map). n key) (applied_with (take i es) e (drop (suc i) es) m back)
+    ∙ ap (λ (k : List ℕ). changed e.key.0 e.value (applied (take i es ++ drop (suc i) es) m) k) (sym same)
+    ∙ changed_there e.key.0 e.value (applied (take i es ++ drop (suc i) es) m)
 
 -- ---- what one more change makes of entries
 
@@ -179,19 +60,36 @@ pub record Put (es : List Entry) (key : List ℕ) (v : Option (List ℕ)) (new :
   pub ascends : are_ascending new ≡ true
   pub is : (m : Map) → applied new m ≡ changed key v (applied es m)
 
-pub put_there : (es : List Entry) (key : List ℕ) (v : Option (List ℕ)) (i : ℕ) (x : Entry) → are_ascending es ≡ true → HasKey es key i → x ≡ get_or es i x → Put es key v (set es i (record { key = x.key; value = v }))
+-- of two entries of one key the last stands
+replaced : (front : List Entry) (x e : Entry) (back : List Entry) (m : Map) → x.key.0 ≡ e.key.0 → AllBehind entry_key e.key.0 back → applied (front ++ e ∷ back) m ≡ changed e.key.0 e.value (applied (front ++ x ∷ back) m)
+replaced front x e back m same h =
+    let before_it : applied (front ++ x ∷ back) m ≡ changed x.key.0 x.value (applied (front ++ back) m) = applied_with front x back m (subst (λ (k : List ℕ). AllBehind entry_key k back) (sym same) h) in
+    applied_with front e back m h
+    ∙ sym (changed_twice e.key.0 e.value x.value (applied (front ++ back) m))
+    ∙ ap (λ (k : List ℕ). changed e.key.0 e.value (changed k x.value (applied (front ++ back) m))) (sym same)
+    ∙ ap (changed e.key.0 e.value) (sym before_it)
+
+put_at : (es : List Entry) (e : Entry) (i : ℕ) → are_ascending es ≡ true → StandsAt entry_key e.key.0 es i → Put es e.key.0 e.value (set es i e)
+put_at es e i a has = record {
+  ascends = ascending (set es i e) (set_rises entry_key es i e (rising es a) has);
+  is = λ m.
+      ap (λ (l : List Entry). applied l m) (set_split es i e has.within)
+      ∙ replaced (take i es) (get_or es i e) e (drop (suc i) es) m (has.key_is e) (behind_it entry_key e.key.0 es i e (rising es a) has)
+      ∙ ap (λ (l : List Entry). changed e.key.0 e.value (applied l m)) (sym (parted entry_key es i e has.within));
+}
+
+pub put_there : (es : List Entry) (key : List ℕ) (v : Option (List ℕ)) (i : ℕ) (x : Entry) → are_ascending es ≡ true → StandsAt entry_key key es i → x ≡ get_or es i x → Put es key v (set es i (record { key = x.key; value = v }))
 put_there es key v i x a has is =
     let e : Entry = record { key = x.key; value = v } in
-    let same : x.key.0 ≡ key = ap (λ (y : Entry). y.key.0) is ∙ has.is x in
-    record {
-      ascends = ascending (set es i e) (Rising-set key es i e (rising es a) has same);
-      is = λ m. replaced es key i e m (rising es a) has same;
-    }
+    let same : x.key.0 ≡ key = ap (λ (y : Entry). y.key.0) is ∙ has.key_is x in
+    subst (λ (k : List ℕ). Put es k v (set es i e)) same (put_at es e i a (subst (λ (k : List ℕ). StandsAt entry_key k es i) (sym same) has))
 
-pub put_more : (es : List Entry) (e : Entry) (i : ℕ) (new : List Entry) (b : Bool) → are_ascending es ≡ true → Belongs es e.key.0 i → b ≡ true → new ≡ cond b (insert es i e) es → Put es e.key.0 e.value new
+pub put_more : (es : List Entry) (e : Entry) (i : ℕ) (new : List Entry) (b : Bool) → are_ascending es ≡ true → BelongsAt entry_key e.key.0 es i → b ≡ true → new ≡ cond b (insert es i e) es → Put es e.key.0 e.value new
 put_more es e i new b a belongs succeeded is =
     let there : insert es i e ≡ new = ap (λ (t : Bool). cond t (insert es i e) es) (sym succeeded) ∙ sym is in
     subst (Put es e.key.0 e.value) there (record {
-      ascends = ascending (insert es i e) (Rising-insert es i e (rising es a) belongs);
-      is = λ m. inserted es i e m belongs;
+      ascends = ascending (insert es i e) (insert_rises entry_key es i e (rising es a) belongs);
+      is = λ m.
+          applied_with (take i es) e (drop i es) m belongs.behind
+          ∙ ap (λ (l : List Entry). changed e.key.0 e.value (applied l m)) (take-append-drop i es);
     })

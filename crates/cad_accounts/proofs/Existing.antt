@@ -6,17 +6,18 @@ use Rattle.std.specs.Cmp.Lexicographic.{slice_cmp}
 use Rattle.cad_wire.specs.declared.entry.Entry.{Entry}
 use Rattle.cad_accounts.specs.declared.row.Row.{Row}
 use Rattle.cad_accounts.specs.Registers.{same_key, at, are_rising, changed, applied}
-use Rattle.cad_accounts.specs.Rows.{before, AllBefore, AllBehind}
+use Rattle.cad_accounts.specs.Places.{row_key, before, AllBefore, AllBehind}
 use Rattle.cad_accounts.proofs.Keys.{same_is, equal_is, greater_is}
-use Rattle.cad_accounts.proofs.RowLaws.{tail_rises, first_before, behind_all, rises_with, rises_without, before_of, behind_of, none_at, at_with}
+use Rattle.cad_accounts.proofs.Order.{tail_rises, first_before, behind_all, rises_with, rises_without, before_of, behind_of}
+use Rattle.cad_accounts.proofs.RowLaws.{none_at, at_with}
 
 -- no row has this key: where it belongs
 record Parted (key : List ℕ) (rows : List Row) : Type 0 where
   front : List Row
   back : List Row
   is : rows ≡ front ++ back
-  in_front : AllBefore front key
-  behind : AllBehind key back
+  in_front : AllBefore row_key front key
+  behind : AllBehind row_key key back
 
 -- a row has this key: what stands around it
 record Holds (key : List ℕ) (rows : List Row) : Type 0 where
@@ -50,14 +51,14 @@ by_order : (key : List ℕ) (r : Row) (rows : List Row) → are_rising (r ∷ ro
 unfolding Splits
 by_order key r rows e rest Less is =
     let less : before key r.key.0 ≡ true = ap is_lt is in
-    inl (record { front = []; back = r ∷ rows; is = refl; in_front = tt; behind = (less, behind_all key r.key.0 rows less (first_before r rows e)) })
+    inl (record { front = []; back = r ∷ rows; is = refl; in_front = tt; behind = (less, behind_all row_key key r.key.0 rows less (first_before row_key r rows e)) })
 by_order key r rows e rest Equal is = inr (record { front = []; row = r; back = rows; is = refl; key_is = sym (equal_is key r.key.0 is) })
 by_order key r rows e rest Greater is = behind_first key r rows (greater_is key r.key.0 is) rest
 
 splits : (key : List ℕ) (rows : List Row) → are_rising rows ≡ true → Splits key rows
 unfolding Splits
 splits key [] e = inl (record { front = []; back = []; is = refl; in_front = tt; behind = tt })
-splits key (r ∷ rows) e = by_order key r rows e (splits key rows (tail_rises r rows e)) (slice_cmp nat_cmp key r.key.0) refl
+splits key (r ∷ rows) e = by_order key r rows e (splits key rows (tail_rises row_key r rows e)) (slice_cmp nat_cmp key r.key.0) refl
 
 -- ---- one entry
 
@@ -76,32 +77,32 @@ some_twice : (b : Bool) (u v x : Option (List ℕ)) → cond b u x ≡ cond b u 
 some_twice true u v x = refl
 some_twice false u v x = refl
 
-changes_parted : (front : List Row) (back : List Row) (key : List ℕ) (value : Option (List ℕ)) → are_rising (front ++ back) ≡ true → AllBefore front key → AllBehind key back → Changes (front ++ back) key value
+changes_parted : (front : List Row) (back : List Row) (key : List ℕ) (value : Option (List ℕ)) → are_rising (front ++ back) ≡ true → AllBefore row_key front key → AllBehind row_key key back → Changes (front ++ back) key value
 unfolding Changes
 changes_parted front back key None e in_front behind =
     (front ++ back, e, λ k. none_chosen (same_key k key) (at (front ++ back) k) (λ s. ap (at (front ++ back)) (same_is k key s) ∙ none_at front back key in_front behind))
 changes_parted front back key (Some bytes) e in_front behind =
     let row : Row = record { key = record { 0 = key }; value = bytes } in
-    (front ++ row ∷ back, rises_with front row back e in_front behind, λ k. at_with front row back k in_front)
+    (front ++ row ∷ back, rises_with row_key front row back e in_front behind, λ k. at_with front row back k in_front)
 
 changes_held : (front : List Row) (r : Row) (back : List Row) (value : Option (List ℕ)) → are_rising (front ++ r ∷ back) ≡ true → Changes (front ++ r ∷ back) r.key.0 value
 unfolding Changes
 changes_held front r back None e =
-    let in_front = before_of front r back e in
-    let behind = behind_of front r back e in
+    let in_front = before_of row_key front r back e in
+    let behind = behind_of row_key front r back e in
     let none : (k : List ℕ) → same_key k r.key.0 ≡ true → at (front ++ back) k ≡ None = λ k s. ap (at (front ++ back)) (same_is k r.key.0 s) ∙ none_at front back r.key.0 in_front behind in (
       front ++ back,
-      rises_without front r back e,
+      rises_without row_key front r back e,
       λ k.
           none_twice (same_key k r.key.0) (Some r.value) (at (front ++ back) k) (none k)
           ∙ ap (λ o. cond (same_key k r.key.0) None o) (sym (at_with front r back k in_front)),
     )
 changes_held front r back (Some bytes) e =
-    let in_front = before_of front r back e in
-    let behind = behind_of front r back e in
+    let in_front = before_of row_key front r back e in
+    let behind = behind_of row_key front r back e in
     let row : Row = record { key = r.key; value = bytes } in (
       front ++ row ∷ back,
-      rises_with front row back (rises_without front r back e) in_front behind,
+      rises_with row_key front row back (rises_without row_key front r back e) in_front behind,
       λ k.
           at_with front row back k in_front
           ∙ some_twice (same_key k r.key.0) (Some bytes) (Some r.value) (at (front ++ back) k)

@@ -1,15 +1,12 @@
 -- One register behind another.
-use Rattle.std.proofs.Common.{◌≡◌, ℕ, zero, suc, ◌+◌, ◌<◌, ◌↔◌, Bool, true, IsTrue, nat_lt, List, [], ◌∷◌, length, drop, Option, Some, None, Result, Ok, Err, refl, sym, ap, subst, ◌∙◌, arith, inl, inr}
+use Rattle.std.proofs.Common.{◌≡◌, ℕ, zero, suc, ◌+◌, ◌<◌, ◌↔◌, Bool, IsTrue, nat_lt, List, [], ◌∷◌, length, drop, Option, Some, None, Result, Ok, Err, refl, sym, ap, subst, ◌∙◌, arith, inl, inr}
 use Rattle.std.specs.Prelude.{slice_get, option_map, map, IfOk}
 use Rattle.std.proofs.lemmas.Bool.Decides.{nat_tests}
-use Rattle.std.proofs.lemmas.Option.{get_or_from_slice_get}
 use Rattle.std.specs.declared.alloc.AllocError.{AllocError}
 use Rattle.cad_wire.specs.declared.entry.Key.{Key}
 use Rattle.cad_wire.proofs.FieldLaws.{some_is}
 use Rattle.cad_accounts.specs.declared.row.Row.{Row}
-use Rattle.cad_accounts.specs.Registers.{at, are_rising}
 use Rattle.cad_accounts.specs.InOrder.{IsHead, Steps, Follow, InOrder}
-use Rattle.cad_accounts.proofs.Places.{found}
 use Rattle.cad_accounts.proofs.Spelled.{same_number, fronts_same}
 
 abbrev pub pair_of : Row → List ℕ × List ℕ
@@ -41,43 +38,23 @@ nothing [] (suc i) e = refl
 nothing (r ∷ rows) zero e = absurd cc
 nothing (r ∷ rows) (suc i) e = nothing rows i e
 
-within_some : (rows : List Row) (i : ℕ) (row : Row) → slice_get rows i ≡ Some row → i < length rows
-within_some [] i row e = absurd cc
-within_some (r ∷ rows) zero row e = omega arith
-within_some (r ∷ rows) (suc i) row e = omega (arith, within_some rows i row e)
-
-pub row_there : (rows : List Row) (i : ℕ) (row : Row) → are_rising rows ≡ true → slice_get rows i ≡ Some row → at rows row.key.0 ≡ Some row.value
-row_there rows i row rises e =
-    found rows i row row.key.0 rises (record { within = within_some rows i row e; key_is = λ d. ap (λ (r : Row). r.key.0) (get_or_from_slice_get rows i row d e) })
-    ∙ ap (λ (r : Row). Some r.value) (get_or_from_slice_get rows i row row e)
-
--- the key at a place, and its row
-pub record HasKey (rows : List Row) (i : ℕ) (key : Key) : Type 0 where
-  pub row : Row
-  pub is : slice_get rows i ≡ Some row
-  pub key_is : key ≡ row.key
-
 abbrev some_key : Key → Option Key
 some_key key = Some key
 
-pub has_key : (rows : List Row) (i : ℕ) (key : Key) → some_key key ≡ slice_get (map (λ (row : Row). row.key) rows) i → HasKey rows i key
-has_key [] i key e = absurd cc
-has_key (r ∷ rows) zero key e = record { row = r; is = refl; key_is = cc }
-has_key (r ∷ rows) (suc i) key e = let h = has_key rows i key e in record { row = h.row; is = h.is; key_is = h.key_is }
+-- a key and bytes at one place are those of its row
+pub read : (rows : List Row) (i : ℕ) (key : Key) (name bytes : List ℕ) → some_key key ≡ slice_get (map (λ (row : Row). row.key) rows) i → Some bytes ≡ slice_get (map (λ (row : Row). row.value) rows) i → name ≡ key.0 → some_pair name bytes ≡ option_map {U = List ℕ × List ℕ} pair_of (slice_get rows i)
+read [] i key name bytes k b n = absurd cc
+read (r ∷ rows) zero key name bytes k b n =
+    let key_is : key ≡ r.key = cc in
+    let bytes_are : bytes ≡ r.value = cc in
+    let name_is : name ≡ r.key.0 = n ∙ ap (λ (x : Key). x.0) key_is in
+    λ j. some_pair (name_is j) (bytes_are j)
+read (r ∷ rows) (suc i) key name bytes k b n = read rows i key name bytes k b n
 
-pub not_missing : (rows : List Row) (i : ℕ) (key : Key) → are_rising rows ≡ true → some_key key ≡ slice_get (map (λ (row : Row). row.key) rows) i → None ≡ at rows key.0 → ⊥
-not_missing rows i key rises e none =
-    let h = has_key rows i key e in
-    let wrong : None ≡ Some h.row.value = none ∙ ap (λ (k : Key). at rows k.0) h.key_is ∙ row_there rows i h.row rises h.is in
-    cc
-
-pub read : (rows : List Row) (i : ℕ) (key : Key) (name bytes : List ℕ) → are_rising rows ≡ true → some_key key ≡ slice_get (map (λ (row : Row). row.key) rows) i → Some bytes ≡ at rows key.0 → name ≡ key.0 → some_pair name bytes ≡ option_map {U = List ℕ × List ℕ} pair_of (slice_get rows i)
-read rows i key name bytes rises e b n =
-    let h = has_key rows i key e in
-    let value : Some bytes ≡ Some h.row.value = b ∙ ap (λ (k : Key). at rows k.0) h.key_is ∙ row_there rows i h.row rises h.is in
-    let bytes_are : bytes ≡ h.row.value = cc in
-    let name_is : name ≡ h.row.key.0 = n ∙ ap (λ (k : Key). k.0) h.key_is in
-    (λ j. some_pair (name_is j) (bytes_are j)) ∙ ap (option_map {U = List ℕ × List ℕ} pair_of) (sym h.is)
+pub not_missing : (rows : List Row) (i : ℕ) (key : Key) → some_key key ≡ slice_get (map (λ (row : Row). row.key) rows) i → None ≡ slice_get (map (λ (row : Row). row.value) rows) i → ⊥
+not_missing [] i key k none = absurd cc
+not_missing (r ∷ rows) zero key k none = absurd cc
+not_missing (r ∷ rows) (suc i) key k none = not_missing rows i key k none
 
 -- ---- steps
 

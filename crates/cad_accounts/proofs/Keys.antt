@@ -6,7 +6,7 @@ use Rattle.std.specs.Cmp.Lexicographic.{slice_cmp, bytes_decides, lists_ties}
 use Rattle.std.specs.Cmp.{unsigned_ties}
 use Rattle.std.proofs.lemmas.Cmp.{nat_list_cmp_total, tied_itself}
 use Rattle.cad_accounts.specs.Registers.{same_key}
-use Rattle.cad_accounts.specs.Rows.{before}
+use Rattle.cad_accounts.specs.Places.{before}
 
 pub same_is : (a b : List ℕ) → same_key a b ≡ true → a ≡ b
 same_is a b e = (bytes_decides a b).0 e
@@ -23,6 +23,9 @@ is_false false h = refl
 
 pub not_same : (a b : List ℕ) → (a ≡ b → ⊥) → same_key a b ≡ false
 not_same a b h = is_false (same_key a b) (λ e. h (same_is a b e))
+
+pub not_same_back : (a b : List ℕ) → same_key a b ≡ false → same_key b a ≡ false
+not_same_back a b e = not_same b a (λ s. let wrong : true ≡ false = sym (is_same a b (sym s)) ∙ e in cc)
 
 pub is_less : (o : Ordering) → is_lt o ≡ true → o ≡ Less
 is_less Less e = refl

@@ -1,6 +1,6 @@
 pub mod Maps
 pub mod EntryPlaces
-pub mod KeyLaws
+pub mod LateEntries
 pub mod States
 pub mod OneSize
 pub mod Creating
@@ -8,6 +8,7 @@ pub mod Storing
 pub mod Access
 pub mod Changes
 pub mod Keys
+pub mod Order
 pub mod RowLaws
 pub mod Places
 pub mod Existing

@@ -1,28 +1,12 @@
 -- Changes of maps.
 use Rattle.std.proofs.Common.{◌≡◌, ℕ, Bool, true, false, cond, List, [], ◌∷◌, Option, refl, sym, ap, subst, ◌∙◌}
 use Rattle.std.specs.List.{AllByRecursion}
-use Rattle.std.specs.Cmp.Lexicographic.{bytes_decides}
 use Rattle.cad_wire.specs.declared.entry.Entry.{Entry}
 use Rattle.cad_accounts.specs.Registers.{Map, same_key, changed, applied}
-
-pub same_key-self : (key : List ℕ) → same_key key key ≡ true
-same_key-self key = (bytes_decides key key).1 refl
-
-pub keys_same : (j k : List ℕ) → same_key j k ≡ true → j ≡ k
-keys_same j k e = (bytes_decides j k).0 e
-
-false_unless : (b : Bool) → (b ≡ true → ⊥) → b ≡ false
-false_unless true n = absurd (n refl)
-false_unless false n = refl
-
-pub keys_differ : (j k : List ℕ) → (j ≡ k → ⊥) → same_key j k ≡ false
-keys_differ j k n = false_unless (same_key j k) (λ e. n (keys_same j k e))
-
-pub same_key-comm : (j k : List ℕ) → same_key j k ≡ false → same_key k j ≡ false
-same_key-comm j k e = keys_differ k j (λ h. let t : same_key j k ≡ true = subst (λ (x : List ℕ). same_key j x ≡ true) (sym h) (same_key-self j) in cc)
+use Rattle.cad_accounts.proofs.Keys.{same_is, itself, not_same_back}
 
 pub changed_there : (key : List ℕ) (v : Option (List ℕ)) (m : Map) → changed key v m key ≡ v
-changed_there key v m = rw (same_key-self key) refl
+changed_there key v m = rw (itself key) refl
 
 pub changed_else : (key : List ℕ) (v : Option (List ℕ)) (m : Map) (k : List ℕ) → same_key k key ≡ false → changed key v m k ≡ m k
 changed_else key v m k e = rw e refl
@@ -40,14 +24,14 @@ swapped true false x y z apart = refl
 swapped true true x y z apart = let h : true ≡ false = apart refl in absurd cc
 
 pub changed_swap : (j k : List ℕ) (v u : Option (List ℕ)) (m : Map) → same_key j k ≡ false → changed j v (changed k u m) ≡ changed k u (changed j v m)
-changed_swap j k v u m apart = λ i x. swapped (same_key x j) (same_key x k) v u (m x) (λ e. subst (λ (y : List ℕ). same_key y k ≡ false) (sym (keys_same x j e)) apart) i
+changed_swap j k v u m apart = λ i x. swapped (same_key x j) (same_key x k) v u (m x) (λ e. subst (λ (y : List ℕ). same_key y k ≡ false) (sym (same_is x j e)) apart) i
 
 kept : {A : Type 0} (b : Bool) (x y : A) → (b ≡ true → y ≡ x) → cond b x y ≡ y
 kept true x y h = sym (h refl)
 kept false x y h = refl
 
 pub changed_kept : (key : List ℕ) (v : Option (List ℕ)) (m : Map) → m key ≡ v → changed key v m ≡ m
-changed_kept key v m e = λ i k. kept (same_key k key) v (m k) (λ h. ap m (keys_same k key h) ∙ e) i
+changed_kept key v m e = λ i k. kept (same_key k key) v (m k) (λ h. ap m (same_is k key h) ∙ e) i
 
 -- none of the entries has this key
 abbrev pub Free : List ℕ → List Entry → Type 0
@@ -55,7 +39,7 @@ Free key = AllByRecursion (λ e. same_key key e.key.0 ≡ false)
 
 pub applied_after : (key : List ℕ) (v : Option (List ℕ)) (es : List Entry) (m : Map) → Free key es → applied es (changed key v m) ≡ changed key v (applied es m)
 applied_after key v [] m free = refl
-applied_after key v (e ∷ es) m free = ap (applied es) (changed_swap e.key.0 key e.value v m (same_key-comm key e.key.0 free.0)) ∙ applied_after key v es (changed e.key.0 e.value m) free.1
+applied_after key v (e ∷ es) m free = ap (applied es) (changed_swap e.key.0 key e.value v m (not_same_back key e.key.0 free.0)) ∙ applied_after key v es (changed e.key.0 e.value m) free.1
 
 pub applied_free : (key : List ℕ) (es : List Entry) (m : Map) → Free key es → applied es m key ≡ m key
 applied_free key [] m free = refl

@@ -8,7 +8,7 @@ use Rattle.std.specs.Cmp.Lexicographic.{slice_cmp}
 use Rattle.std.proofs.lemmas.Bool.{cases_Bool, false≢true, false_from_ne_true}
 use Rattle.cad_wire.specs.declared.entry.Entry.{Entry}
 use Rattle.cad_accounts.specs.Registers.{Map, same_key, applied, changed, folded, no_registers}
-use Rattle.cad_accounts.specs.Rows.{before}
+use Rattle.cad_accounts.specs.Places.{before}
 use Rattle.cad_accounts.proofs.Keys.{same_is, not_itself}
 
 pub applied_append : (xs ys : List Entry) (m : Map) → applied (xs ++ ys) m ≡ applied ys (applied xs m)
@@ -20,9 +20,12 @@ folded_push [] entries m = refl
 folded_push (r ∷ records) entries m = folded_push records entries (applied r m)
 
 -- one more record
-pub one_more : (all now entries : List Entry) (records : List (List Entry)) → ((m : Map) → applied all m ≡ folded records m) → now ≡ all ++ entries → (m : Map) → applied now m ≡ folded (records ++ entries ∷ []) m
-one_more all now entries records inv is m =
-    ap (λ (l : List Entry). applied l m) is ∙ applied_append all entries m ∙ ap (applied entries) (inv m) ∙ sym (folded_push records entries m)
+pub one_more : (was now entries : List Entry) (records : List (List Entry)) (m : Map) → applied was m ≡ folded records m → applied now m ≡ applied entries (applied was m) → applied now m ≡ folded (records ++ entries ∷ []) m
+one_more was now entries records m inv is = is ∙ ap (applied entries) inv ∙ sym (folded_push records entries m)
+
+-- one more entry of a record
+pub one_taken : (was now entries : List Entry) (e : Entry) (first m : Map) → applied was m ≡ applied entries first → applied now m ≡ changed e.key.0 e.value (applied was m) → applied now m ≡ applied (entries ++ e ∷ []) first
+one_taken was now entries e first m inv is = is ∙ ap (changed e.key.0 e.value) inv ∙ sym (applied_append entries (e ∷ []) first)
 
 -- one more entry
 pub entry_more : (old new : Map) (entries : List Entry) (entry : Entry) → ((key : List ℕ) → old key ≡ applied entries no_registers key) → ((key : List ℕ) → new key ≡ changed entry.key.0 entry.value old key) → (key : List ℕ) → new key ≡ applied (entries ++ entry ∷ []) no_registers key

@@ -10,7 +10,7 @@ use Rattle.cad_codec.proofs.Decoded.{one}
 use Rattle.cad_wire.specs.Fields.{number_field}
 use Rattle.cad_accounts.specs.Registers.{Map, no_registers}
 use Rattle.cad_accounts.specs.Accounts.{Account, Accounts, no_accounts, AreRegisters, StandsFor, IsSound, IsSoundAccount, IsInt, Has, IsKey, head, controller, stored}
-use Rattle.cad_accounts.proofs.KeyLaws.{same_number, number_front}
+use Rattle.cad_accounts.proofs.Spelled.{same_number, fronts_same}
 
 -- ---- one map
 
@@ -85,7 +85,7 @@ one_count_by : (b c : Bool) (m n i j : ℕ) → (b ≡ true → m ≡ 0) → (c 
 one_count_by true true m n i j f g fits bits e = f refl ∙ sym (g refl)
 one_count_by true false m n i j f g fits bits e = absurd cc
 one_count_by false true m n i j f g fits bits e = absurd cc
-one_count_by false false m n i j f g fits bits e = (number_front m n (number_field i) (number_field j) fits bits (cc)).0
+one_count_by false false m n i j f g fits bits e = same_number m n fits bits (fronts_same m n (number_field i) (number_field j) (cc))
 
 one_count : (m n i j : ℕ) → m < 2 ^ 64 → n < 2 ^ 64 → cond (m == 0) None (Some (number_field m ++ number_field i)) ≡ cond (n == 0) None (Some (number_field n ++ number_field j)) → m ≡ n
 one_count m n i j = one_count_by (m == 0) (n == 0) m n i j (eqb-true m 0) (eqb-true n 0)

@@ -8,8 +8,9 @@ use Rattle.cad_codec.specs.Spelling.{value_bytes}
 use Rattle.cad_wire.specs.Fields.{number_field}
 use Rattle.cad_accounts.specs.Registers.{Map, same_key, changed}
 use Rattle.cad_accounts.specs.Accounts.{Account, Accounts, AreRegisters, StandsFor, IsSound, IsSoundAccount, IsInt, Has, stored, stored_key, stored_bytes, stored_as, storing}
-use Rattle.cad_accounts.proofs.Maps.{same_key-self, keys_same, keys_differ, some_key, other_key, changed_kept}
-use Rattle.cad_accounts.proofs.KeyLaws.{stored_parts}
+use Rattle.cad_accounts.proofs.Maps.{some_key, other_key, changed_kept}
+use Rattle.cad_accounts.proofs.Keys.{itself, same_is, is_same, not_same}
+use Rattle.cad_accounts.proofs.KeyOrder.{same_address, same_identifier}
 use Rattle.cad_accounts.proofs.Creating.{numbers_apart, only_more}
 
 -- a value that may be stored
@@ -37,7 +38,7 @@ module _ (a : ℕ) (i : List ℕ) (v : Option Value) where
     from_one = s.from_one;
     controller = s.controller;
     stored = λ j. elim (cases_Bool (same_key j i)) [
-      | inl e ↦ subst (MayStand j) (sym (some_key (same_key j i) v (x.stored j) e)) (subst (λ (k : List ℕ). MayStand k v) (sym (keys_same j i e)) may)
+      | inl e ↦ subst (MayStand j) (sym (some_key (same_key j i) v (x.stored j) e)) (subst (λ (k : List ℕ). MayStand k v) (sym (same_is j i e)) may)
       | inr e ↦ subst (MayStand j) (sym (other_key (same_key j i) v (x.stored j) e)) (s.stored j)
     ];
   }
@@ -62,11 +63,11 @@ module _ (a : ℕ) (i : List ℕ) (v : Option Value) where
   in_account (Some x) j there =
       elim (same_key j i) as (λ (t : Bool). option_map value_bytes (cond t v (x.stored j)) ≡ cond t (option_map value_bytes v) (option_map value_bytes (x.stored j))) [ true ↦ refl | false ↦ refl ]
 
-  same_identifier : (j : List ℕ) → a < 2 ^ 64 → same_key (stored_key a j) (stored_key a i) ≡ same_key j i
-  same_identifier j fits =
+  by_identifier : (j : List ℕ) → a < 2 ^ 64 → same_key (stored_key a j) (stored_key a i) ≡ same_key j i
+  by_identifier j fits =
       elim (cases_Bool (same_key j i)) [
-        | inl e ↦ subst (λ (k : List ℕ). same_key (stored_key a j) (stored_key a k) ≡ true) (keys_same j i e) (same_key-self (stored_key a j)) ∙ sym e
-        | inr e ↦ keys_differ (stored_key a j) (stored_key a i) (λ h. let k : j ≡ i = (stored_parts a a j i fits fits h).1 in let t : same_key j i ≡ true = subst (λ (x : List ℕ). same_key j x ≡ true) k (same_key-self j) in let c : true ≡ false = sym t ∙ e in absurd cc) ∙ sym e
+        | inl e ↦ subst (λ (k : List ℕ). same_key (stored_key a j) (stored_key a k) ≡ true) (same_is j i e) (itself (stored_key a j)) ∙ sym e
+        | inr e ↦ not_same (stored_key a j) (stored_key a i) (λ h. let t : same_key j i ≡ true = is_same j i (same_identifier a a j i h) in let c : true ≡ false = sym t ∙ e in absurd cc) ∙ sym e
       ]
 
   abbrev in_account_of : List ℕ → Option Account → Option (List ℕ)
@@ -74,14 +75,14 @@ module _ (a : ℕ) (i : List ℕ) (v : Option Value) where
 
   at_address : (m : Map) (w : Accounts) → StandsFor m w → w.account a ≢ None → a < 2 ^ 64 → (j : List ℕ) → changed (stored_key a i) (option_map value_bytes v) m (stored_key a j) ≡ stored_bytes (stored_as a i v w) a j
   at_address m w s there fits j =
-      let here : changed (stored_key a i) (option_map value_bytes v) m (stored_key a j) ≡ cond (same_key j i) (option_map value_bytes v) (m (stored_key a j)) = ap (λ (t : Bool). cond t (option_map value_bytes v) (m (stored_key a j))) (same_identifier j fits) in
+      let here : changed (stored_key a i) (option_map value_bytes v) m (stored_key a j) ≡ cond (same_key j i) (option_map value_bytes v) (m (stored_key a j)) = ap (λ (t : Bool). cond t (option_map value_bytes v) (m (stored_key a j))) (by_identifier j fits) in
       let then : cond (same_key j i) (option_map value_bytes v) (m (stored_key a j)) ≡ cond (same_key j i) (option_map value_bytes v) (stored_bytes w a j) = ap (λ (o : Option (List ℕ)). cond (same_key j i) (option_map value_bytes v) o) (s.are.stored a j fits) in
       let it : in_account_of j (option_map (storing i v) (w.account a)) ≡ stored_bytes (stored_as a i v w) a j = ap (in_account_of j) (sym (some_key (eqb a a) (option_map (storing i v) (w.account a)) (w.account a) (eq-eqb a a refl))) in
       here ∙ then ∙ sym (in_account (w.account a) j there) ∙ it
 
   elsewhere : (m : Map) (w : Accounts) → StandsFor m w → a < 2 ^ 64 → (b : ℕ) → b < 2 ^ 64 → (b ≡ a → ⊥) → (j : List ℕ) → changed (stored_key a i) (option_map value_bytes v) m (stored_key b j) ≡ stored_bytes (stored_as a i v w) b j
   elsewhere m w s fits b bits n j =
-      other_key (same_key (stored_key b j) (stored_key a i)) (option_map value_bytes v) (m (stored_key b j)) (keys_differ (stored_key b j) (stored_key a i) (λ e. n (stored_parts b a j i bits fits e).0)) ∙ s.are.stored b j bits
+      other_key (same_key (stored_key b j) (stored_key a i)) (option_map value_bytes v) (m (stored_key b j)) (not_same (stored_key b j) (stored_key a i) (λ e. n (same_address b a j i bits fits e))) ∙ s.are.stored b j bits
       ∙ ap (in_account_of j) (sym (other_key (eqb b a) (option_map (storing i v) (w.account b)) (w.account b) (numbers_apart b a n)))
 
   stored_registers : (m : Map) (w : Accounts) → StandsFor m w → Has w a → AreRegisters (stored_as a i v w) (changed (stored_key a i) (option_map value_bytes v) m)

@@ -10,11 +10,12 @@ use Rattle.cad_accounts.specs.declared.row.Row.{Row}
 use Rattle.cad_accounts.specs.Registers.{Map, same_key, at, are_rising}
 use Rattle.cad_accounts.specs.Accounts.{Account, Accounts, IsInt, IsSoundAccount, Has, IsKey, StandsFor, head_key, controller_key, stored_key}
 use Rattle.cad_accounts.specs.Accounts.IsKey.{head, controller, stored}
-use Rattle.cad_accounts.specs.Rows.{before, AllBehind}
+use Rattle.cad_accounts.specs.Places.{row_key, before, AllBehind}
 use Rattle.cad_accounts.specs.Worlds.{AreSound}
 use Rattle.cad_accounts.specs.InOrder.{IsController, IsStored, Follow, InOrder}
 use Rattle.cad_accounts.proofs.Keys.{same_is, itself, not_same, not_itself, passes, behind_differs}
-use Rattle.cad_accounts.proofs.RowLaws.{tail_rises, first_before, none_behind}
+use Rattle.cad_accounts.proofs.Order.{tail_rises, first_before}
+use Rattle.cad_accounts.proofs.RowLaws.{none_behind}
 use Rattle.cad_accounts.proofs.KeyOrder.{head_first, controllers_rise, same_controller}
 
 -- ---- options
@@ -61,7 +62,7 @@ tail_none r rows key e =
     ]
 
 own_none : (r : Row) (rows : List Row) → are_rising (r ∷ rows) ≡ true → at rows r.key.0 ≡ None
-own_none r rows rises = none_behind rows r.key.0 (first_before r rows rises)
+own_none r rows rises = none_behind rows r.key.0 (first_before row_key r rows rises)
 
 tail_same : (r : Row) (rows : List Row) (key : List ℕ) → are_rising (r ∷ rows) ≡ true → at rows key ≢ None → at rows key ≡ at (r ∷ rows) key
 tail_same r rows key rises there =
@@ -70,7 +71,7 @@ tail_same r rows key rises there =
       | inr t ↦ sym (later r rows key t)
     ]
 
-behind_in : (rows : List Row) (a key : List ℕ) → AllBehind a rows → at rows key ≢ None → before a key ≡ true
+behind_in : (rows : List Row) (a key : List ℕ) → AllBehind row_key a rows → at rows key ≢ None → before a key ≡ true
 behind_in [] a key h there = absurd (there refl)
 behind_in (r ∷ rows) a key h there =
     elim (cases_Bool (same_key key r.key.0)) [
@@ -82,7 +83,7 @@ least : (r : Row) (rows : List Row) (key : List ℕ) → are_rising (r ∷ rows)
 least r rows key rises there =
     elim (cases_Bool (same_key key r.key.0)) [
       | inl t ↦ inl (same_is key r.key.0 t)
-      | inr t ↦ inr (behind_in rows r.key.0 key (first_before r rows rises) (λ none. there (later r rows key t ∙ none)))
+      | inr t ↦ inr (behind_in rows r.key.0 key (first_before row_key r rows rises) (λ none. there (later r rows key t ∙ none)))
     ]
 
 -- ---- accounts and their registers
@@ -193,7 +194,7 @@ module _ (w : Accounts) (m : Map) (stands : StandsFor m w) where
       let fits : address < 2 ^ 64 = omega (arith, count_fits, has.1) in
       let key_is = is_controller address r rows l has in
       record {
-        rising = tail_rises r rows l.rising;
+        rising = tail_rises row_key r rows l.rising;
         same = λ key there.
             let e = tail_same r rows key l.rising there in
             e ∙ l.same key (λ none. there (e ∙ none));
@@ -235,7 +236,7 @@ module _ (w : Accounts) (m : Map) (stands : StandsFor m w) where
 
   stored_left : (address : ℕ) (r : Row) (rows : List Row) → Left address (r ∷ rows) → w.count < address → Left address rows
   stored_left address r rows l past = record {
-    rising = tail_rises r rows l.rising;
+    rising = tail_rises row_key r rows l.rising;
     same = λ key there.
         let e = tail_same r rows key l.rising there in
         e ∙ l.same key (λ none. there (e ∙ none));
@@ -300,7 +301,7 @@ to_rows (r ∷ rows) rises s =
     let bytes : Some r.value ≡ Some (number_field w.count ++ number_field 1) = sym (first_at r rows) ∙ ap m key_is ∙ head_is_there in
     let no_zero : m (controller_key 0) ≡ None = none_of (m (controller_key 0)) (λ there. let has = controller_has w m s.1 0 (omega arith) there in omega (arith, has.0)) in
     let left : Left w m s.1 1 rows = record {
-      rising = tail_rises r rows rises;
+      rising = tail_rises row_key r rows rises;
       same = λ k there. tail_same r rows k rises there;
       no_head = ap (at rows) (sym key_is) ∙ own_none r rows rises;
       passed = λ b low.

@@ -1,21 +1,56 @@
--- Where an entry is, or belongs, among entries in byte order of their keys.
-use Rattle.std.specs.Prelude.{◌≡◌, ℕ, ◌<◌, ◌≤◌, List, length, Result, MatchResult}
+-- Where a key stands, or belongs, in a list that is in byte order of its keys.
+use Rattle.std.specs.Prelude.{◌≡◌, ◌⊎◌, ℕ, ◌<◌, ◌≤◌, Bool, true, ◌&&◌, List, [], ◌∷◌, length, take, drop, Result, Ok, Err}
 use Rattle.std.specs.List.{HoldsAt}
-use Rattle.std.specs.List.Sorted.{IsPartitionPoint}
-use Rattle.std.specs.Ordering.{nat_cmp}
+use Rattle.std.specs.Ordering.{nat_cmp, is_lt}
 use Rattle.std.specs.Cmp.Lexicographic.{slice_cmp}
-use Rattle.std.specs.declared.cmp.Ordering.TheVariants.{Less, Greater}
 use Rattle.cad_wire.specs.declared.entry.Entry.{Entry}
+use Rattle.cad_accounts.specs.declared.row.Row.{Row}
 
--- the entry there has this key
-pub record HasKey (entries : List Entry) (key : List ℕ) (i : ℕ) : Type 0 where
-  pub below : i < length entries
-  pub is : HoldsAt (λ e. e.key.0 ≡ key) entries i
+abbrev pub row_key : Row → List ℕ
+row_key row = row.key.0
 
--- the keys before this place are less, and those from it on are greater
-pub record Belongs (entries : List Entry) (key : List ℕ) (i : ℕ) : Type 0 where
-  pub within : i ≤ length entries
-  pub parts : IsPartitionPoint (λ e. slice_cmp nat_cmp e.key.0 key ≡ Less) (λ e. slice_cmp nat_cmp e.key.0 key ≡ Greater) entries i
+abbrev pub entry_key : Entry → List ℕ
+entry_key e = e.key.0
 
-abbrev pub IsPlace : List Entry → List ℕ → Result ℕ ℕ → Type 0
-IsPlace entries key place = MatchResult place (HasKey entries key) (Belongs entries key)
+-- the one key stands before the other
+abbrev pub before : List ℕ → List ℕ → Bool
+before a b = is_lt (slice_cmp nat_cmp a b)
+
+-- in byte order of the keys, each key once
+abbrev pub rise : {X : Type 0} → (X → List ℕ) → List X → Bool
+rise name [] = true
+rise name (x ∷ []) = true
+rise name (x ∷ y ∷ xs) = before (name x) (name y) && rise name (y ∷ xs)
+
+-- all keys stand before this one, or behind it
+abbrev pub AllBefore : {X : Type 0} → (X → List ℕ) → List X → List ℕ → Type 0
+AllBefore name [] key = Unit {0}
+AllBefore name (x ∷ xs) key = (before (name x) key ≡ true) × AllBefore name xs key
+
+abbrev pub AllBehind : {X : Type 0} → (X → List ℕ) → List ℕ → List X → Type 0
+AllBehind name key [] = Unit {0}
+AllBehind name key (x ∷ xs) = (before key (name x) ≡ true) × AllBehind name key xs
+
+-- this key stands there
+pub record StandsAt {X : Type 0} (name : X → List ℕ) (key : List ℕ) (xs : List X) (i : ℕ) : Type 0 where
+  pub within : i < length xs
+  pub key_is : HoldsAt (λ x. name x ≡ key) xs i
+
+-- this key isn't there, and belongs there
+pub record BelongsAt {X : Type 0} (name : X → List ℕ) (key : List ℕ) (xs : List X) (i : ℕ) : Type 0 where
+  pub within : i ≤ length xs
+  pub in_front : AllBefore name (take i xs) key
+  pub behind : AllBehind name key (drop i xs)
+
+abbrev pub IsPlace : {X : Type 0} → (X → List ℕ) → List ℕ → List X → Result ℕ ℕ → Type 0
+IsPlace name key xs (Ok i) = StandsAt name key xs i
+IsPlace name key xs (Err i) = BelongsAt name key xs i
+
+-- an entry of the key isn't there, and one of a greater key is, among entries in byte order of their keys
+abbrev pub IsLate : List ℕ → List Entry → Type 0
+IsLate key [] = ⊥
+IsLate key (e ∷ entries) = (before key e.key.0 ≡ true) ⊎ ((before e.key.0 key ≡ true) × IsLate key entries)
+
+abbrev pub AreLate : List Entry → List Entry → Type 0
+AreLate entries [] = Unit {0}
+AreLate entries (e ∷ late) = IsLate e.key.0 entries × AreLate entries late

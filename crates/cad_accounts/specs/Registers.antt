@@ -1,10 +1,10 @@
 -- Registers: bytes by key.
-use Rattle.std.specs.Prelude.{◌≡◌, ◌≢◌, ℕ, ◌+◌, ◌==◌, Bool, true, ◌&&◌, List, [], ◌∷◌, length, map, All, Option, Some, None, if◌then◌else◌}
-use Rattle.std.specs.Cmp.Lexicographic.{pointwise, slice_cmp}
-use Rattle.std.specs.Ordering.{nat_cmp, is_lt}
+use Rattle.std.specs.Prelude.{◌≡◌, ◌≢◌, ℕ, ◌+◌, ◌==◌, Bool, true, List, [], ◌∷◌, length, map, All, Option, Some, None, if◌then◌else◌}
+use Rattle.std.specs.Cmp.Lexicographic.{pointwise}
 use Rattle.cad_wire.specs.declared.entry.Entry.{Entry}
 use Rattle.cad_wire.specs.Body.{are_ascending, body_bytes}
 use Rattle.cad_accounts.specs.declared.row.Row.{Row}
+use Rattle.cad_accounts.specs.Places.{row_key, rise}
 
 -- the bytes of each register that is there
 abbrev pub Map : Type 0
@@ -37,9 +37,7 @@ at (row ∷ rows) key = if same_key key row.key.0 then Some row.value else at ro
 
 -- in byte order of their keys, each key once
 abbrev pub are_rising : List Row → Bool
-are_rising [] = true
-are_rising (r ∷ []) = true
-are_rising (r ∷ s ∷ rows) = is_lt (slice_cmp nat_cmp r.key.0 s.key.0) && are_rising (s ∷ rows)
+are_rising = rise row_key
 
 -- These entries lead from the one map to the other: those that differ, in byte order.
 pub record Leads (old new : Map) (entries : List Entry) : Type 0 where

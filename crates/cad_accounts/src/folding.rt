@@ -4,27 +4,30 @@ ghost use Rattle.cad_accounts.specs.Registers.{Map, at, applied, folded, no_regi
 ghost use Rattle.cad_accounts.specs.Memory.{rows_of};
 
 use crate::registers::MapRegisters;
+use crate::sifting::Sifted;
 use cad_syntax::Items;
 use cad_wire::{Entries, Entry};
 use std::alloc::{AllocError, Global};
 
-// The entries of all records, one record behind another.
-fn in_one(alloc: Global, records: Items<Entries>) -> Result<Vec<Entry>, AllocError>
-    ensures { IfOk result (λ entries. (m : Map) → applied entries.items m ≡ folded records m) }
+// Takes the entries of a record.
+fn take_all(sifted: &mut Sifted, entries: Entries) -> Result<(), AllocError>
+    ensures { OnOk result ((m : Map) → applied sifted.new m ≡ applied entries (applied sifted.old m)) }
 {
-    let mut all = Vec::new(alloc);
-    for record in records.into_vec() {
-        let mut entries = record.into_vec();
-        all.append(&mut entries)?;
+    for entry in entries.into_vec() {
+        sifted.take(entry)?;
     }
-    Ok(all)
+    Ok(())
 }
 
-// Sorts entries by their keys. Those of one key stay in their order.
-fn sort_by_keys(entries: &mut Vec<Entry>) -> Result<(), AllocError>
-    ensures { OnOk result ((m : Map) (key : List ℕ) → applied entries.new.items m key ≡ applied entries.old.items m key) }
+// The entries of all records. Most records add at most one register, and the first one more.
+fn sift(alloc: Global, records: Items<Entries>) -> Result<Sifted, AllocError>
+    ensures { IfOk result (λ sifted. (m : Map) → applied sifted m ≡ folded records m) }
 {
-    entries.sort_by(|a, b| a.key.0.as_slice().cmp(b.key.0.as_slice()))
+    let mut sifted = Sifted::new(alloc, records.len().saturating_add(1))?;
+    for record in records.into_vec() {
+        take_all(&mut sifted, record)?;
+    }
+    Ok(sifted)
 }
 
 // The registers that entries leave, one after another.
@@ -32,19 +35,21 @@ fn apply_all(alloc: Global, entries: Vec<Entry>) -> Result<MapRegisters, AllocEr
     ensures { IfOk result (λ registers. (key : List ℕ) → at (rows_of registers) key ≡ applied entries.items no_registers key) }
 {
     let mut registers = MapRegisters::new(alloc);
+    // Room for all at once, where there is; else each asks for its own.
+    let _ = registers.reserve(entries.len());
     for entry in entries {
         registers.apply(entry)?;
     }
     Ok(registers)
 }
 
-/// The registers that records leave, one after another. Entries are sorted by their keys first, so that each comes behind
-/// the registers that are there: n entries take a time of n log n. AllocError where memory runs out, or where a record holds
-/// what `apply` can't take.
+/// The registers that records leave, one after another. What comes out of the order of keys is sorted first, so that each
+/// register comes behind those that are there: n entries take a time of n log n at most. AllocError where memory runs out, or
+/// where a record holds what `apply` can't take.
 pub fn fold_records(alloc: Global, records: Items<Entries>) -> Result<MapRegisters, AllocError>
     ensures { IfOk result (λ registers. (key : List ℕ) → at (rows_of registers) key ≡ folded records no_registers key) }
 {
-    let mut entries = in_one(alloc, records)?;
-    sort_by_keys(&mut entries)?;
+    let sifted = sift(alloc, records)?;
+    let entries = sifted.into_sorted()?;
     apply_all(alloc, entries)
 }

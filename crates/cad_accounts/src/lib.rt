@@ -6,6 +6,7 @@ mod laws;
 mod overlay;
 mod registers;
 mod row;
+mod sifting;
 mod sound;
 mod spelling;
 mod stops;

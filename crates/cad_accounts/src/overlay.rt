@@ -2,17 +2,38 @@
 ghost use Rattle.std.specs.Prelude.{◌≡◌, ◌+◌, ◌<◌, ◌≤◌, true, MatchOption, vec_len, vec_capacity};
 ghost use Rattle.cad_wire.specs.Body.{are_ascending};
 ghost use Rattle.cad_accounts.specs.Registers.{Map, applied, changed};
-ghost use Rattle.cad_accounts.specs.Places.{IsPlace};
+ghost use Rattle.cad_accounts.specs.Places.{IsPlace, entry_key};
 
 use cad_syntax::Bytes;
 use cad_wire::{Entry, Key};
+use std::cmp::Ordering;
 
-/// Where an entry with a key is, or else where one belongs.
-fn place(entries: &[Entry], key: &[u8]) -> Result<usize, usize>
+// Where an entry with a key is, or else where one belongs, by halving.
+fn search(entries: &[Entry], key: &[u8]) -> Result<usize, usize>
     requires { are_ascending entries.now ≡ true }
-    ensures { IsPlace entries.now key.now result }
+    ensures { IsPlace entry_key key.now entries.now result }
 {
     entries.binary_search_by(|e| e.key.0.as_slice().cmp(key))
+}
+
+/// Where an entry with a key is, or else where one belongs. The last and the first entry are looked at before others.
+pub(crate) fn place(entries: &[Entry], key: &[u8]) -> Result<usize, usize>
+    requires { are_ascending entries.now ≡ true }
+    ensures { IsPlace entry_key key.now entries.now result }
+{
+    let count = entries.len();
+    if count == 0 {
+        return Err(0);
+    }
+    match entries[count - 1].key.0.as_slice().cmp(key) {
+        Ordering::Less => return Err(count),
+        Ordering::Equal => return Ok(count - 1),
+        Ordering::Greater => {}
+    }
+    if entries[0].key.0.as_slice() == key {
+        return Ok(0);
+    }
+    search(entries, key)
 }
 
 /// The entry with a key.

@@ -3,12 +3,14 @@ ghost use Rattle.std.specs.Prelude.{◌≡◌, ◌+◌, ◌<◌, ◌≤◌, ◌^
 ghost use Rattle.cad_wire.specs.Body.{Fits};
 ghost use Rattle.cad_accounts.specs.declared.row.Row.{Row};
 ghost use Rattle.cad_accounts.specs.Registers.{at, are_rising, changed, size_of};
-ghost use Rattle.cad_accounts.specs.Rows.{row_size, are_short, is_short, IsPlace};
+ghost use Rattle.cad_accounts.specs.Rows.{row_size, are_short, is_short};
+ghost use Rattle.cad_accounts.specs.Places.{IsPlace, row_key};
 
 use crate::row::Row;
 use cad_syntax::{Bytes, Items};
 use cad_wire::{Entry, Key};
 use std::alloc::{AllocError, Global};
+use std::cmp::Ordering;
 
 /// A finite map from keys to bytes, with its keys in byte order.
 pub trait Registers {
@@ -25,14 +27,35 @@ pub trait Registers {
     /// The key at a place in byte order, None exactly where there are at most `i` keys.
     fn key_at(&self, i: u64) -> Option<&Key>
         ensures { option_map (λ key. key.now) result ≡ slice_get (map (λ row. row.key) (rows self.entry.now)) i };
+
+    /// The bytes at a place in byte order of the keys, None exactly where there are at most `i` registers.
+    fn value_at(&self, i: u64) -> Option<&[u8]>
+        ensures { option_map (λ bytes. bytes.now) result ≡ slice_get (map (λ row. row.value) (rows self.entry.now)) i };
 }
 
-// The place of a key's row, or where it belongs.
-fn place_of(rows: &[Row], key: &[u8]) -> Result<usize, usize>
+// The place of a key's row, or where it belongs, by halving.
+fn search(rows: &[Row], key: &[u8]) -> Result<usize, usize>
     requires { are_rising rows.now ≡ true }
-    ensures { IsPlace key.now rows.now result }
+    ensures { IsPlace row_key key.now rows.now result }
 {
     rows.binary_search_by(|row| row.key.0.as_slice().cmp(key))
+}
+
+// The place of a key's row, or where it belongs. The last row is looked at before others, since rows are mostly added behind
+// it.
+fn place_of(rows: &[Row], key: &[u8]) -> Result<usize, usize>
+    requires { are_rising rows.now ≡ true }
+    ensures { IsPlace row_key key.now rows.now result }
+{
+    let count = rows.len();
+    if count == 0 {
+        return Err(0);
+    }
+    match rows[count - 1].key.0.as_slice().cmp(key) {
+        Ordering::Less => Err(count),
+        Ordering::Equal => Ok(count - 1),
+        Ordering::Greater => search(rows, key),
+    }
 }
 
 // How many bytes the entry of a row has.
@@ -84,13 +107,18 @@ impl Registers for MapRegisters {
             None => None,
         }
     }
+
+    fn value_at(&self, i: u64) -> Option<&[u8]> {
+        let row = self.rows.as_slice().get(i as usize)?;
+        Some(row.value.as_slice())
+    }
 }
 
 impl MapRegisters {
     ghost use Rattle.std.specs.Prelude.{slice_index_or, slice_set};
     ghost use Rattle.std.specs.List.{insert, remove};
     ghost use Rattle.cad_accounts.specs.Memory.{rows_of, room};
-    ghost use Rattle.cad_accounts.specs.Rows.{BelongsAt, StandsAt};
+    ghost use Rattle.cad_accounts.specs.Places.{BelongsAt, StandsAt};
 
     fn remove_at(&mut self, i: usize)
         requires { i < length (rows_of self.old) }
@@ -102,7 +130,7 @@ impl MapRegisters {
     }
 
     fn replace_at(&mut self, i: usize, row: Row)
-        requires same { StandsAt row.key.0 (rows_of self.old) i }
+        requires same { StandsAt row_key row.key.0 (rows_of self.old) i }
         requires short { is_short row ≡ true }
         ensures rows { rows_of self.new ≡ slice_set (rows_of self.old) i row }
         ensures room { room self.old ≤ room self.new }
@@ -114,7 +142,7 @@ impl MapRegisters {
     }
 
     fn insert_at(&mut self, i: usize, row: Row)
-        requires fitting { BelongsAt row.key.0 (rows_of self.old) i }
+        requires fitting { BelongsAt row_key row.key.0 (rows_of self.old) i }
         requires short { is_short row ≡ true }
         requires room { 1 ≤ room self.old }
         ensures rows { rows_of self.new ≡ insert (rows_of self.old) i row }

@@ -131,7 +131,7 @@ fn row_at<R: Registers>(registers: &R, i: u64) -> Option<(&[u8], &[u8])>
     ensures { option_map {U = List ℕ × List ℕ} (λ p. (p.0.now, p.1.now)) result ≡ option_map {U = List ℕ × List ℕ} (λ row. (row.key.0, row.value)) (slice_get (R.rows registers.now) i) }
 {
     let key = registers.key_at(i)?;
-    let bytes = registers.get(key)?;
+    let bytes = registers.value_at(i)?;
     Some((key.0.as_slice(), bytes))
 }
 

@@ -66,6 +66,9 @@ fn in_byte_order(rt: HostRuntime) -> Result<(), Fail> {
     let second = registers.key_at(1).ok_or("there are two")?;
     assert_eq!(rt; second.0.as_slice(), FIRST.as_slice());
     assert!(rt; registers.key_at(2).is_none());
+    let bytes = registers.value_at(1).ok_or("there are two")?;
+    assert_eq!(rt; bytes, ONE.as_slice());
+    assert!(rt; registers.value_at(2).is_none());
     assert_eq!(rt; registers.as_slice().len(), 2);
     Ok(())
 }

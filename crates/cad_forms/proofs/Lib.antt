@@ -3,5 +3,6 @@ pub mod Parts
 pub mod Scripts
 pub mod Saving
 pub mod Meaning
+pub mod Refusals
 pub mod Uniques
 pub mod Ranges

@@ -3,4 +3,5 @@ pub mod Saves
 pub mod Marks
 pub mod Parts
 pub mod Request
+pub mod Programs
 pub mod Views

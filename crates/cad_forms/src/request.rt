@@ -13,8 +13,8 @@ use cad_syntax::Address;
 use serde_json::Value;
 use std::alloc::{AllocError, Global};
 
-// The text that a field holds.
-fn text_at<'a>(request: &'a Value, field: &str) -> Option<&'a str>
+/// The text that a field holds.
+pub fn text_at<'a>(request: &'a Value, field: &str) -> Option<&'a str>
     ensures { option_map (λ text. text.now) result ≡ text_at field.now (view request.entry.now) }
 {
     match request.get(field) {
@@ -29,8 +29,8 @@ fn lacks(request: &Value, field: &str) -> bool
     request.get(field).is_none()
 }
 
-// Whether a field holds this text.
-fn holds(request: &Value, field: &str, text: &str) -> bool
+/// Whether a field holds this text.
+pub fn holds(request: &Value, field: &str, text: &str) -> bool
     ensures { IsTrue result ↔ (text_at field.now (view request.now) ≡ Some text.now) }
 {
     match text_at(request, field) {

@@ -1,5 +1,5 @@
 -- What parse_program answers.
-use Rattle.std.proofs.Common.{◌≡◌, ℕ, List, [], ◌∷◌, length, Result, Ok, Err, IfOk, refl, sym, ap, ◌∙◌, subst}
+use Rattle.std.proofs.Common.{◌≡◌, ℕ, List, [], ◌∷◌, length, Result, Ok, Err, IfOk, refl, sym, ap, ◌∙◌, subst, arith}
 use Rattle.cad_syntax.specs.declared.token.Token.{Token}
 use Rattle.cad_syntax.specs.Lexes.{Lexes, Stops}
 use Rattle.cad_grammar.specs.declared.phase.Phase.{Phase}
@@ -37,3 +37,7 @@ stopped_lexing text phase m n h e = subst (λ p. Refuses text p n) (phase_same e
 pub stopped_parsing : (tokens : List Token) (phase : Phase) (m n : ℕ) → ((tree : ProgramTree) → Spells tokens tree → ⊥) → EndsAt tokens m
     → ◌≡◌ {A = Result Program ParseStop} (Err (At Parse m)) (Err (At phase n)) → (phase ≡ Parse) × ((tree : ProgramTree) → Spells tokens tree → ⊥) × EndsAt tokens n
 stopped_parsing tokens phase m n none ends e = (sym (phase_same e), none, subst (EndsAt tokens) (place_same e) ends)
+
+pub no_tokens : (tokens : List Token) → length tokens ≡ 0 → tokens ≡ []
+no_tokens [] e = refl
+no_tokens (t ∷ ts) e = absurd (omega (arith, e))

@@ -8,9 +8,11 @@ use Rattle.cad_wire.specs.declared.entry.Entry.{Entry}
 use Rattle.cad_wire.specs.Body.{are_ascending}
 use Rattle.cad_accounts.specs.declared.row.Row.{Row}
 use Rattle.cad_accounts.specs.Registers.{Map, same_key, at, are_rising, changed, applied, size_of}
-use Rattle.cad_accounts.specs.Rows.{row_size, before}
+use Rattle.cad_accounts.specs.Rows.{row_size}
 use Rattle.cad_accounts.proofs.Keys.{same_is, is_same, itself, passes, behind_differs}
-use Rattle.cad_accounts.proofs.RowLaws.{both_left, both_right, tail_rises, first_before, none_behind}
+use Rattle.cad_accounts.specs.Places.{row_key, before}
+use Rattle.cad_accounts.proofs.Order.{both_left, both_right, tail_rises, first_before}
+use Rattle.cad_accounts.proofs.RowLaws.{none_behind}
 use Rattle.cad_accounts.proofs.Places.{size_is}
 use Rattle.cad_store.specs.Sizes.{value_size, added, replaced}
 
@@ -23,7 +25,7 @@ AreDistinct (row ∷ rows) = (at rows row.key.0 ≡ None) × AreDistinct rows
 distinct_of : (rows : List Row) → are_rising rows ≡ true → AreDistinct rows
 unfolding AreDistinct
 distinct_of [] e = tt
-distinct_of (r ∷ rows) e = (none_behind rows r.key.0 (first_before r rows e), distinct_of rows (tail_rises r rows e))
+distinct_of (r ∷ rows) e = (none_behind rows r.key.0 (first_before row_key r rows e), distinct_of rows (tail_rises row_key r rows e))
 
 total : List Row → ℕ
 total rows = sum_by row_size rows

@@ -44,6 +44,10 @@ impl Registers for Store {
     fn key_at(&self, i: u64) -> Option<&Key> {
         self.registers.key_at(i)
     }
+
+    fn value_at(&self, i: u64) -> Option<&[u8]> {
+        self.registers.value_at(i)
+    }
 }
 
 fn built(alloc: Global, changes: &[Entry]) -> Result<Bytes, AllocError>

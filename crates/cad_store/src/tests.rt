@@ -127,6 +127,8 @@ fn reads_registers(rt: HostRuntime) -> Result<(), Fail> {
     );
     assert!(rt; store.key_at(0) == Some(&head));
     assert!(rt; store.key_at(2).is_none());
+    assert!(rt; store.value_at(0) == store.get(&head));
+    assert!(rt; store.value_at(2).is_none());
     Ok(())
 }
 

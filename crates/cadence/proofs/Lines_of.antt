@@ -7,7 +7,9 @@ use Rattle.cad_syntax.specs.declared.num.Num.{Num}
 use Rattle.cad_syntax.specs.Addresses.{hex_digits, address_text}
 use Rattle.cad_num.specs.Numbers.{is_fixed}
 use Rattle.cad_num.specs.Decimal.{written, magnitude_text, eight_digits}
-use Rattle.cadence.specs.Answer.{Answer, result, address, done, failed, bad, answer_line}
+use Rattle.cadence.specs.Answer.{Answer, result, address, done, failed, bad, rejected, rejected_tail, answer_line}
+use Rattle.cad_grammar.specs.declared.phase.Phase.{Phase}
+use Rattle.cad_grammar.specs.declared.phase.Phase.TheVariants.{Lex, Parse}
 use Rattle.cadence.specs.Crashes.{line_feeds}
 use Rattle.cadence.proofs.Feeds.{feeds_append}
 
@@ -75,9 +77,14 @@ wrapped head middle tail h m t =
 alone : (text : List ℕ) → line_feeds text ≡ 0 → line_feeds (text ++ 10 ∷ []) ≡ 1
 alone text h = feeds_append text (10 ∷ []) ∙ omega (arith, h)
 
+tail_none : (phase : Phase) → line_feeds (rejected_tail phase) ≡ 0
+tail_none Lex = refl
+tail_none Parse = refl
+
 pub one_feed : (a : Answer) → line_feeds (answer_line a) ≡ 1
 one_feed (result n) = wrapped (codes "{\"reply\":\"ok\",\"result\":{\"type\":\"Int\",\"value\":\"") (written n) (codes "\"}}") refl (written_none n) refl
 one_feed (address n) = wrapped (codes "{\"address\":\"") (address_text n) (codes "\",\"reply\":\"ok\"}") refl (both_none (codes "0x") (hex_digits 16 n) refl (hex_none 16 n)) refl
 one_feed done = alone (codes "{\"destroyed\":[],\"events\":[],\"made\":[],\"reply\":\"ok\"}") refl
 one_feed (failed n) = wrapped (codes "{\"error\":\"") (decimal n) (codes "\",\"reply\":\"failed\"}") refl (decimal_none n) refl
 one_feed (bad n) = wrapped (codes "{\"error\":\"") (decimal n) (codes "\",\"reply\":\"bad\"}") refl (decimal_none n) refl
+one_feed (rejected phase n) = wrapped (codes "{\"at\":\"") (decimal n) (rejected_tail phase) refl (decimal_none n) (tail_none phase)

@@ -11,7 +11,7 @@ use Rattle.cad_accounts.proofs.Existing.{rows_exist}
 use Rattle.cad_forms.specs.Request.{Request, Asks}
 use Rattle.cad_store.specs.declared.store.Store.{Store}
 use Rattle.cadence.specs.Answer as answer
-use Rattle.cadence.specs.Answer.{Answer, Answers, too_long, no_form, asks, Does, Commits, unchanged, fits, full, most_bytes, bad, answer_line}
+use Rattle.cadence.specs.Answer.{Answer, Answers, too_long, Declines, declined, asks, Does, Commits, unchanged, fits, full, most_bytes, bad, answer_line}
 use Rattle.cadence.specs.Held.{Holds, longest}
 use Rattle.cadence.specs.Outcomes.{Comes, IsReady}
 use Rattle.cadence.specs.Views.{answer_of}
@@ -81,8 +81,11 @@ short_line line pending short h = test_short longest (length pending) (sym h.lon
 pub held_line : (line : Line) (pending : List ℕ) → line.long ≡ false → Holds line pending → line.held.items ≡ pending
 held_line line pending short h = h.held ∙ take_all longest pending (short_line line pending short h)
 
-pub no_request : (w : Accounts) (line : Line) (pending : List ℕ) → line.long ≡ false → ((request : Request) → Asks line.held.items request → ⊥) → Holds line pending → Answers w pending (bad 29) w
-no_request w line pending short lacks h = no_form (short_line line pending short h) (subst (λ l. (request : Request) → Asks l request → ⊥) (held_line line pending short h) lacks)
+pub no_request : (w : Accounts) (line : Line) (pending : List ℕ) (a : Answer) → line.long ≡ false → ((request : Request) → Asks line.held.items request → ⊥)
+    → Declines line.held.items a → Holds line pending → Answers w pending a w
+no_request w line pending a short lacks declines h =
+    declined (short_line line pending short h) (subst (λ l. (request : Request) → Asks l request → ⊥) (held_line line pending short h) lacks)
+    (subst (λ l. Declines l a) (held_line line pending short h) declines)
 
 pub with_request : (w : Accounts) (line : Line) (request : Request) (a : Answer) (v : Accounts) → line.long ≡ false → Asks line.held.items request → (o : answer.Outcome) × Does w request o × Commits w o a v
     → (pending : List ℕ) → Holds line pending → Answers w pending a v

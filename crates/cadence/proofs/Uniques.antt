@@ -13,7 +13,9 @@ use Rattle.cad_accounts.specs.Accounts.{Accounts, HasSize, stored_at, stored_as,
 use Rattle.cad_forms.specs.Sums.{sum_value}
 use Rattle.cad_forms.specs.Saves.{Save, saved_value}
 use Rattle.cad_forms.specs.Request.{Request, Asks}
-use Rattle.cadence.specs.Answer.{Answer, result, failed, error_number, answer_line, Runs, gives, fails, Loads, none, loaded, Outcome, stays, leads, Saves, nothing_there, out_of_range, occupied, saved, Does, runs, spent, made, no_account, saves, Commits, unchanged, fits, full, Answers, too_long, no_form, asks}
+use Rattle.cadence.specs.Answer.{Answer, result, failed, error_number, answer_line, Runs, gives, fails, Loads, none, loaded, Outcome, stays, leads, Saves, nothing_there, out_of_range, occupied, saved, Does, runs, spent, made, no_account, saves, Commits, unchanged, fits, full, rejected, Declines, no_program, no_form, Answers, too_long, declined, asks}
+use Rattle.cad_forms.specs.Programs.{IsRefused}
+use Rattle.cad_grammar.specs.declared.phase.Phase.{Phase}
 
 -- ---- numbers
 
@@ -157,15 +159,23 @@ module _ (one_size : (w : Accounts) (m n : ℕ) → HasSize w m → HasSize w n 
   same_commits w o p a b v u same (full {v = x} {size = m} h large) (fits {size = n} k small) = absurd (sizes_apart u x n m _ (sym same.1) k h small large)
   same_commits w o p a b v u same (full h large) (full k larger) = (refl, refl)
 
-  pub same_answer : ((line : List ℕ) (r s : Request) → Asks line r → Asks line s → r ≡ s) → (w : Accounts) (line : List ℕ) (a b : Answer) (u v : Accounts) → Answers w line a u → Answers w line b v
-      → (answer_line a ≡ answer_line b) × (u ≡ v)
-  same_answer one w line a b u v (too_long h) (too_long k) = (refl, refl)
-  same_answer one w line a b u v (too_long h) (no_form k f) = absurd (apart _ _ k h)
-  same_answer one w line a b u v (too_long h) (asks k f d c) = absurd (apart _ _ k h)
-  same_answer one w line a b u v (no_form h f) (too_long k) = absurd (apart _ _ h k)
-  same_answer one w line a b u v (no_form h f) (no_form k g) = (refl, refl)
-  same_answer one w line a b u v (no_form h f) (asks {request = s} k g d c) = absurd (f s g)
-  same_answer one w line a b u v (asks h f d c) (too_long k) = absurd (apart _ _ h k)
-  same_answer one w line a b u v (asks {request = r} h f d c) (no_form k g) = absurd (g r f)
-  same_answer one w line a b u v (asks {request = r} {outcome = o} h f d c) (asks {request = s} {outcome = p} k g e t) =
-      same_commits w o p a b u v (same_does w s o p (subst (λ x. Does w x o) (one line r s f g) d) e) c t
+  module _ (one_request : (line : List ℕ) (r s : Request) → Asks line r → Asks line s → r ≡ s)
+      (one_refusal : (line : List ℕ) (phase other : Phase) (m n : ℕ) → IsRefused line phase m → IsRefused line other n → (phase ≡ other) × (m ≡ n)) where
+    same_refusal : (line : List ℕ) (a b : Answer) → Declines line a → Declines line b → answer_line a ≡ answer_line b
+    same_refusal line a b (no_program {phase = phase} {n = m} f) (no_program {phase = other} {n = n} g) =
+        let same = one_refusal line phase other m n f g in ap (λ x. answer_line (rejected x m)) same.0 ∙ ap (λ x. answer_line (rejected other x)) same.1
+    same_refusal line a b (no_program {phase = phase} {n = m} f) (no_form g) = absurd (g phase m f)
+    same_refusal line a b (no_form f) (no_program {phase = other} {n = n} g) = absurd (f other n g)
+    same_refusal line a b (no_form f) (no_form g) = refl
+
+    pub same_answer : (w : Accounts) (line : List ℕ) (a b : Answer) (u v : Accounts) → Answers w line a u → Answers w line b v → (answer_line a ≡ answer_line b) × (u ≡ v)
+    same_answer w line a b u v (too_long h) (too_long k) = (refl, refl)
+    same_answer w line a b u v (too_long h) (declined k f d) = absurd (apart _ _ k h)
+    same_answer w line a b u v (too_long h) (asks k f d c) = absurd (apart _ _ k h)
+    same_answer w line a b u v (declined h f d) (too_long k) = absurd (apart _ _ h k)
+    same_answer w line a b u v (declined h f d) (declined k g e) = (same_refusal line a b d e, refl)
+    same_answer w line a b u v (declined h f x) (asks {request = s} k g d c) = absurd (f s g)
+    same_answer w line a b u v (asks h f d c) (too_long k) = absurd (apart _ _ h k)
+    same_answer w line a b u v (asks {request = r} h f d c) (declined k g x) = absurd (g r f)
+    same_answer w line a b u v (asks {request = r} {outcome = o} h f d c) (asks {request = s} {outcome = p} k g e t) =
+        same_commits w o p a b u v (same_does w s o p (subst (λ x. Does w x o) (one_request line r s f g) d) e) c t

@@ -13,6 +13,9 @@ use Rattle.cad_accounts.specs.Accounts.{Accounts, Has, HasSize, created, stored_
 use Rattle.cad_forms.specs.Sums.{sum_value}
 use Rattle.cad_forms.specs.Saves.{Save, saved_value}
 use Rattle.cad_forms.specs.Request.{Request, script, account, save, Asks}
+use Rattle.cad_forms.specs.Programs.{IsRefused}
+use Rattle.cad_grammar.specs.declared.phase.Phase.{Phase}
+use Rattle.cad_grammar.specs.declared.phase.Phase.TheVariants.{Lex, Parse}
 use Rattle.cadence.specs.Held.{longest}
 
 pub data Answer : Type 0 where
@@ -26,6 +29,8 @@ pub data Answer : Type 0 where
   failed : ℕ → Answer
   -- the request is none, by the number of its fault
   bad : ℕ → Answer
+  -- the code is no program: this phase stops at this byte
+  rejected : Phase → ℕ → Answer
 
 -- the number of an error
 abbrev pub error_number : NumError → ℕ
@@ -76,12 +81,22 @@ pub data Commits (w : Accounts) : Outcome → Answer → Accounts → Type 0 whe
   fits : {a : Answer} {v : Accounts} {size : ℕ} → HasSize v size → size ≤ most_bytes → Commits w (leads a v) a v
   full : {a : Answer} {v : Accounts} {size : ℕ} → HasSize v size → most_bytes < size → Commits w (leads a v) (failed 130) w
 
+-- what is answered to a line that asks for nothing that runs
+pub data Declines (line : List ℕ) : Answer → Type 0 where
+  no_program : {phase : Phase} {n : ℕ} → IsRefused line phase n → Declines line (rejected phase n)
+  no_form : ((phase : Phase) (n : ℕ) → IsRefused line phase n → ⊥) → Declines line (bad 29)
+
 -- what is answered to a command, and the accounts then
 pub data Answers (w : Accounts) (line : List ℕ) : Answer → Accounts → Type 0 where
   too_long : longest < length line → Answers w line (bad 27) w
-  no_form : length line ≤ longest → ((request : Request) → Asks line request → ⊥) → Answers w line (bad 29) w
+  declined : {a : Answer} → length line ≤ longest → ((request : Request) → Asks line request → ⊥) → Declines line a → Answers w line a w
   asks : {request : Request} {outcome : Outcome} {a : Answer} {v : Accounts} → length line ≤ longest → Asks line request
       → Does w request outcome → Commits w outcome a v → Answers w line a v
+
+-- the end of the line of a rejection
+abbrev pub rejected_tail : Phase → List ℕ
+rejected_tail Lex = codes "\",\"in\":\"\",\"phase\":\"lex\",\"reply\":\"rejected\"}"
+rejected_tail Parse = codes "\",\"in\":\"\",\"phase\":\"parse\",\"reply\":\"rejected\"}"
 
 -- the answer's line
 abbrev pub answer_line : Answer → List ℕ
@@ -90,3 +105,4 @@ answer_line (address n) = codes "{\"address\":\"" ++ address_text n ++ codes "\"
 answer_line done = codes "{\"destroyed\":[],\"events\":[],\"made\":[],\"reply\":\"ok\"}" ++ 10 ∷ []
 answer_line (failed n) = codes "{\"error\":\"" ++ decimal n ++ codes "\",\"reply\":\"failed\"}" ++ 10 ∷ []
 answer_line (bad n) = codes "{\"error\":\"" ++ decimal n ++ codes "\",\"reply\":\"bad\"}" ++ 10 ∷ []
+answer_line (rejected phase n) = codes "{\"at\":\"" ++ decimal n ++ rejected_tail phase ++ 10 ∷ []

@@ -1,7 +1,7 @@
 -- What values of the program stand for.
 use Rattle.std.specs.Prelude.{◌≡◌}
 use Rattle.cad_syntax.specs.declared.kind.Kind.TheVariants.{Int}
-use Rattle.cadence.specs.Answer.{Answer, result, address, done, failed, bad}
+use Rattle.cadence.specs.Answer.{Answer, result, address, done, failed, bad, rejected}
 use Rattle.cadence.specs.declared.reply.Reply.{Reply}
 use Rattle.cadence.specs.declared.reply.Reply.TheVariants as reply
 
@@ -11,6 +11,7 @@ answer_of (reply.Account a) = address a.0
 answer_of reply.Done = done
 answer_of (reply.Failed n) = failed n
 answer_of (reply.Bad n) = bad n
+answer_of (reply.Rejected phase n) = rejected phase n
 
 -- a result is an Int
 abbrev pub HasInt : Reply → Type 0
@@ -19,3 +20,4 @@ HasInt (reply.Account a) = Unit {0}
 HasInt reply.Done = Unit {0}
 HasInt (reply.Failed n) = Unit {0}
 HasInt (reply.Bad n) = Unit {0}
+HasInt (reply.Rejected phase n) = Unit {0}

@@ -7,7 +7,7 @@ ghost use Rattle.cad_accounts.specs.Worlds.{AreSound};
 ghost use Rattle.cad_store.specs.Stores.{held, room_of, IsOn};
 ghost use Rattle.cadence.specs.Held.{Holds};
 ghost use Rattle.cad_forms.specs.Request.{Request};
-ghost use Rattle.cadence.specs.Answer.{Answers, Does, Commits, most_bytes};
+ghost use Rattle.cadence.specs.Answer.{Answers, Declines, Does, Commits, most_bytes};
 ghost use Rattle.cadence.specs.Answer as answer;
 ghost use Rattle.cadence.specs.Views.{answer_of, HasInt};
 ghost use Rattle.cadence.specs.Outcomes.{IsReady, Comes, ComesInt};
@@ -16,7 +16,7 @@ use crate::line::Line;
 use crate::outcome::{Outcome, outcome_of};
 use crate::reply::{Reply, reply_line};
 use cad_accounts::Changes;
-use cad_forms::asked;
+use cad_forms::{asked, refused};
 use cad_store::{Commit, ReadyStop, Store};
 use cad_syntax::Text;
 use std::alloc::{AllocError, Global};
@@ -81,6 +81,17 @@ fn ready_for(alloc: Global, store: &mut Store, outcome: Outcome) -> Result<Prepa
     }
 }
 
+// The reply to a line that asks for nothing that runs.
+fn refusal(alloc: Global, line: &[u8]) -> Result<Reply, AllocError>
+    ensures answers { IfOk result (λ reply. Declines line.now (answer_of reply)) }
+    ensures int { IfOk result HasInt }
+{
+    match refused(alloc, line)? {
+        Some((phase, at)) => Ok(Reply::Rejected(phase, at)),
+        None => Ok(Reply::Bad(29)),
+    }
+}
+
 /// Makes the answer to a line ready.
 pub fn prepare(alloc: Global, store: &mut Store, line: &Line) -> Result<Prepared, AllocError>
     requires sound { AreSound (held store.old) }
@@ -95,7 +106,8 @@ pub fn prepare(alloc: Global, store: &mut Store, line: &Line) -> Result<Prepared
         return Ok(Prepared::Reply(text));
     }
     let Some(request) = asked(alloc, &line.held)? else {
-        let text = reply_line(alloc, Reply::Bad(29))?;
+        let reply = refusal(alloc, &line.held)?;
+        let text = reply_line(alloc, reply)?;
         return Ok(Prepared::Reply(text));
     };
     let outcome = outcome_of(alloc, store, &request)?;

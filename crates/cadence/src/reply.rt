@@ -1,8 +1,9 @@
 // Replies to commands.
 ghost use Rattle.std.specs.Prelude.{◌≡◌, ◌++◌, ◌∷◌, [], List, ℕ, IfOk, codes, decimal};
-ghost use Rattle.cadence.specs.Answer.{answer_line};
+ghost use Rattle.cadence.specs.Answer.{answer_line, rejected_tail};
 ghost use Rattle.cadence.specs.Views.{answer_of, HasInt};
 
+use cad_grammar::Phase;
 use cad_num::write_decimal;
 use cad_syntax::{Address, Num, Text};
 use std::alloc::{AllocError, Global};
@@ -20,6 +21,8 @@ pub enum Reply {
     Failed(u16),
     /// The request is none, by the number of its fault.
     Bad(u16),
+    /// The code is no program: this phase stops at this byte.
+    Rejected(Phase, usize),
 }
 
 // A text in three parts, and a line feed.
@@ -38,6 +41,15 @@ fn number_line(alloc: Global, number: u16, tail: &str) -> Result<Text, AllocErro
 {
     let number = number.to_string(alloc)?;
     line_of(alloc, "{\"error\":\"", number.as_str(), tail)
+}
+
+fn rejected_tail(phase: Phase) -> &'static str
+    ensures { result.now ≡ rejected_tail phase }
+{
+    match phase {
+        Phase::Lex => "\",\"in\":\"\",\"phase\":\"lex\",\"reply\":\"rejected\"}",
+        Phase::Parse => "\",\"in\":\"\",\"phase\":\"parse\",\"reply\":\"rejected\"}",
+    }
 }
 
 /// The line of a reply, with a line feed at its end.
@@ -70,5 +82,9 @@ pub fn reply_line(alloc: Global, reply: Reply) -> Result<Text, AllocError>
         }
         Reply::Failed(number) => number_line(alloc, number, "\",\"reply\":\"failed\"}"),
         Reply::Bad(number) => number_line(alloc, number, "\",\"reply\":\"bad\"}"),
+        Reply::Rejected(phase, at) => {
+            let at = at.to_string(alloc)?;
+            line_of(alloc, "{\"at\":\"", at.as_str(), rejected_tail(phase))
+        }
     }
 }

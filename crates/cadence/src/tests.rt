@@ -15,6 +15,16 @@ const TOO_LONG: &str = "{\"error\":\"27\",\"reply\":\"bad\"}\n";
 
 const NO_FORM: &str = "{\"error\":\"29\",\"reply\":\"bad\"}\n";
 
+const UNPARSED: &str = "{\"kind\":\"script\",\"code\":\"fun\"}";
+
+const UNLEXED: &str =
+    "{\"kind\":\"transaction\",\"code\":\"transaction { # }\",\"limit\":7}";
+
+const REJECTED: &str =
+    "{\"at\":\"0\",\"in\":\"\",\"phase\":\"parse\",\"reply\":\"rejected\"}
+{\"at\":\"14\",\"in\":\"\",\"phase\":\"lex\",\"reply\":\"rejected\"}
+";
+
 const OVERFLOW: &str = "{\"error\":\"101\",\"reply\":\"failed\"}\n";
 
 fn words_of(alloc: Global, list: &[&str]) -> Result<Items<Text>, AllocError> {
@@ -51,6 +61,10 @@ fn replies_to_lines(rt: HostRuntime) -> Result<(), Fail> {
         (
             format!(in alloc; "hello\n{SUM}")?,
             format!(in alloc; "{NO_FORM}{SEVEN}")?,
+        ),
+        (
+            format!(in alloc; "{UNPARSED}\n{UNLEXED}\n{SUM}")?,
+            format!(in alloc; "{REJECTED}{SEVEN}")?,
         ),
     ];
     for (input, want) in table.iter() {

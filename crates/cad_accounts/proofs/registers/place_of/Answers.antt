@@ -1,11 +1,16 @@
-use Rattle.std.proofs.Common.{rules}
-use Rattle.std.specs.Ordering.{nat_cmp}
-use Rattle.std.specs.Cmp.Lexicographic.{slice_cmp}
-use Rattle.std.proofs.lemmas.Fn.{always_returns_same}
-use Rattle.cad_accounts.proofs.Places.{placed}
+use Rattle.std.proofs.Common.{◌≡◌, ◌-◌, suc, length, arith}
+use Rattle.std.proofs.lemmas.Bool.Decides.{nat_tests}
+use Rattle.cad_accounts.specs.Places.{row_key}
+use Rattle.cad_accounts.proofs.Order.{behind_last, stands_at}
 use Rattle.cad_accounts.proofs.registers.place_of.Goals as goal
 
-pub returns : goal.returns
-returns c =
-    let answers = c.binary_search_by.ensures.position (λ row. slice_cmp nat_cmp row.key.0 c.args.key.now) (always_returns_same _ _ _ (λ a r f' k. search rules)) in
-    placed c.args.key.now c.args.rows.now c.binary_search_by.result c.requires c.binary_search_by.ensures.bound answers
+pub returns-in-Less : goal.returns-in-Less
+returns-in-Less c =
+    let rows = c.args.rows.now in
+    let last : suc (length rows - 1) ≡ length rows = grind (arith, nat_tests) in
+    behind_last row_key rows c.args.key.now c.as_slice.result.now (length rows - 1) c.index-rows-count.result c.cmp.result c.requires last c.as_slice.ensures c.cmp.ensures c.in-Less.is
+
+pub returns-in-Equal : goal.returns-in-Equal
+returns-in-Equal c =
+    let rows = c.args.rows.now in
+    stands_at row_key rows c.args.key.now c.as_slice.result.now (length rows - 1) c.index-rows-count.result c.cmp.result (grind (arith, nat_tests)) c.as_slice.ensures c.cmp.ensures c.in-Equal.is

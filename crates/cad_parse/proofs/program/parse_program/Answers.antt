@@ -1,7 +1,5 @@
-use Rattle.std.proofs.Common.{subst, sym}
+use Rattle.std.proofs.Common.{Err, ap, subst, sym}
 use Rattle.cad_syntax.specs.Lexes.{Lexes, Stops}
-use Rattle.cad_grammar.specs.declared.phase.Phase.TheVariants.{Lex}
-use Rattle.cad_parse.specs.Program.{Refuses}
 use Rattle.cad_parse.proofs.Programs.{never_refused}
 use Rattle.cad_parse.proofs.Answering.{parsed, accepted, stopped, stopped_lexing}
 use Rattle.cad_parse.proofs.Whole.{declaration_laws}
@@ -20,4 +18,5 @@ pub returns-in-Ok-clause-stops : goal.returns-in-Ok-clause-stops
 returns-in-Ok-clause-stops c = λ phase n e. stopped c.args.bytes.now c.as_slice.result.now (subst (Lexes c.args.bytes.now) (sym c.as_slice.ensures) c.in-Ok.ensures.found) phase n (c.tokens_program.ensures.stops phase n e)
 
 pub returns-in-Err-At-clause-stops : goal.returns-in-Err-At-clause-stops
-returns-in-Err-At-clause-stops c = λ phase n e. stopped_lexing c.args.bytes.now phase _ n (let w = c.in-Err-At.ensures.place in let v = c.in-Err-At.at-is in let u = c.in-Err-At.is in ?) e
+returns-in-Err-At-clause-stops c = λ phase n e.
+    stopped_lexing c.args.bytes.now phase _ n (subst (Stops c.args.bytes.now) (sym c.in-Err-At.at-is) (c.in-Err-At.ensures.place c.in-Err-At.at (ap Err c.in-Err-At.field-0-is))) e

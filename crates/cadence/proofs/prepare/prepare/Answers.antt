@@ -2,7 +2,8 @@ use Rattle.std.proofs.Common.{subst}
 use Rattle.cad_store.specs.Stores.{held}
 use Rattle.cad_forms.specs.Request.{Request, Asks}
 use Rattle.cad_forms.specs.Views.{request_of}
-use Rattle.cadence.specs.Answer.{bad}
+use Rattle.cadence.specs.Answer.{bad, Declines}
+use Rattle.cadence.specs.Views.{answer_of}
 use Rattle.cadence.proofs.Readies.{long_line, no_request, ready_request}
 use Rattle.cadence.proofs.prepare.prepare.Goals as goal
 
@@ -11,9 +12,12 @@ returns-then-line-clause-ready c = λ w is_w. (bad 27, w, λ pending h. long_lin
 
 pub returns-in_default-clause-ready : goal.returns-in_default-clause-ready
 returns-in_default-clause-ready c = λ w is_w. (
-  bad 29,
+  answer_of c.in_ok-reply.reply,
   w,
-  λ pending h. no_request w c.args.line.now pending c.if-line.false (subst (λ l. (request : Request) → Asks l request → ⊥) c.deref.ensures.value (rw c.in_default.is at c.in_ok-request.ensures)) h,
+  λ pending h.
+      no_request w c.args.line.now pending (answer_of c.in_ok-reply.reply) c.if-line.false
+      (subst (λ l. (request : Request) → Asks l request → ⊥) c.deref.ensures.value (rw c.in_default.is at c.in_ok-request.ensures))
+      (subst (λ l. Declines l (answer_of c.in_ok-reply.reply)) c.deref-in_default.ensures.value c.in_ok-reply.ensures.answers) h,
   c.in_ok-text-2.ensures,
   is_w,
 )

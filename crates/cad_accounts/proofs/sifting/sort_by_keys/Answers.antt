@@ -7,7 +7,7 @@ use Rattle.std.proofs.lemmas.List.MinMax.{ranks_by}
 use Rattle.std.proofs.lemmas.List.Sorted.{answers_always}
 use Rattle.cad_wire.specs.declared.entry.Entry.{Entry}
 use Rattle.cad_accounts.proofs.OneByOne.{by_key, sorted_same}
-use Rattle.cad_accounts.proofs.folding.sort_by_keys.Goals as goal
+use Rattle.cad_accounts.proofs.sifting.sort_by_keys.Goals as goal
 
 whenever : {A E P : Type 0} (r : Result A E) → P → OnOk r P
 whenever (Ok x) p = p
