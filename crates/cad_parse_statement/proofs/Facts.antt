@@ -1,5 +1,5 @@
 -- What holds of all statements that are spelled: they take tokens, give their nestings back, and begin with a token of their own.
-use Rattle.std.proofs.Common.{◌≡◌, ℕ, ◌<◌, ◌≤◌, Bool, true, false, not, ◌||◌, ◌&&◌, List, [], ◌∷◌, length, Option, Some, None, refl, sym, ap, ◌∙◌, ◌⊎◌, inl, inr, subst, arith}
+use Rattle.std.proofs.Common.{◌≡◌, ◌<◌, ◌≤◌, Bool, true, false, not, ◌||◌, List, [], ◌∷◌, length, Option, Some, None, refl, sym, ap, ◌∙◌, ◌⊎◌, inl, inr, subst, arith}
 use Rattle.cad_syntax.specs.declared.token.Sign.{Sign}
 use Rattle.cad_syntax.specs.declared.token.Sign.TheVariants as s
 use Rattle.cad_syntax.specs.declared.token.Keyword.{Keyword}
@@ -17,7 +17,7 @@ use Rattle.cad_grammar.specs.StatementGrammar.{MaybeAnnotated, Tested, Seconded,
 use Rattle.cad_grammar.specs.StatementGrammar as g
 use Rattle.cad_grammar.specs.Lists as lists
 use Rattle.cad_parse_type.proofs.TypeLaws.{TypeLaws}
-use Rattle.cad_parse_type.proofs.Heads.{some_same, head_of, head, head_strength, read_head, keyword_head, after_strength, after_shorter, after_left, keyword_shorter, keyword_left, name_shorter, name_left, read_shorter, read_left, opened_is, opening_shorter, opening_left}
+use Rattle.cad_parse_type.proofs.Heads.{some_same, head_of, head, head_strength, read_head, keyword_head, after_strength, after_shorter, after_left, keyword_shorter, keyword_left, name_shorter, name_left, read_shorter, read_left, opened_is, opening_shorter}
 use Rattle.cad_parse_expr.proofs.ExpressionLaws.{ExpressionLaws}
 use Rattle.cad_parse_statement.specs.Reading.{NamedValue}
 use Rattle.cad_parse_statement.proofs.PartLaws.{Valued, valued}

@@ -1,26 +1,21 @@
 -- The parts of statements: what is read is spelled, and what is spelled is read.
-use Rattle.std.proofs.Common.{◌≡◌, ℕ, ◌<◌, ◌≤◌, List, length, Option, Some, None, refl, sym, ap, ◌∙◌, arith}
+use Rattle.std.proofs.Common.{◌≡◌, Option, Some}
 use Rattle.cad_syntax.specs.declared.token.Sign.TheVariants as s
 use Rattle.cad_syntax.specs.declared.token.Keyword.TheVariants as k
-use Rattle.cad_syntax.specs.declared.token.TokenKind.{TokenKind}
-use Rattle.cad_syntax.specs.declared.token.TokenKind.TheVariants as kind
 use Rattle.cad_syntax.specs.declared.text.Name.{Name}
 use Rattle.cad_grammar.specs.declared.statement.VariableKind.{VariableKind}
 use Rattle.cad_grammar.specs.declared.statement.Transfer.{Transfer}
 use Rattle.cad_grammar.specs.Trees.{Annotation, ExprTree, TestTree, SecondTree, StmtTree}
 use Rattle.cad_grammar.specs.Trees as tree
-use Rattle.cad_grammar.specs.Spots.{Spot, then, either, after, keyword, name}
-use Rattle.cad_grammar.specs.Levels.{token_strength}
+use Rattle.cad_grammar.specs.Spots.{Spot, after, keyword, name}
 use Rattle.cad_grammar.specs.TypeGrammar.{Annotated}
 use Rattle.cad_grammar.specs.ExpressionGrammar.{Expression}
 use Rattle.cad_grammar.specs.StatementGrammar.{MaybeAnnotated, Tested, Seconded, Loops, ReadsStmt, variable_word, variable_kind_of, transfer, transfer_of}
 use Rattle.cad_grammar.specs.StatementGrammar as g
-use Rattle.cad_grammar.specs.Lists as lists
-use Rattle.cad_parse_type.specs.Reading.{Found, Reader, maybe, annotation}
+use Rattle.cad_parse_type.specs.Reading.{annotation}
 use Rattle.cad_parse_type.proofs.TypeLaws.{TypeLaws}
-use Rattle.cad_parse_type.proofs.Heads.{none_of, other, after_shorter, after_left, after_head, keyword_shorter, keyword_left, name_shorter, name_left, read_shorter, read_left}
-use Rattle.cad_parse_type.proofs.Climbs.{then_is, either_is, either_not, IfFound, then_found, either_found, found_is}
-use Rattle.cad_parse_type.proofs.ListLaws.{IsSound, maybe_sound, maybe_exact, maybe_left, maybe_short}
+use Rattle.cad_parse_type.proofs.Climbs.{IfFound, then_found, either_found, found_is}
+use Rattle.cad_parse_type.proofs.ListLaws.{maybe_sound}
 use Rattle.cad_parse_expr.specs.Reading.{expression}
 use Rattle.cad_parse_expr.proofs.ExpressionLaws.{ExpressionLaws}
 use Rattle.cad_parse_statement.specs.Reading.{NamedValue}

@@ -1,14 +1,14 @@
 -- What is read is spelled so.
-use Rattle.std.proofs.Common.{◌≡◌, ℕ, zero, suc, Bool, true, false, if◌then◌else◌, List, [], ◌∷◌, ◌++◌, length, Option, Some, None, refl, sym, ◌∙◌, subst, append-nil, append_assoc}
+use Rattle.std.proofs.Common.{◌≡◌, ℕ, zero, suc, Bool, true, false, if◌then◌else◌, List, [], ◌∷◌, ◌++◌, length, Option, Some, refl, sym, ◌∙◌, subst, append-nil, append_assoc}
 use Rattle.cad_syntax.specs.declared.token.Sign.TheVariants as s
 use Rattle.cad_syntax.specs.declared.token.Keyword.TheVariants as k
 use Rattle.cad_grammar.specs.declared.statement.VariableKind.{VariableKind}
-use Rattle.cad_grammar.specs.Trees.{ExprTree, StmtTree, OtherwiseTree, CaseTree, Default}
-use Rattle.cad_grammar.specs.Spots.{Spot, then, either, after, keyword, opened, opening}
+use Rattle.cad_grammar.specs.Trees.{StmtTree, OtherwiseTree, CaseTree, Default}
+use Rattle.cad_grammar.specs.Spots.{Spot, after, keyword, opened, opening}
 use Rattle.cad_grammar.specs.ExpressionGrammar.{Expression}
 use Rattle.cad_grammar.specs.StatementGrammar.{ReadsStmt, ReadsIf, ReadsOtherwise, ReadsCases, ReadsDefault, Block, Statements, variable_word, transfer, begins_plainly, ends, parted, value_follows}
 use Rattle.cad_grammar.specs.StatementGrammar as g
-use Rattle.cad_parse_type.specs.Reading.{Found, Reader}
+use Rattle.cad_parse_type.specs.Reading.{Reader}
 use Rattle.cad_parse_type.proofs.TypeLaws.{TypeLaws}
 use Rattle.cad_parse_type.proofs.Climbs.{IfFound, then_found, either_found, found_is, found_weaker}
 use Rattle.cad_parse_expr.specs.Reading.{expression}

@@ -1,5 +1,5 @@
 -- What is read is spelled, and what is spelled is read.
-use Rattle.std.proofs.Common.{◌≡◌, ℕ, ◌<◌, ◌≤◌, List, length, Some, None}
+use Rattle.std.proofs.Common.{◌≡◌, ◌<◌, ◌≤◌, List, length, Some}
 use Rattle.cad_grammar.specs.Trees.{StmtTree}
 use Rattle.cad_grammar.specs.Spots.{Spot}
 use Rattle.cad_grammar.specs.StatementGrammar.{Block, Statements}

@@ -1,5 +1,5 @@
 -- Reading statements as a function of the spot.
-use Rattle.std.specs.Prelude.{◌≡◌, ℕ, zero, suc, Bool, true, false, if◌then◌else◌, List, [], ◌∷◌, ◌++◌, length, Option, Some, None}
+use Rattle.std.specs.Prelude.{ℕ, zero, suc, if◌then◌else◌, List, [], ◌∷◌, ◌++◌, length, Option, Some, None}
 use Rattle.cad_syntax.specs.declared.token.Sign.TheVariants as s
 use Rattle.cad_syntax.specs.declared.token.Keyword.TheVariants as k
 use Rattle.cad_syntax.specs.declared.text.Name.{Name}
@@ -7,9 +7,9 @@ use Rattle.cad_grammar.specs.declared.statement.VariableKind.{VariableKind}
 use Rattle.cad_grammar.specs.declared.statement.Transfer.{Transfer}
 use Rattle.cad_grammar.specs.Trees.{Annotation, ExprTree, TestTree, SecondTree, StmtTree, OtherwiseTree, CaseTree, stmts_of, cases_of, Default}
 use Rattle.cad_grammar.specs.Trees as tree
-use Rattle.cad_grammar.specs.Spots.{Spot, back, then, ◌>>=◌, either, only_if, after, keyword, name, opened, opening}
+use Rattle.cad_grammar.specs.Spots.{Spot, back, ◌>>=◌, either, after, keyword, name, opened, opening}
 use Rattle.cad_grammar.specs.StatementGrammar.{variable_word, transfer, begins_plainly, ends, parted, value_follows}
-use Rattle.cad_parse_type.specs.Reading.{Found, Reader, maybe, annotation}
+use Rattle.cad_parse_type.specs.Reading.{Reader, maybe, annotation}
 use Rattle.cad_parse_expr.specs.Reading.{expression}
 
 -- ":" TypeAnnotation, or nothing

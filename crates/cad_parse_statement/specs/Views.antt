@@ -2,7 +2,6 @@
 use Rattle.std.specs.Prelude.{List, map, Option, option_map}
 use Rattle.std.specs.declared.vec.Vec.{Vec}
 use Rattle.std.specs.declared.alloc.Global.{Global}
-use Rattle.cad_syntax.specs.declared.text.Name.{Name}
 use Rattle.cad_grammar.specs.Trees.{StmtTree, SecondTree, CaseTree, OtherwiseTree, Default}
 use Rattle.cad_grammar.specs.Views.{stmt_of, case_of, otherwise_of, second_of, expr_of, annotation_of, default_of}
 use Rattle.cad_grammar.specs.declared.expression.Expr.{Expr}
