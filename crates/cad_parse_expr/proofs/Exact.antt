@@ -117,9 +117,13 @@ loosened depth level.Coalesce p x st d =
       inr (omega (arith, after_shorter s.Coalesce x.1 w.0 w.2, ap length (opened_is w.0 w.1 w.3).1, reads_shorter w.4)),
       λ lt. let never : ⊥ = omega (arith, (after_is s.Coalesce x.1 w.0 (λ z. cc) w.2).1) in absurd never,
     ))
-loosened depth level.Prefix p x st d =
-    (x, either_not (unary_word p) _ _ (none_of (unary_word p) (λ y e. omega (arith, unary_start p y e)))
-    ∙ either_not (after s.Ampersand p) _ _ (none_of (after s.Ampersand p) (λ q e. omega (arith, after_start s.Ampersand p q e))) ∙ d, inl refl, λ lt. refl)
+loosened depth level.Prefix p x st d = (
+  x,
+  either_not (unary_word p) _ _ (none_of (unary_word p) (λ y e. omega (arith, unary_start p y e)))
+      ∙ either_not (after s.Ampersand p) _ _ (none_of (after s.Ampersand p) (λ q e. omega (arith, after_start s.Ampersand p q e))) ∙ d,
+  inl refl,
+  λ lt. refl,
+)
 loosened depth level.Primary p x st d = (x, d, inl refl, λ lt. refl)
 loosened depth level.Or p x st d = chain_on depth level.Or p x tt (at_climb depth level.Or p x tt d)
 loosened depth level.And p x st d = chain_on depth level.And p x tt (at_climb depth level.And p x tt d)

@@ -28,10 +28,7 @@ pub struct Cursor<'a> {
 #[derive(Debug, Drop)]
 pub enum ParseStop {
     /// The phase that refuses the tokens, and the place in their text.
-    At {
-        phase: Phase,
-        at: usize,
-    },
+    At { phase: Phase, at: usize },
     Memory,
 }
 
@@ -85,11 +82,7 @@ fn before_tokens(left: u32, tokens: &[Token]) -> Spot<'_>
 
 /// The expression that the longest prefix of the tokens from the cursor spells within as many nestings as are left at `depth`
 /// open ones; the cursor then stands behind it. Where no prefix spells one, it stays.
-pub fn parse_expr(
-    alloc: Global,
-    cursor: &mut Cursor<'_>,
-    depth: u32,
-) -> Result<Expr, ParseStop>
+pub fn parse_expr(alloc: Global, cursor: &mut Cursor<'_>, depth: u32) -> Result<Expr, ParseStop>
     requires depth { depth ≤ MAX_NESTING }
     requires within { cursor.old.at ≤ length cursor.old.tokens.now }
     ensures tokens { cursor.new.tokens.now ≡ cursor.old.tokens.now }
@@ -117,11 +110,7 @@ pub fn parse_expr(
 
 /// The type that the longest prefix of the tokens from the cursor spells within as many nestings as are left at `depth` open
 /// ones; the cursor then stands behind it. Where no prefix spells one, it stays.
-pub fn parse_type(
-    alloc: Global,
-    cursor: &mut Cursor<'_>,
-    depth: u32,
-) -> Result<TypeExpr, ParseStop>
+pub fn parse_type(alloc: Global, cursor: &mut Cursor<'_>, depth: u32) -> Result<TypeExpr, ParseStop>
     requires depth { depth ≤ MAX_NESTING }
     requires within { cursor.old.at ≤ length cursor.old.tokens.now }
     ensures tokens { cursor.new.tokens.now ≡ cursor.old.tokens.now }
@@ -134,15 +123,16 @@ pub fn parse_type(
     ensures stays { OnErr result (cursor.new ≡ cursor.old) }
 {
     let tokens = tokens_from(cursor.tokens, cursor.at);
-    let spot = before_tokens(MAX_NESTING - depth, tokens);
+    let left = MAX_NESTING - depth;
+    let spot = before_tokens(left, tokens);
     match type_at(alloc, TypePosition::Anywhere, spot)? {
         None => Err(ParseStop::At {
             phase: Phase::Parse,
             at: place_of(cursor.tokens, tokens),
         }),
-        Some((found, rest)) => {
+        Some((written, rest)) => {
             cursor.at = cursor.tokens.len() - rest.tokens.len();
-            Ok(found)
+            Ok(written)
         }
     }
 }

@@ -10,7 +10,7 @@ use Rattle.cad_parse_expr.proofs.cursor.parse_type.Goals as goal
 use Rattle.cad_parse_expr.proofs.cursor.parse_type.Goals.{In-Some, In-None}
 
 -- what was read, of the tokens from the cursor
-read_some : (c : In-Some) → type_at position.Anywhere (before (128 - c.args.depth) (drop c.args.cursor.now.at c.args.cursor.now.tokens.now)) ≡ Some (type_of c.in-Some.found, seen c.in-Some.rest)
+read_some : (c : In-Some) → type_at position.Anywhere (before (128 - c.args.depth) (drop c.args.cursor.now.at c.args.cursor.now.tokens.now)) ≡ Some (type_of c.in-Some.written, seen c.in-Some.rest)
 read_some c =
     ap (λ ts. type_at position.Anywhere (before (128 - c.args.depth) ts)) (sym c.tokens_from-tokens.ensures) ∙ ap (type_at position.Anywhere) (sym c.before_tokens-spot.ensures) ∙ sym c.in_ok-type_at.ensures
     ∙ ap (option_map (seen_with type_of)) c.in-Some.is
@@ -44,4 +44,4 @@ pub returns-in-Some-clause-longest : goal.returns-in-Some-clause-longest
 unfolding seen
 returns-in-Some-clause-longest c = λ a rest w.
     let d = (goal.at.returns-in-Some-clause-longest c).In-Some in
-    subst (λ us. ((a ≡ type_of c.in-Some.found) × (rest ≡ us)) ⊎ (length us < length rest)) (place d) (whole.type_longest (128 - c.args.depth) _ _ (read_some d) a rest w)
+    subst (λ us. ((a ≡ type_of c.in-Some.written) × (rest ≡ us)) ⊎ (length us < length rest)) (place d) (whole.type_longest (128 - c.args.depth) _ _ (read_some d) a rest w)
