@@ -1,13 +1,21 @@
+pub mod AccessLaws
 pub mod Answering
 pub mod Chains
 pub mod CompositeLaws
+pub mod ConditionLaws
 pub mod ContractLaws
 pub mod Declared
 pub mod EnumLaws
 pub mod Firsts
+pub mod Found
+pub mod FunctionLaws
+pub mod ImportLaws
 pub mod MemberLaws
+pub mod MemberReads
+pub mod Members
+pub mod ParameterLaws
 pub mod Programs
 pub mod RepeatedLaws
 pub mod TransactionLaws
-mod Turns
 pub mod Whole
+mod Turns
