@@ -59,6 +59,10 @@ class Tries:
         return done
 
 
+def rejected(phase, at):
+    return b'{"at":"%d","in":"","phase":"%s","reply":"rejected"}\n' % (at, phase.encode())
+
+
 def is_command(line):
     return line.strip(b" \t\r") != b""
 
@@ -131,7 +135,7 @@ def deep_lines(tries):
     for open_ in (b"[", b'{"a":', b"[[],"):
         tries.run("JSON that isn't closed", open_ * (1_000_000 // len(open_)) + b"\n" + SCRIPT, "done", bad(29) + result(7))
     deep = b"(" * 100_000 + b"1" + b")" * 100_000
-    tries.run("a deep sum", SCRIPT.replace(b"1 +", deep + b" +"), "done", bad(29))
+    tries.run("a deep sum", SCRIPT.replace(b"1 +", deep + b" +"), "done", rejected("parse", 0))
 
 
 def odd_lines(tries):
@@ -139,7 +143,6 @@ def odd_lines(tries):
         "a NUL byte": b"\0",
         "a NUL byte in the text": SCRIPT.replace(b"1 +", b"1\0 +"),
         "a NUL behind the object": ACCOUNT[:-1] + b"\0",
-        "a NUL character in the code": SCRIPT.replace(b"1 +", b"1\\u0000 +"),
         "bytes that aren't UTF-8": SCRIPT.replace(b"script", b"scr\xffipt"),
         "half a character's code": SCRIPT.replace(b"1 +", b"\\ud800 +"),
         "a mark of the byte order": b"\xef\xbb\xbf" + ACCOUNT[:-1],
@@ -149,6 +152,7 @@ def odd_lines(tries):
         "another kind": SCRIPT.replace(b"script", b"scripts"),
     }.items():
         tries.run(name, line.rstrip(b"\n") + b"\n" + SCRIPT, "done", bad(29) + result(7))
+    tries.run("a NUL character in the code", SCRIPT.replace(b"1 +", b"1\\u0000 +"), "done", rejected("lex", 38))
     tries.run("no account", SAVE, "done", bad(26))
     tries.run("the last of equal fields", ACCOUNT.replace(b"{", b'{"kind":"script",'), "done", FIRST)
 
