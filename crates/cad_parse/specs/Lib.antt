@@ -1,1 +1,4 @@
+pub mod Reading
+pub mod Views
 pub mod Program
+pub mod Reading

@@ -1,6 +1,13 @@
 //! Reading of declarations and programs.
 #![tactic(auto)]
 
+mod access;
+mod composite;
+mod contract;
+mod declaration;
+mod function;
+mod member;
 mod program;
+mod transaction;
 
-pub use program::{ParseStop, parse_program};
+pub use program::{ParseStop, one_program, one_refusal, parse_program};

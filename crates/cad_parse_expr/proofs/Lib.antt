@@ -1,1 +1,8 @@
 pub mod ExpressionLaws
+mod Sound
+mod Strength
+mod Facts
+mod Steps
+mod Exact
+pub mod Whole
+mod Place

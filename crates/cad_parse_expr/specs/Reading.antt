@@ -8,7 +8,7 @@ use Rattle.cad_grammar.specs.declared.level.Level.TheVariants as level
 use Rattle.cad_grammar.specs.declared.level.TypePosition.TheVariants as position
 use Rattle.cad_grammar.specs.declared.expression.BinaryOperator.TheVariants as op
 use Rattle.cad_grammar.specs.declared.expression.UnaryOperator.{UnaryOperator}
-use Rattle.cad_grammar.specs.Trees.{Annotation, ExprTree, ArgumentTree, EntryTree, exprs_of, arguments_of, entries_of}
+use Rattle.cad_grammar.specs.Trees.{TypeTree, Annotation, ExprTree, ArgumentTree, EntryTree, exprs_of, arguments_of, entries_of}
 use Rattle.cad_grammar.specs.Trees as tree
 use Rattle.cad_grammar.specs.Spots.{Spot, back, named, then, ◌>>=◌, either, only_if, after, joined, keyword, name, opened, opening, resumed}
 use Rattle.cad_grammar.specs.Levels.{tighter, operator, cast_word, unary_word, dot, literal, domain_name, question, questions, token_strength}
@@ -38,6 +38,13 @@ cast_tail p = do
   r ← opened x.1
   t ← annotation_at position.BehindAs r >>= over
   Some (cast_to x.0 t.0, t.1)
+
+-- `as` and a type
+unfoldable pub as_type : Reader TypeTree
+as_type p = do
+  q ← keyword k.As p
+  r ← opened q
+  type_at position.BehindAs r >>= over
 
 -- behind `.` or `?.`
 unfoldable pub member_tail : Bool → Reader Tail
@@ -179,9 +186,7 @@ module _ (read : Level → Reader ExprTree) where
   borrowed p = do
     r ← opened p
     a ← read level.Prefix r
-    q ← keyword k.As a.1
-    u ← opened q
-    t ← type_at position.BehindAs u >>= over
+    t ← as_type a.1
     Some (tree.borrow a.0 t.0, t.1)
 
   unfoldable pub prefix : Reader ExprTree → Reader ExprTree

@@ -1,6 +1,11 @@
 //! Reading of expressions.
 #![tactic(auto)]
 
+mod cursor;
+mod leaf;
 mod reader;
+mod tail;
+mod word;
 
-pub use reader::expression;
+pub use cursor::{Cursor, MAX_NESTING, ParseStop, one_tree, parse_expr, parse_type};
+pub use reader::{expression, expression_at};

@@ -1,1 +1,7 @@
 pub mod StatementLaws
+mod PartLaws
+pub mod Facts
+mod Sound
+mod Steps
+mod Exact
+pub mod Whole

@@ -16,17 +16,28 @@ use Rattle.cad_parse_expr.specs.Reading.{expression}
 unfoldable pub maybe_annotated : Reader (Option Annotation)
 maybe_annotated = maybe (after s.Colon) annotation
 
+-- Name [ ":" TypeAnnotation ] Transfer Expression
+pub record NamedValue : Type 0 where
+  pub name : Name
+  pub annotation : Option Annotation
+  pub transfer : Transfer
+  pub value : ExprTree
+
 -- behind `let` or `var`
-unfoldable pub binding : VariableKind → Reader TestTree
-binding kind p = do
+unfoldable pub named_value : Reader NamedValue
+named_value p = do
   n ← name p
   a ← maybe_annotated n.1
   t ← transfer a.1
   e ← expression t.1
-  Some (tree.binding kind n.0 a.0 t.0 e.0, e.1)
+  Some (record { name = n.0; annotation = a.0; transfer = t.0; value = e.0 }, e.1)
+
+abbrev pub binding : VariableKind → NamedValue → TestTree
+binding kind b = tree.binding kind b.name b.annotation b.transfer b.value
 
 unfoldable pub tested : Reader TestTree
-tested p = either (variable_word p) (λ x. binding x.0 x.1) (expression p >>= (λ e. Some (tree.expression_test e.0, e.1)))
+tested p = either (variable_word p) (λ x. named_value x.1 >>= (λ b. Some (binding x.0 b.0, b.1)))
+    (expression p >>= (λ e. Some (tree.expression_test e.0, e.1)))
 
 -- a second transfer, or nothing
 unfoldable pub seconded : Reader (Option SecondTree)
@@ -35,12 +46,9 @@ seconded p = either (transfer p) (λ t. expression t.1 >>= (λ e. Some (Some (re
 -- behind `let` or `var`
 unfoldable pub variable : VariableKind → Reader StmtTree
 variable kind p = do
-  n ← name p
-  a ← maybe_annotated n.1
-  t ← transfer a.1
-  e ← expression t.1
-  x ← seconded e.1
-  Some (tree.variable kind n.0 a.0 t.0 e.0 x.0, x.1)
+  b ← named_value p
+  x ← seconded b.1
+  Some (tree.variable kind b.0.name b.0.annotation b.0.transfer b.0.value x.0, x.1)
 
 -- the names of a `for`, up to the `in`
 unfoldable pub loops : Reader (Option Name × Name)
@@ -69,9 +77,17 @@ plain p = if begins_plainly p then (do
       (either (after s.Swap a.1) (λ q. expression q >>= (λ b. Some (tree.swap a.0 b.0, b.1)))
       (Some (tree.expression a.0, a.1)))) else None
 
+-- a statement in which no statements stand, and that doesn't begin with `let` or `var`
+unfoldable pub unnested : Reader StmtTree
+unnested p = either (keyword k.Break p) (λ q. Some (tree.break_loop, q))
+    (either (keyword k.Continue p) (λ q. Some (tree.continue_loop, q))
+    (either (keyword k.Return p) returned
+    (either (keyword k.Emit p) emitted
+    (plain p))))
+
 -- statements up to where they end
 unfoldable pub statements : Reader StmtTree → ℕ → List StmtTree → Reader (List StmtTree)
-statements item zero found p = if ends p then Some (found, p) else None
+statements item zero found p = None
 statements item (suc turns) found p = if ends p then Some (found, p) else (do
   x ← item p
   q ← parted x.1
@@ -106,13 +122,19 @@ module _ (read : Sort → Reader StmtTree) where
   unfoldable pub otherwise : Reader OtherwiseTree
   otherwise p = either (keyword k.Else p) alternative (Some (tree.nothing, p))
 
+  -- the block behind a test, and what is done otherwise
+  unfoldable pub branches : Reader (List StmtTree × OtherwiseTree)
+  branches p = do
+    b ← block p
+    o ← otherwise b.1
+    Some ((b.0, o.0), o.1)
+
   -- behind `if`
   unfoldable pub conditional : Reader StmtTree
   conditional p = do
     t ← tested p
-    b ← block t.1
-    o ← otherwise b.1
-    Some (tree.if_else t.0 (stmts_of b.0) o.0, o.1)
+    b ← branches t.1
+    Some (tree.if_else t.0 (stmts_of b.0.0) b.0.1, b.1)
 
   unfoldable pub whole_if : Reader StmtTree
   whole_if p = keyword k.If p >>= conditional
@@ -141,10 +163,13 @@ module _ (read : Sort → Reader StmtTree) where
     Some (record { value = e.0; body = b.0 }, b.1)
 
   unfoldable pub cases : ℕ → List CaseTree → Reader (List CaseTree)
-  cases zero found p = Some (found, p)
+  cases zero found p = None
   cases (suc turns) found p = either (keyword k.Case p) (λ q. do
     c ← one_case q
     cases turns (found ++ c.0 ∷ []) c.1) (Some (found, p))
+
+  unfoldable pub all_cases : Reader (List CaseTree)
+  all_cases p = cases (length p.tokens) [] p
 
   unfoldable pub default : Reader Default
   default p = either (keyword k.Default p) (λ q. do
@@ -152,15 +177,21 @@ module _ (read : Sort → Reader StmtTree) where
     b ← body r
     Some (tree.default (stmts_of b.0), b.1)) (Some (tree.no_default, p))
 
+  -- behind the `{` of a `switch`, up to its `}`
+  unfoldable pub sections : Reader (List CaseTree × Default)
+  sections p = do
+    c ← all_cases p
+    d ← default c.1
+    q ← after s.CloseBrace d.1
+    Some ((c.0, d.0), q)
+
   -- behind the `switch` at p
   unfoldable pub switch : Spot → Reader StmtTree
   switch p q = do
     e ← expression q
     r ← opening s.OpenBrace e.1
-    c ← cases (length r.tokens) [] r
-    d ← default c.1
-    u ← after s.CloseBrace d.1
-    Some (tree.switch e.0 (cases_of c.0) d.0, back p u)
+    x ← sections r
+    Some (tree.switch e.0 (cases_of x.0.0) x.0.1, back p x.1)
 
   unfoldable pub statement : Reader StmtTree
   statement p = either (variable_word p) (λ x. variable x.0 x.1)
@@ -168,11 +199,7 @@ module _ (read : Sort → Reader StmtTree) where
       (either (keyword k.While p) while_loop
       (either (keyword k.For p) for_loop
       (either (keyword k.Switch p) (switch p)
-      (either (keyword k.Break p) (λ q. Some (tree.break_loop, q))
-      (either (keyword k.Continue p) (λ q. Some (tree.continue_loop, q))
-      (either (keyword k.Return p) returned
-      (either (keyword k.Emit p) emitted
-      (plain p)))))))))
+      (unnested p)))))
 
 -- the number bounds how deep the reader calls itself
 unfoldable pub read : ℕ → Sort → Reader StmtTree

@@ -1,6 +1,13 @@
 //! Reading of statements.
 #![tactic(auto)]
 
+mod parts;
 mod reader;
+mod simple;
+#[cfg(test)]
+mod tests;
+mod words;
 
+pub use parts::maybe_annotated;
 pub use reader::{block, statements};
+pub use words::{begins_plainly, parted, variable_word};

@@ -1,0 +1,12 @@
+use Rattle.std.proofs.Common.{◌≡◌, [], length, ◌-◌}
+use Rattle.cad_syntax.specs.declared.token.Sign.TheVariants as s
+use Rattle.cad_parse.specs.Reading.{repeated}
+use Rattle.cad_parse.specs.Reading as spec
+use Rattle.cad_parse.specs.Views.{items_in}
+use Rattle.cad_parse_type.specs.Views.{seen}
+use Rattle.cad_parse.proofs.composite.mapping_entries.Given as goal
+
+abbrev pub invariant-loop-turn : goal.invariant-loop-turn
+invariant-loop-turn l =
+    repeated spec.mapping_entry s.CloseBrace (length l.spot.tokens.now) [] (seen l.spot)
+    ≡ repeated spec.mapping_entry s.CloseBrace (l._turn-end - l._turn) (items_in l.found) (seen l.here)

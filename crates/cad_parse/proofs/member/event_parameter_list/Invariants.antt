@@ -1,0 +1,12 @@
+use Rattle.std.proofs.Common.{◌≡◌, [], length, ◌-◌}
+use Rattle.cad_syntax.specs.declared.token.Sign.TheVariants as s
+use Rattle.cad_parse_type.specs.Reading.{listed}
+use Rattle.cad_parse.specs.Reading as spec
+use Rattle.cad_parse.specs.Views.{event_parameters_in}
+use Rattle.cad_parse_type.specs.Views.{seen}
+use Rattle.cad_parse.proofs.member.event_parameter_list.Given as goal
+
+abbrev pub invariant-loop-turn : goal.invariant-loop-turn
+invariant-loop-turn l =
+    listed (spec.event_parameter l.has_default) s.CloseParenthesis (length l.spot.tokens.now) [] (seen l.spot)
+    ≡ listed (spec.event_parameter l.has_default) s.CloseParenthesis (l._turn-end - l._turn) (event_parameters_in l.found) (seen l.here)

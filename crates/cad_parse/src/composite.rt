@@ -1,0 +1,315 @@
+// Composites, interfaces, enums, entitlements and mappings, each behind its access and its first words.
+ghost use Rattle.std.specs.Prelude.{◌≡◌, [], length, IfOk, option_map};
+ghost use Rattle.cad_syntax.specs.declared.token.Sign.TheVariants as s;
+ghost use Rattle.cad_grammar.specs.Spots.{read};
+ghost use Rattle.cad_grammar.specs.ProgramGrammar as grammar;
+ghost use Rattle.cad_grammar.specs.Views.{composite_of, interface_of, enum_of, mapping_of};
+ghost use Rattle.cad_parse.specs.Reading as spec;
+ghost use Rattle.cad_parse.specs.Views.{same, items_in};
+ghost use Rattle.cad_parse_type.specs.Views.{seen, seen_with, seen_name};
+
+use crate::access::accessed;
+use crate::function::labelled;
+use crate::member::{composite_members, interface_members};
+use cad_grammar::{
+    Access, Composite, CompositeKind, Dotted, Entitlement, Enum, EnumCase, Interface, Mapping,
+    MappingItem,
+};
+use cad_parse_type::{Spot, dotted, dotted_list};
+use cad_syntax::{Items, Keyword, Name, Sign, TokenKind};
+use std::alloc::{AllocError, Global};
+
+fn composite_kind_of(kind: &TokenKind) -> Option<CompositeKind>
+    ensures { result ≡ grammar.composite_kind_of kind.now }
+{
+    match kind {
+        TokenKind::Keyword(Keyword::Struct) => Some(CompositeKind::Struct),
+        TokenKind::Keyword(Keyword::Resource) => Some(CompositeKind::Resource),
+        _ => None,
+    }
+}
+
+/// The `struct` or `resource` that comes next, and the spot behind it.
+#[tactic(auto, unfolding(cad_grammar::specs::Spots::read, cad_parse_type::specs::Views::seen))]
+pub fn composite_word(spot: Spot<'_>) -> Option<(CompositeKind, Spot<'_>)>
+    ensures { option_map (seen_with same) result ≡ read grammar.composite_kind_of (seen spot.entry) }
+{
+    match spot.tokens {
+        [first, rest @ ..] => Some((composite_kind_of(&first.kind)?, spot.behind(rest))),
+        [] => None,
+    }
+}
+
+#[tactic(auto, unfolding(crate::specs::Reading::conforms))]
+fn conforms(
+    alloc: Global,
+    spot: Spot<'_>,
+) -> Result<Option<(Items<Dotted>, Spot<'_>)>, AllocError>
+    ensures { IfOk result (λ o. option_map (seen_with same) o ≡ spec.conforms (seen spot.entry)) }
+{
+    let Some((all, end)) = dotted_list(alloc, Sign::OpenBrace, spot)? else {
+        return Ok(None);
+    };
+    let Some(inner) = end.opened() else {
+        return Ok(None);
+    };
+    Ok(Some((all, inner)))
+}
+
+#[tactic(auto, unfolding(crate::specs::Reading::conforming))]
+fn conforming(
+    alloc: Global,
+    spot: Spot<'_>,
+) -> Result<Option<(Items<Dotted>, Spot<'_>)>, AllocError>
+    ensures { IfOk result (λ o. option_map (seen_with same) o ≡ spec.conforming (seen spot.entry)) }
+{
+    if let Some(behind) = spot.after(Sign::Colon) {
+        return conforms(alloc, behind);
+    }
+    let Some(inner) = spot.opening(Sign::OpenBrace) else {
+        return Ok(None);
+    };
+    Ok(Some((Items::new(alloc), inner)))
+}
+
+/// The composite that begins behind its `struct` or `resource`, with its access at `from`, and the spot behind its `}`; None where none begins.
+#[tactic(auto, unfolding(crate::specs::Reading::composite, cad_parse_type::specs::Views::seen))]
+pub fn composite<'a>(
+    alloc: Global,
+    from: Spot<'a>,
+    access: Access,
+    kind: CompositeKind,
+    spot: Spot<'a>,
+) -> Result<Option<(Composite, Spot<'a>)>, AllocError>
+    ensures { IfOk result (λ o. option_map (seen_with composite_of) o ≡ spec.composite (seen from.entry) access kind (seen spot.entry)) }
+{
+    let Some((name, spot)) = spot.name() else {
+        return Ok(None);
+    };
+    let Some((conformances, spot)) = conforming(alloc, spot)? else {
+        return Ok(None);
+    };
+    let Some((members, end)) = composite_members(alloc, spot)? else {
+        return Ok(None);
+    };
+    let composite = Composite {
+        access,
+        kind,
+        name: name.clone()?,
+        conformances,
+        members,
+    };
+    Ok(Some((composite, from.back(end))))
+}
+
+/// The interface that begins behind its `interface`, with its access at `from`, and the spot behind its `}`; None where none begins.
+#[tactic(auto, unfolding(crate::specs::Reading::interface, cad_parse_type::specs::Views::seen))]
+pub fn interface<'a>(
+    alloc: Global,
+    from: Spot<'a>,
+    access: Access,
+    kind: CompositeKind,
+    spot: Spot<'a>,
+) -> Result<Option<(Interface, Spot<'a>)>, AllocError>
+    ensures { IfOk result (λ o. option_map (seen_with interface_of) o ≡ spec.interface (seen from.entry) access kind (seen spot.entry)) }
+{
+    let Some((name, spot)) = spot.name() else {
+        return Ok(None);
+    };
+    let Some((conformances, spot)) = conforming(alloc, spot)? else {
+        return Ok(None);
+    };
+    let Some((members, end)) = interface_members(alloc, spot)? else {
+        return Ok(None);
+    };
+    let interface = Interface {
+        access,
+        kind,
+        name: name.clone()?,
+        conformances,
+        members,
+    };
+    Ok(Some((interface, from.back(end))))
+}
+
+#[tactic(auto, unfolding(crate::specs::Reading::enum_case))]
+fn enum_case(alloc: Global, spot: Spot<'_>) -> Result<Option<(EnumCase, Spot<'_>)>, AllocError>
+    ensures { IfOk result (λ o. option_map (seen_with same) o ≡ spec.enum_case (seen spot.entry)) }
+{
+    let Some((access, spot)) = accessed(alloc, spot)? else {
+        return Ok(None);
+    };
+    let Some(spot) = spot.keyword(Keyword::Case) else {
+        return Ok(None);
+    };
+    let Some((name, spot)) = spot.name() else {
+        return Ok(None);
+    };
+    let case = EnumCase {
+        access,
+        name: name.clone()?,
+    };
+    Ok(Some((case, spot)))
+}
+
+#[tactic(auto, unfolding(crate::specs::Reading::repeated))]
+fn enum_cases(
+    alloc: Global,
+    spot: Spot<'_>,
+) -> Result<Option<(Vec<EnumCase>, Spot<'_>)>, AllocError>
+    ensures { IfOk result (λ o. option_map (seen_with items_in) o ≡ spec.repeated spec.enum_case s.CloseBrace (length spot.entry.tokens.now) [] (seen spot.entry)) }
+{
+    let mut found = Vec::new(alloc);
+    let mut here = spot;
+    for _turn in 0..spot.tokens.len() {
+        if let Some(end) = here.after(Sign::CloseBrace) {
+            return Ok(Some((found, end)));
+        }
+        let Some((item, next)) = enum_case(alloc, here)? else {
+            return Ok(None);
+        };
+        found.push(item)?;
+        here = next;
+    }
+    Ok(None)
+}
+
+/// The enum that begins behind its `enum`, with its access at `from`, and the spot behind its `}`; None where none begins.
+#[tactic(auto, unfolding(crate::specs::Reading::enumeration, cad_parse_type::specs::Views::seen))]
+pub fn enumeration<'a>(
+    alloc: Global,
+    from: Spot<'a>,
+    access: Access,
+    spot: Spot<'a>,
+) -> Result<Option<(Enum, Spot<'a>)>, AllocError>
+    ensures { IfOk result (λ o. option_map (seen_with enum_of) o ≡ spec.enumeration (seen from.entry) access (seen spot.entry)) }
+{
+    let Some((name, spot)) = labelled(spot) else {
+        return Ok(None);
+    };
+    let Some((raw, spot)) = dotted(alloc, spot)? else {
+        return Ok(None);
+    };
+    let Some(spot) = spot.opening(Sign::OpenBrace) else {
+        return Ok(None);
+    };
+    let Some((cases, end)) = enum_cases(alloc, spot)? else {
+        return Ok(None);
+    };
+    let enumeration = Enum {
+        access,
+        name: name.clone()?,
+        raw,
+        cases,
+    };
+    Ok(Some((enumeration, from.back(end))))
+}
+
+#[tactic(auto, unfolding(crate::specs::Reading::identity))]
+fn identity(spot: Spot<'_>) -> Option<Spot<'_>>
+    ensures { option_map seen result ≡ spec.identity (seen spot.entry) }
+{
+    spot.word("include")?.word("Identity")
+}
+
+#[tactic(auto, unfolding(crate::specs::Reading::pair))]
+fn pair(alloc: Global, spot: Spot<'_>) -> Result<Option<(MappingItem, Spot<'_>)>, AllocError>
+    ensures { IfOk result (λ o. option_map (seen_with same) o ≡ spec.pair (seen spot.entry)) }
+{
+    let Some((from, spot)) = dotted(alloc, spot)? else {
+        return Ok(None);
+    };
+    let Some(spot) = spot.after(Sign::Arrow) else {
+        return Ok(None);
+    };
+    let Some((to, spot)) = dotted(alloc, spot)? else {
+        return Ok(None);
+    };
+    Ok(Some((MappingItem::Pair(from, to), spot)))
+}
+
+#[tactic(auto, unfolding(crate::specs::Reading::mapping_entry))]
+fn mapping_entry(
+    alloc: Global,
+    spot: Spot<'_>,
+) -> Result<Option<(MappingItem, Spot<'_>)>, AllocError>
+    ensures { IfOk result (λ o. option_map (seen_with same) o ≡ spec.mapping_entry (seen spot.entry)) }
+{
+    match identity(spot) {
+        Some(behind) => Ok(Some((MappingItem::Identity, behind))),
+        None => pair(alloc, spot),
+    }
+}
+
+#[tactic(auto, unfolding(crate::specs::Reading::repeated))]
+fn mapping_entries(
+    alloc: Global,
+    spot: Spot<'_>,
+) -> Result<Option<(Vec<MappingItem>, Spot<'_>)>, AllocError>
+    ensures { IfOk result (λ o. option_map (seen_with items_in) o ≡ spec.repeated spec.mapping_entry s.CloseBrace (length spot.entry.tokens.now) [] (seen spot.entry)) }
+{
+    let mut found = Vec::new(alloc);
+    let mut here = spot;
+    for _turn in 0..spot.tokens.len() {
+        if let Some(end) = here.after(Sign::CloseBrace) {
+            return Ok(Some((found, end)));
+        }
+        let Some((item, next)) = mapping_entry(alloc, here)? else {
+            return Ok(None);
+        };
+        found.push(item)?;
+        here = next;
+    }
+    Ok(None)
+}
+
+/// The name of a mapping whose head comes next behind `entitlement`, and the spot behind its `{`.
+#[tactic(auto, unfolding(cad_grammar::specs::ProgramGrammar::mapping_head))]
+pub fn mapping_head(spot: Spot<'_>) -> Option<(&Name, Spot<'_>)>
+    ensures { option_map (seen_with seen_name) result ≡ grammar.mapping_head (seen spot.entry) }
+{
+    let (name, spot) = spot.word("mapping")?.name()?;
+    let spot = spot.opening(Sign::OpenBrace)?;
+    Some((name, spot))
+}
+
+/// The entitlement mapping that begins behind its head, with its access at `from`, and the spot behind its `}`; None where
+/// none begins.
+#[tactic(auto, unfolding(crate::specs::Reading::mapping, cad_parse_type::specs::Views::seen))]
+pub fn mapping<'a>(
+    alloc: Global,
+    from: Spot<'a>,
+    access: Access,
+    name: &Name,
+    spot: Spot<'a>,
+) -> Result<Option<(Mapping, Spot<'a>)>, AllocError>
+    ensures { IfOk result (λ o. option_map (seen_with mapping_of) o ≡ spec.mapping (seen from.entry) access name.now (seen spot.entry)) }
+{
+    let Some((items, end)) = mapping_entries(alloc, spot)? else {
+        return Ok(None);
+    };
+    let mapping = Mapping {
+        access,
+        name: name.clone()?,
+        items,
+    };
+    Ok(Some((mapping, from.back(end))))
+}
+
+/// The entitlement whose name comes next, and the spot behind it; None where no name does.
+#[tactic(auto, unfolding(crate::specs::Reading::entitlement))]
+pub fn entitlement<'a>(
+    access: Access,
+    spot: Spot<'a>,
+) -> Result<Option<(Entitlement, Spot<'a>)>, AllocError>
+    ensures { IfOk result (λ o. option_map (seen_with same) o ≡ spec.entitlement access (seen spot.entry)) }
+{
+    let Some((name, spot)) = spot.name() else {
+        return Ok(None);
+    };
+    let entitlement = Entitlement {
+        access,
+        name: name.clone()?,
+    };
+    Ok(Some((entitlement, spot)))
+}

@@ -1,0 +1,457 @@
+// Parameters, conditions, blocks, functions and initializers.
+ghost use Rattle.std.specs.Prelude.{◌≡◌, [], length, IfOk, option_map};
+ghost use Rattle.cad_syntax.specs.declared.token.Sign.TheVariants as s;
+ghost use Rattle.cad_grammar.specs.Spots as spots;
+ghost use Rattle.cad_grammar.specs.StatementGrammar as statement;
+ghost use Rattle.cad_grammar.specs.ProgramGrammar as grammar;
+ghost use Rattle.cad_grammar.specs.Views.{parameter_of, condition_of, block_of, function_of, init_of, annotation_of};
+ghost use Rattle.cad_parse.specs.Reading as spec;
+ghost use Rattle.cad_parse.specs.Views.{same, parameters_in, conditions_in, maybe_conditions_in, maybe_block_of, maybe_annotation_of, maybe_expr_of};
+ghost use Rattle.cad_parse_statement.specs.Reading as statements;
+ghost use Rattle.cad_parse_expr.specs.Reading as expressions;
+ghost use Rattle.cad_parse_type.specs.Reading as types;
+ghost use Rattle.cad_parse_type.specs.Views.{seen, seen_with, seen_name};
+
+use cad_grammar::{
+    Access, Condition, Conditions, Expr, Function, FunctionBlock, Init, Parameter, TypeAnnotation,
+};
+use cad_parse_expr::expression;
+use cad_parse_statement::statements;
+use cad_parse_type::{Spot, annotation};
+use cad_syntax::{Keyword, Name, Sign, TokenKind};
+use std::alloc::{AllocError, Global};
+
+/// The name before a `:` that come next, and the spot behind the `:`.
+#[tactic(auto, unfolding(crate::specs::Reading::labelled))]
+pub fn labelled(spot: Spot<'_>) -> Option<(&Name, Spot<'_>)>
+    ensures { option_map (seen_with seen_name) result ≡ spec.labelled (seen spot.entry) }
+{
+    let (name, spot) = spot.name()?;
+    let spot = spot.after(Sign::Colon)?;
+    Some((name, spot))
+}
+
+#[tactic(auto, unfolding(crate::specs::Reading::parameter_behind))]
+fn parameter_behind<'a>(
+    alloc: Global,
+    label: &Name,
+    spot: Spot<'a>,
+) -> Result<Option<(Parameter, Spot<'a>)>, AllocError>
+    ensures { IfOk result (λ o. option_map (seen_with parameter_of) o ≡ spec.parameter_behind label.now (seen spot.entry)) }
+{
+    let Some((name, spot)) = labelled(spot) else {
+        return Ok(None);
+    };
+    let Some((annotation, spot)) = annotation(alloc, spot)? else {
+        return Ok(None);
+    };
+    let parameter = Parameter {
+        label: Some(label.clone()?),
+        name: name.clone()?,
+        annotation,
+    };
+    Ok(Some((parameter, spot)))
+}
+
+/// The parameter that begins at a spot, and the spot behind its type; None where none begins.
+#[tactic(auto, unfolding(crate::specs::Reading::parameter))]
+pub fn parameter(
+    alloc: Global,
+    spot: Spot<'_>,
+) -> Result<Option<(Parameter, Spot<'_>)>, AllocError>
+    ensures { IfOk result (λ o. option_map (seen_with parameter_of) o ≡ spec.parameter (seen spot.entry)) }
+{
+    let Some((name, spot)) = spot.name() else {
+        return Ok(None);
+    };
+    let Some(behind) = spot.after(Sign::Colon) else {
+        return parameter_behind(alloc, name, spot);
+    };
+    let Some((annotation, end)) = annotation(alloc, behind)? else {
+        return Ok(None);
+    };
+    let parameter = Parameter {
+        label: None,
+        name: name.clone()?,
+        annotation,
+    };
+    Ok(Some((parameter, end)))
+}
+
+#[tactic(auto, unfolding(cad_parse_type::specs::Reading::listed))]
+fn parameter_list(
+    alloc: Global,
+    spot: Spot<'_>,
+) -> Result<Option<(Vec<Parameter>, Spot<'_>)>, AllocError>
+    ensures { IfOk result (λ o. option_map (seen_with parameters_in) o ≡ types.listed spec.parameter s.CloseParenthesis (length spot.entry.tokens.now) [] (seen spot.entry)) }
+{
+    let mut found = Vec::new(alloc);
+    let mut here = spot;
+    for _turn in 0..spot.tokens.len() {
+        if let Some(end) = here.after(Sign::CloseParenthesis) {
+            return Ok(Some((found, end)));
+        }
+        let Some((item, behind)) = parameter(alloc, here)? else {
+            return Ok(None);
+        };
+        found.push(item)?;
+        let Some(next) = here.resumed(Sign::Comma, behind) else {
+            let Some(end) = here.resumed(Sign::CloseParenthesis, behind) else {
+                return Ok(None);
+            };
+            return Ok(Some((found, end)));
+        };
+        here = next;
+    }
+    Ok(None)
+}
+
+/// The parameters that begin at a spot with their `(`, and the spot behind their `)`; None where none begin.
+#[tactic(auto, unfolding(crate::specs::Reading::parameters, cad_parse_type::specs::Views::seen))]
+pub fn parameters(
+    alloc: Global,
+    spot: Spot<'_>,
+) -> Result<Option<(Vec<Parameter>, Spot<'_>)>, AllocError>
+    ensures { IfOk result (λ o. option_map (seen_with parameters_in) o ≡ spec.parameters (seen spot.entry)) }
+{
+    let Some(inner) = spot.opening(Sign::OpenParenthesis) else {
+        return Ok(None);
+    };
+    let Some((all, end)) = parameter_list(alloc, inner)? else {
+        return Ok(None);
+    };
+    Ok(Some((all, spot.back(end))))
+}
+
+// A `:` and a type annotation, or nothing.
+#[tactic(auto, unfolding(cad_parse_statement::specs::Reading::maybe_annotated, cad_parse_type::specs::Reading::maybe))]
+fn maybe_annotated(
+    alloc: Global,
+    spot: Spot<'_>,
+) -> Result<Option<(Option<TypeAnnotation>, Spot<'_>)>, AllocError>
+    ensures { IfOk result (λ o. option_map (seen_with maybe_annotation_of) o ≡ statements.maybe_annotated (seen spot.entry)) }
+{
+    let Some(behind) = spot.after(Sign::Colon) else {
+        return Ok(Some((None, spot)));
+    };
+    let Some((annotation, end)) = annotation(alloc, behind)? else {
+        return Ok(None);
+    };
+    Ok(Some((Some(annotation), end)))
+}
+
+// A `:` and a message, or nothing.
+#[tactic(auto, unfolding(cad_parse_type::specs::Reading::maybe))]
+fn message(
+    alloc: Global,
+    spot: Spot<'_>,
+) -> Result<Option<(Option<Expr>, Spot<'_>)>, AllocError>
+    ensures { IfOk result (λ o. option_map (seen_with maybe_expr_of) o ≡ types.maybe (spots.after s.Colon) expressions.expression (seen spot.entry)) }
+{
+    let Some(behind) = spot.after(Sign::Colon) else {
+        return Ok(Some((None, spot)));
+    };
+    let Some((message, end)) = expression(alloc, behind)? else {
+        return Ok(None);
+    };
+    Ok(Some((Some(message), end)))
+}
+
+// Whether a statement or a condition may begin with the next token.
+#[tactic(auto, unfolding(cad_grammar::specs::Spots::holds, cad_parse_type::specs::Views::seen))]
+fn begins_plainly(spot: Spot<'_>) -> bool
+    ensures { result ≡ statement.begins_plainly (seen spot.entry) }
+{
+    match spot.tokens {
+        [first, ..] => !matches!(
+            first.kind,
+            TokenKind::Sign(
+                Sign::OpenBrace
+                    | Sign::Minus
+                    | Sign::Star
+                    | Sign::Ampersand
+                    | Sign::Move
+                    | Sign::Slash
+            )
+        ),
+        [] => false,
+    }
+}
+
+// Behind a condition: a `;`, which is passed, a line break, or the end of the conditions.
+#[tactic(auto, unfolding(cad_grammar::specs::Spots::holds, cad_parse_type::specs::Views::seen))]
+fn breaks_or_ends(spot: Spot<'_>) -> bool
+    ensures { result ≡ statement.breaks_or_ends (seen spot.entry) }
+{
+    match spot.tokens {
+        [first, ..] => {
+            first.after_break
+                || matches!(
+                    first.kind,
+                    TokenKind::Sign(Sign::CloseBrace)
+                        | TokenKind::Keyword(Keyword::Case | Keyword::Default)
+                )
+        }
+        [] => false,
+    }
+}
+
+#[tactic(auto, unfolding(cad_grammar::specs::StatementGrammar::parted))]
+fn parted(spot: Spot<'_>) -> Option<Spot<'_>>
+    ensures { option_map seen result ≡ statement.parted (seen spot.entry) }
+{
+    if let Some(behind) = spot.after(Sign::Semicolon) {
+        return Some(behind);
+    }
+    if breaks_or_ends(spot) {
+        return Some(spot);
+    }
+    None
+}
+
+#[tactic(auto, unfolding(crate::specs::Reading::emitted))]
+fn emitted(alloc: Global, spot: Spot<'_>) -> Result<Option<(Condition, Spot<'_>)>, AllocError>
+    ensures { IfOk result (λ o. option_map (seen_with condition_of) o ≡ spec.emitted (seen spot.entry)) }
+{
+    let Some((event, end)) = expression(alloc, spot)? else {
+        return Ok(None);
+    };
+    Ok(Some((Condition::Emit(event), end)))
+}
+
+#[tactic(auto, unfolding(crate::specs::Reading::plain))]
+fn plain(alloc: Global, spot: Spot<'_>) -> Result<Option<(Condition, Spot<'_>)>, AllocError>
+    ensures { IfOk result (λ o. option_map (seen_with condition_of) o ≡ spec.plain (seen spot.entry)) }
+{
+    if !begins_plainly(spot) {
+        return Ok(None);
+    }
+    let Some((test, spot)) = expression(alloc, spot)? else {
+        return Ok(None);
+    };
+    let Some((message, spot)) = message(alloc, spot)? else {
+        return Ok(None);
+    };
+    Ok(Some((Condition::Test { test, message }, spot)))
+}
+
+#[tactic(auto, unfolding(crate::specs::Reading::condition))]
+fn condition(alloc: Global, spot: Spot<'_>) -> Result<Option<(Condition, Spot<'_>)>, AllocError>
+    ensures { IfOk result (λ o. option_map (seen_with condition_of) o ≡ spec.condition (seen spot.entry)) }
+{
+    match spot.keyword(Keyword::Emit) {
+        Some(behind) => emitted(alloc, behind),
+        None => plain(alloc, spot),
+    }
+}
+
+#[tactic(auto, unfolding(crate::specs::Reading::parted_condition))]
+fn parted_condition(
+    alloc: Global,
+    spot: Spot<'_>,
+) -> Result<Option<(Condition, Spot<'_>)>, AllocError>
+    ensures { IfOk result (λ o. option_map (seen_with condition_of) o ≡ spec.parted_condition (seen spot.entry)) }
+{
+    let Some((condition, spot)) = condition(alloc, spot)? else {
+        return Ok(None);
+    };
+    let Some(spot) = parted(spot) else {
+        return Ok(None);
+    };
+    Ok(Some((condition, spot)))
+}
+
+#[tactic(auto, unfolding(crate::specs::Reading::repeated))]
+fn condition_list(
+    alloc: Global,
+    spot: Spot<'_>,
+) -> Result<Option<(Conditions, Spot<'_>)>, AllocError>
+    ensures { IfOk result (λ o. option_map (seen_with conditions_in) o ≡ spec.repeated spec.parted_condition s.CloseBrace (length spot.entry.tokens.now) [] (seen spot.entry)) }
+{
+    let mut found = Vec::new(alloc);
+    let mut here = spot;
+    for _turn in 0..spot.tokens.len() {
+        if let Some(end) = here.after(Sign::CloseBrace) {
+            return Ok(Some((found, end)));
+        }
+        let Some((item, next)) = parted_condition(alloc, here)? else {
+            return Ok(None);
+        };
+        found.push(item)?;
+        here = next;
+    }
+    Ok(None)
+}
+
+#[tactic(auto, unfolding(crate::specs::Reading::conditions, cad_parse_type::specs::Views::seen))]
+fn conditions(
+    alloc: Global,
+    spot: Spot<'_>,
+) -> Result<Option<(Conditions, Spot<'_>)>, AllocError>
+    ensures { IfOk result (λ o. option_map (seen_with conditions_in) o ≡ spec.conditions (seen spot.entry)) }
+{
+    let Some(inner) = spot.opening(Sign::OpenBrace) else {
+        return Ok(None);
+    };
+    let Some((all, end)) = condition_list(alloc, inner)? else {
+        return Ok(None);
+    };
+    Ok(Some((all, spot.back(end))))
+}
+
+/// The conditions behind this word, and the spot behind their `}`; nothing where another token comes next; None where no
+/// conditions stand behind it.
+#[tactic(auto, unfolding(cad_parse_type::specs::Reading::maybe))]
+pub fn conditions_behind(
+    alloc: Global,
+    word: Keyword,
+    spot: Spot<'_>,
+) -> Result<Option<(Option<Conditions>, Spot<'_>)>, AllocError>
+    ensures { IfOk result (λ o. option_map (seen_with maybe_conditions_in) o ≡ spec.conditions_behind word (seen spot.entry)) }
+{
+    let Some(behind) = spot.keyword(word) else {
+        return Ok(Some((None, spot)));
+    };
+    let Some((all, end)) = conditions(alloc, behind)? else {
+        return Ok(None);
+    };
+    Ok(Some((Some(all), end)))
+}
+
+/// The block of a function that begins at a spot, with its conditions, and the spot behind its `}`; None where none begins.
+#[tactic(auto, unfolding(crate::specs::Reading::function_block))]
+pub fn function_block(
+    alloc: Global,
+    spot: Spot<'_>,
+) -> Result<Option<(FunctionBlock, Spot<'_>)>, AllocError>
+    ensures { IfOk result (λ o. option_map (seen_with block_of) o ≡ spec.function_block (seen spot.entry)) }
+{
+    let Some(inner) = spot.opening(Sign::OpenBrace) else {
+        return Ok(None);
+    };
+    let Some((pre, inner)) = conditions_behind(alloc, Keyword::Pre, inner)? else {
+        return Ok(None);
+    };
+    let Some((post, inner)) = conditions_behind(alloc, Keyword::Post, inner)? else {
+        return Ok(None);
+    };
+    let Some((body, inner)) = statements(alloc, inner)? else {
+        return Ok(None);
+    };
+    let Some(end) = inner.after(Sign::CloseBrace) else {
+        return Ok(None);
+    };
+    Ok(Some((FunctionBlock { pre, post, body }, spot.back(end))))
+}
+
+#[tactic(auto, unfolding(crate::specs::Reading::blocked))]
+fn blocked(
+    alloc: Global,
+    spot: Spot<'_>,
+) -> Result<Option<(Option<FunctionBlock>, Spot<'_>)>, AllocError>
+    ensures { IfOk result (λ o. option_map (seen_with maybe_block_of) o ≡ spec.blocked (seen spot.entry)) }
+{
+    let Some((block, end)) = function_block(alloc, spot)? else {
+        return Ok(None);
+    };
+    Ok(Some((Some(block), end)))
+}
+
+#[tactic(auto, unfolding(crate::specs::Reading::maybe_blocked))]
+fn maybe_blocked(
+    alloc: Global,
+    spot: Spot<'_>,
+) -> Result<Option<(Option<FunctionBlock>, Spot<'_>)>, AllocError>
+    ensures { IfOk result (λ o. option_map (seen_with maybe_block_of) o ≡ spec.maybe_blocked (seen spot.entry)) }
+{
+    match spot.after(Sign::OpenBrace) {
+        Some(_) => blocked(alloc, spot),
+        None => Ok(Some((None, spot))),
+    }
+}
+
+#[tactic(auto, unfolding(crate::specs::Reading::block_of))]
+fn block_of(
+    alloc: Global,
+    in_interface: bool,
+    spot: Spot<'_>,
+) -> Result<Option<(Option<FunctionBlock>, Spot<'_>)>, AllocError>
+    ensures { IfOk result (λ o. option_map (seen_with maybe_block_of) o ≡ spec.block_of in_interface (seen spot.entry)) }
+{
+    if in_interface {
+        maybe_blocked(alloc, spot)
+    } else {
+        blocked(alloc, spot)
+    }
+}
+
+/// Whether `view` comes next before this keyword, and the spot behind the keyword; None where neither stands there.
+#[tactic(auto, unfolding(cad_grammar::specs::ProgramGrammar::viewed))]
+pub fn viewed(keyword: Keyword, spot: Spot<'_>) -> Option<(bool, Spot<'_>)>
+    ensures { option_map (seen_with same) result ≡ grammar.viewed keyword (seen spot.entry) }
+{
+    match spot.word("view") {
+        Some(behind) => Some((true, behind.keyword(keyword)?)),
+        None => Some((false, spot.keyword(keyword)?)),
+    }
+}
+
+/// The function that begins behind its access, in an interface or elsewhere, and the spot behind it; None where none begins.
+/// In an interface it may have no block.
+#[tactic(auto, unfolding(crate::specs::Reading::function_with))]
+pub fn function<'a>(
+    alloc: Global,
+    in_interface: bool,
+    access: Access,
+    spot: Spot<'a>,
+) -> Result<Option<(Function, Spot<'a>)>, AllocError>
+    ensures { IfOk result (λ o. option_map (seen_with function_of) o ≡ spec.function_with in_interface access (seen spot.entry)) }
+{
+    let Some((is_view, spot)) = viewed(Keyword::Fun, spot) else {
+        return Ok(None);
+    };
+    let Some((name, spot)) = spot.name() else {
+        return Ok(None);
+    };
+    let Some((parameters, spot)) = parameters(alloc, spot)? else {
+        return Ok(None);
+    };
+    let Some((result, spot)) = maybe_annotated(alloc, spot)? else {
+        return Ok(None);
+    };
+    let Some((block, spot)) = block_of(alloc, in_interface, spot)? else {
+        return Ok(None);
+    };
+    let function = Function {
+        access,
+        is_view,
+        name: name.clone()?,
+        parameters,
+        result,
+        block,
+    };
+    Ok(Some((function, spot)))
+}
+
+/// The initializer that begins behind its `init`, and the spot behind its block; None where none begins.
+#[tactic(auto, unfolding(crate::specs::Reading::initializer))]
+pub fn initializer(
+    alloc: Global,
+    is_view: bool,
+    spot: Spot<'_>,
+) -> Result<Option<(Init, Spot<'_>)>, AllocError>
+    ensures { IfOk result (λ o. option_map (seen_with init_of) o ≡ spec.initializer is_view (seen spot.entry)) }
+{
+    let Some((parameters, spot)) = parameters(alloc, spot)? else {
+        return Ok(None);
+    };
+    let Some((block, spot)) = function_block(alloc, spot)? else {
+        return Ok(None);
+    };
+    let init = Init {
+        is_view,
+        parameters,
+        block,
+    };
+    Ok(Some((init, spot)))
+}
