@@ -10,7 +10,7 @@ use Rattle.cad_parse.proofs.Declared as declared
 use Rattle.cad_parse.proofs.Programs.{DeclarationLaws}
 
 blocks : StatementLaws
-blocks = statement_laws type_laws expression_laws
+blocks = statement_laws expression_laws
 
 members : MemberLaws
 members = member_laws type_laws expression_laws blocks
