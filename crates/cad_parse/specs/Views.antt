@@ -1,12 +1,9 @@
 -- What the readers give, without where it lies in memory.
-use Rattle.std.specs.Prelude.{ℕ, Option, option_map, List, map}
-use Rattle.std.specs.Borrow.{Bor}
+use Rattle.std.specs.Prelude.{Option, option_map, List, map}
 use Rattle.std.specs.declared.vec.Vec.{Vec}
 use Rattle.std.specs.declared.alloc.Global.{Global}
-use Rattle.cad_syntax.specs.declared.text.Name.{Name}
-use Rattle.cad_grammar.specs.Trees.{Annotation, ExprTree, ParameterTree, ConditionTree, FunctionBlockTree, EventParameterTree, CompositeMemberTree, InterfaceMemberTree, ContractMemberTree, TransactionFieldTree, PrepareTree, StmtTree, DeclTree}
-use Rattle.cad_grammar.specs.Views.{annotation_of, expr_of, parameter_of, condition_of, block_of, event_parameter_of, composite_member_of, interface_member_of, contract_member_of, transaction_field_of, prepare_of, decl_of}
-use Rattle.cad_grammar.specs.declared.type_expr.TypeAnnotation.{TypeAnnotation}
+use Rattle.cad_grammar.specs.Trees.{ExprTree, ParameterTree, ConditionTree, FunctionBlockTree, EventParameterTree, CompositeMemberTree, InterfaceMemberTree, ContractMemberTree, TransactionFieldTree, PrepareTree, StmtTree, DeclTree}
+use Rattle.cad_grammar.specs.Views.{expr_of, parameter_of, condition_of, block_of, event_parameter_of, composite_member_of, interface_member_of, contract_member_of, transaction_field_of, prepare_of, decl_of}
 use Rattle.cad_grammar.specs.declared.expression.Expr.{Expr}
 use Rattle.cad_grammar.specs.declared.declaration.Parameter.{Parameter}
 use Rattle.cad_grammar.specs.declared.declaration.Condition.{Condition}
@@ -38,9 +35,6 @@ conditions_in v = map condition_of v.items
 
 abbrev pub maybe_conditions_in : Option (Vec Condition Global) → Option (List ConditionTree)
 maybe_conditions_in = option_map conditions_in
-
-abbrev pub maybe_annotation_of : Option TypeAnnotation → Option Annotation
-maybe_annotation_of = option_map annotation_of
 
 abbrev pub maybe_expr_of : Option Expr → Option ExprTree
 maybe_expr_of = option_map expr_of

@@ -11,8 +11,9 @@ use crate::composite::{
     composite, composite_word, entitlement, enumeration, interface, mapping, mapping_head,
 };
 use crate::function::{function, initializer, viewed};
-use crate::member::{destruction, event, field, variable_word};
+use crate::member::{destruction, event, field};
 use cad_grammar::{Access, CompositeKind, Contract, ContractMember};
+use cad_parse_statement::variable_word;
 use cad_parse_type::Spot;
 use cad_syntax::{Keyword, Sign};
 use std::alloc::{AllocError, Global};

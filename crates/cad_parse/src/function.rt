@@ -2,23 +2,21 @@
 ghost use Rattle.std.specs.Prelude.{◌≡◌, [], length, IfOk, option_map};
 ghost use Rattle.cad_syntax.specs.declared.token.Sign.TheVariants as s;
 ghost use Rattle.cad_grammar.specs.Spots as spots;
-ghost use Rattle.cad_grammar.specs.StatementGrammar as statement;
 ghost use Rattle.cad_grammar.specs.ProgramGrammar as grammar;
-ghost use Rattle.cad_grammar.specs.Views.{parameter_of, condition_of, block_of, function_of, init_of, annotation_of};
+ghost use Rattle.cad_grammar.specs.Views.{parameter_of, condition_of, block_of, function_of, init_of};
 ghost use Rattle.cad_parse.specs.Reading as spec;
-ghost use Rattle.cad_parse.specs.Views.{same, parameters_in, conditions_in, maybe_conditions_in, maybe_block_of, maybe_annotation_of, maybe_expr_of};
-ghost use Rattle.cad_parse_statement.specs.Reading as statements;
+ghost use Rattle.cad_parse.specs.Views.{same, parameters_in, conditions_in, maybe_conditions_in, maybe_block_of, maybe_expr_of};
 ghost use Rattle.cad_parse_expr.specs.Reading as expressions;
 ghost use Rattle.cad_parse_type.specs.Reading as types;
 ghost use Rattle.cad_parse_type.specs.Views.{seen, seen_with, seen_name};
 
 use cad_grammar::{
-    Access, Condition, Conditions, Expr, Function, FunctionBlock, Init, Parameter, TypeAnnotation,
+    Access, Condition, Conditions, Expr, Function, FunctionBlock, Init, Parameter,
 };
 use cad_parse_expr::expression;
-use cad_parse_statement::statements;
+use cad_parse_statement::{begins_plainly, maybe_annotated, parted, statements};
 use cad_parse_type::{Spot, annotation};
-use cad_syntax::{Keyword, Name, Sign, TokenKind};
+use cad_syntax::{Keyword, Name, Sign};
 use std::alloc::{AllocError, Global};
 
 /// The name before a `:` that come next, and the spot behind the `:`.
@@ -120,23 +118,6 @@ pub fn parameters(
     Ok(Some((all, spot.back(end))))
 }
 
-// A `:` and a type annotation, or nothing.
-#[tactic(auto, unfolding(cad_parse_statement::specs::Reading::maybe_annotated, cad_parse_type::specs::Reading::maybe))]
-fn maybe_annotated(
-    alloc: Global,
-    spot: Spot<'_>,
-) -> Result<Option<(Option<TypeAnnotation>, Spot<'_>)>, AllocError>
-    ensures { IfOk result (λ o. option_map (seen_with maybe_annotation_of) o ≡ statements.maybe_annotated (seen spot.entry)) }
-{
-    let Some(behind) = spot.after(Sign::Colon) else {
-        return Ok(Some((None, spot)));
-    };
-    let Some((annotation, end)) = annotation(alloc, behind)? else {
-        return Ok(None);
-    };
-    Ok(Some((Some(annotation), end)))
-}
-
 // A `:` and a message, or nothing.
 #[tactic(auto, unfolding(cad_parse_type::specs::Reading::maybe))]
 fn message(alloc: Global, spot: Spot<'_>) -> Result<Option<(Option<Expr>, Spot<'_>)>, AllocError>
@@ -149,58 +130,6 @@ fn message(alloc: Global, spot: Spot<'_>) -> Result<Option<(Option<Expr>, Spot<'
         return Ok(None);
     };
     Ok(Some((Some(message), end)))
-}
-
-// Whether a statement or a condition may begin with the next token.
-#[tactic(auto, unfolding(cad_grammar::specs::Spots::holds, cad_parse_type::specs::Views::seen))]
-fn begins_plainly(spot: Spot<'_>) -> bool
-    ensures { result ≡ statement.begins_plainly (seen spot.entry) }
-{
-    match spot.tokens {
-        [first, ..] => !matches!(
-            first.kind,
-            TokenKind::Sign(
-                Sign::OpenBrace
-                    | Sign::Minus
-                    | Sign::Star
-                    | Sign::Ampersand
-                    | Sign::Move
-                    | Sign::Slash
-            )
-        ),
-        [] => false,
-    }
-}
-
-// Behind a condition: a `;`, which is passed, a line break, or the end of the conditions.
-#[tactic(auto, unfolding(cad_grammar::specs::Spots::holds, cad_parse_type::specs::Views::seen))]
-fn breaks_or_ends(spot: Spot<'_>) -> bool
-    ensures { result ≡ statement.breaks_or_ends (seen spot.entry) }
-{
-    match spot.tokens {
-        [first, ..] => {
-            first.after_break
-                || matches!(
-                    first.kind,
-                    TokenKind::Sign(Sign::CloseBrace)
-                        | TokenKind::Keyword(Keyword::Case | Keyword::Default)
-                )
-        }
-        [] => false,
-    }
-}
-
-#[tactic(auto, unfolding(cad_grammar::specs::StatementGrammar::parted))]
-fn parted(spot: Spot<'_>) -> Option<Spot<'_>>
-    ensures { option_map seen result ≡ statement.parted (seen spot.entry) }
-{
-    if let Some(behind) = spot.after(Sign::Semicolon) {
-        return Some(behind);
-    }
-    if breaks_or_ends(spot) {
-        return Some(spot);
-    }
-    None
 }
 
 #[tactic(auto, unfolding(crate::specs::Reading::emitted))]

@@ -8,6 +8,10 @@ mod declaration;
 mod function;
 mod member;
 mod program;
+#[cfg(test)]
+mod rows;
+#[cfg(test)]
+mod tests;
 mod transaction;
 
 pub use program::{ParseStop, one_program, one_refusal, parse_program};

@@ -1,11 +1,10 @@
 // Fields, events, and the members of composites and interfaces.
 ghost use Rattle.std.specs.Prelude.{◌≡◌, [], length, IfOk, option_map};
 ghost use Rattle.cad_syntax.specs.declared.token.Sign.TheVariants as s;
-ghost use Rattle.cad_grammar.specs.StatementGrammar as statement;
 ghost use Rattle.cad_grammar.specs.ProgramGrammar as grammar;
 ghost use Rattle.cad_grammar.specs.Views.{field_of, event_of, event_parameter_of, composite_member_of, interface_member_of};
 ghost use Rattle.cad_parse.specs.Reading as spec;
-ghost use Rattle.cad_parse.specs.Views.{same, event_parameters_in, composite_members_in, interface_members_in};
+ghost use Rattle.cad_parse.specs.Views.{event_parameters_in, composite_members_in, interface_members_in};
 ghost use Rattle.cad_parse_type.specs.Reading as types;
 ghost use Rattle.cad_parse_type.specs.Views.{seen, seen_with};
 
@@ -15,30 +14,10 @@ use cad_grammar::{
     Access, CompositeMember, Event, EventParameter, Field, InterfaceMember, VariableKind,
 };
 use cad_parse_expr::expression;
+use cad_parse_statement::variable_word;
 use cad_parse_type::{Spot, annotation};
-use cad_syntax::{Keyword, Name, Sign, TokenKind};
+use cad_syntax::{Keyword, Name, Sign};
 use std::alloc::{AllocError, Global};
-
-fn variable_kind_of(kind: &TokenKind) -> Option<VariableKind>
-    ensures { result ≡ statement.variable_kind_of kind.now }
-{
-    match kind {
-        TokenKind::Keyword(Keyword::Let) => Some(VariableKind::Let),
-        TokenKind::Keyword(Keyword::Var) => Some(VariableKind::Var),
-        _ => None,
-    }
-}
-
-/// The `let` or `var` that comes next, and the spot behind it.
-#[tactic(auto, unfolding(cad_grammar::specs::Spots::read, cad_parse_type::specs::Views::seen))]
-pub fn variable_word(spot: Spot<'_>) -> Option<(VariableKind, Spot<'_>)>
-    ensures { option_map (seen_with same) result ≡ statement.variable_word (seen spot.entry) }
-{
-    match spot.tokens {
-        [first, rest @ ..] => Some((variable_kind_of(&first.kind)?, spot.behind(rest))),
-        [] => None,
-    }
-}
 
 /// The field that begins behind its access and its `let` or `var`, and the spot behind its type; None where none begins.
 #[tactic(auto, unfolding(crate::specs::Reading::field))]

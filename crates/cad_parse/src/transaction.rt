@@ -6,9 +6,8 @@ ghost use Rattle.cad_parse.specs.Views.{fields_in, maybe_parameters_in, maybe_pr
 ghost use Rattle.cad_parse_type.specs.Views.{seen, seen_with};
 
 use crate::function::{conditions_behind, labelled, parameters};
-use crate::member::variable_word;
 use cad_grammar::{Parameter, Prepare, Stmt, Transaction, TransactionField, VariableKind};
-use cad_parse_statement::block;
+use cad_parse_statement::{block, variable_word};
 use cad_parse_type::{Spot, annotation};
 use cad_syntax::{Keyword, Sign};
 use std::alloc::{AllocError, Global};
