@@ -34,9 +34,9 @@ unfolding viewed
 viewed_shorter asked p x e =
     cases_of _ (word (codes "view") p)
     (λ f. let w = then_some (keyword asked p) _ x (sym (either_not (word (codes "view") p) _ _ f) ∙ e) in
-          omega (arith, keyword_shorter asked p w.0 w.1, ap (λ y. length y.1.tokens) (same (false, w.0) x w.2)))
+    omega (arith, keyword_shorter asked p w.0 w.1, ap (λ y. length y.1.tokens) (same (false, w.0) x w.2)))
     (λ q f. let w = then_some (keyword asked q) _ x (sym (either_is (word (codes "view") p) _ _ q f) ∙ e) in
-          omega (arith, word_shorter (codes "view") p q f, keyword_shorter asked q w.0 w.1, ap (λ y. length y.1.tokens) (same (true, w.0) x w.2)))
+    omega (arith, word_shorter (codes "view") p q f, keyword_shorter asked q w.0 w.1, ap (λ y. length y.1.tokens) (same (true, w.0) x w.2)))
   where
     same : (a b : Bool × Spot) → Some a ≡ Some b → a ≡ b
     same a b e = cc
@@ -46,9 +46,9 @@ unfolding viewed
 viewed_left asked p x e =
     cases_of _ (word (codes "view") p)
     (λ f. let w = then_some (keyword asked p) _ x (sym (either_not (word (codes "view") p) _ _ f) ∙ e) in
-          sym (ap (λ y. y.1.left) (same (false, w.0) x w.2)) ∙ keyword_left asked p w.0 w.1)
+    sym (ap (λ y. y.1.left) (same (false, w.0) x w.2)) ∙ keyword_left asked p w.0 w.1)
     (λ q f. let w = then_some (keyword asked q) _ x (sym (either_is (word (codes "view") p) _ _ q f) ∙ e) in
-          sym (ap (λ y. y.1.left) (same (true, w.0) x w.2)) ∙ keyword_left asked q w.0 w.1 ∙ word_left (codes "view") p q f)
+    sym (ap (λ y. y.1.left) (same (true, w.0) x w.2)) ∙ keyword_left asked q w.0 w.1 ∙ word_left (codes "view") p q f)
   where
     same : (a b : Bool × Spot) → Some a ≡ Some b → a ≡ b
     same a b e = cc
@@ -90,10 +90,10 @@ viewed_not_labelled asked p x e = none_of (labelled p) (λ y f.
     let w = labelled_is p y f in
     cases_of ⊥ (word (codes "view") p)
     (λ g1. let v = then_some (keyword asked p) _ x (sym (either_not (word (codes "view") p) _ _ g1) ∙ e) in
-           let c = sym v.1 ∙ named_no_keyword asked p w.0 y.0 w.1 in cc)
+    let c = sym v.1 ∙ named_no_keyword asked p w.0 y.0 w.1 in cc)
     (λ q g1. let v = then_some (keyword asked q) _ x (sym (either_is (word (codes "view") p) _ _ q g1) ∙ e) in
-             let same = taken_same p q w.0 (word_taken (codes "view") p q g1) (name_taken p (y.0, w.0) w.1) in
-             let c = sym w.2 ∙ ap (after s.Colon) (sym same) ∙ keyword_no_sign s.Colon asked q (keyword_head asked q v.0 v.1) in cc))
+    let same = taken_same p q w.0 (word_taken (codes "view") p q g1) (name_taken p (y.0, w.0) w.1) in
+    let c = sym w.2 ∙ ap (after s.Colon) (sym same) ∙ keyword_no_sign s.Colon asked q (keyword_head asked q v.0 v.1) in cc))
 
 -- ---- which block a function has
 

@@ -179,8 +179,13 @@ module _ (types : TypeLaws) where
 
     event_head_shorter : {p q : Spot} {n : Name} {all : List EventParameterTree} → EventHead p n all q → length q.tokens < length p.tokens
     event_head_shorter (g.event_head {p} {q} {r} {u} {v} {n} e1 e2 e3 w) =
-        omega (arith, keyword_shorter k.Event p q e1, name_shorter q (n, r) e2, opening_shorter s.OpenParenthesis r u e3,
-        listed_shorter (λ p q x d. event_parameter_shorter (is_destruction n) d) w)
+        omega (
+          arith,
+          keyword_shorter k.Event p q e1,
+          name_shorter q (n, r) e2,
+          opening_shorter s.OpenParenthesis r u e3,
+          listed_shorter (λ p q x d. event_parameter_shorter (is_destruction n) d) w,
+        )
 
     pub event_shorter : {p q : Spot} {e : EventTree} → ReadsEvent p e q → length q.tokens < length p.tokens
     event_shorter (g.open_event d h) = omega (arith, access_shorter types d, event_head_shorter h)

@@ -10,9 +10,7 @@ ghost use Rattle.cad_parse_expr.specs.Reading as expressions;
 ghost use Rattle.cad_parse_type.specs.Reading as types;
 ghost use Rattle.cad_parse_type.specs.Views.{seen, seen_with, seen_name};
 
-use cad_grammar::{
-    Access, Condition, Conditions, Expr, Function, FunctionBlock, Init, Parameter,
-};
+use cad_grammar::{Access, Condition, Conditions, Expr, Function, FunctionBlock, Init, Parameter};
 use cad_parse_expr::expression;
 use cad_parse_statement::{begins_plainly, maybe_annotated, parted, statements};
 use cad_parse_type::{Spot, annotation};

@@ -69,9 +69,36 @@ fn nestings_are_bounded(rt: HostRuntime) -> Result<(), Fail> {
         (["access(all) fun f() { return ", "a[", "a", "]", " }"], 127),
         (["access(all) fun f() { return ", "-", "a", "", " }"], 127),
         (["access(all) fun f() { ", "if a {", "", "}", " }"], 127),
-        (["access(all) fun f() { ", "if a {} else ", "if a {}", "", " }"], 126),
-        (["access(all) contract C { access(all) let a: ", "[", "T", "]", " }"], 127),
-        (["access(all) contract C { access(all) let a: ", "", "T", "?", " }"], 127),
+        (
+            [
+                "access(all) fun f() { ",
+                "if a {} else ",
+                "if a {}",
+                "",
+                " }",
+            ],
+            126,
+        ),
+        (
+            [
+                "access(all) contract C { access(all) let a: ",
+                "[",
+                "T",
+                "]",
+                " }",
+            ],
+            127,
+        ),
+        (
+            [
+                "access(all) contract C { access(all) let a: ",
+                "",
+                "T",
+                "?",
+                " }",
+            ],
+            127,
+        ),
     ] {
         assert_eq!(rt; nested(alloc, pieces, most)?.as_str(), "ok");
         assert_eq!(rt; nested(alloc, pieces, most + 1)?.as_str(), "parse 0");
