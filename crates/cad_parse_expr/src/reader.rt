@@ -60,6 +60,7 @@ fn entry<'a>(
 }
 
 #[cycle(read)]
+#[inline(never)]
 #[tactic(auto, unfolding(cad_parse_type::specs::Reading::listed))]
 fn arguments<'a>(
     alloc: Global,
@@ -92,6 +93,7 @@ fn arguments<'a>(
 }
 
 #[cycle(read)]
+#[inline(never)]
 #[tactic(auto, unfolding(cad_parse_type::specs::Reading::listed))]
 fn elements<'a>(
     alloc: Global,
@@ -124,6 +126,7 @@ fn elements<'a>(
 }
 
 #[cycle(read)]
+#[inline(never)]
 #[tactic(auto, unfolding(cad_parse_type::specs::Reading::listed))]
 fn entries<'a>(
     alloc: Global,
@@ -156,6 +159,7 @@ fn entries<'a>(
 }
 
 #[cycle(read)]
+#[inline(never)]
 #[tactic(auto, unfolding(crate::specs::Reading::grouped))]
 fn grouped<'a>(
     alloc: Global,
@@ -178,6 +182,7 @@ fn grouped<'a>(
 }
 
 #[cycle(read)]
+#[inline(never)]
 #[tactic(auto, unfolding(crate::specs::Reading::array, crate::specs::Reading::elements, cad_parse_type::specs::Views::seen))]
 fn array<'a>(
     alloc: Global,
@@ -197,6 +202,7 @@ fn array<'a>(
 }
 
 #[cycle(read)]
+#[inline(never)]
 #[tactic(auto, unfolding(crate::specs::Reading::pairs, crate::specs::Reading::entries, cad_parse_type::specs::Views::seen))]
 fn pairs<'a>(
     alloc: Global,
@@ -216,6 +222,7 @@ fn pairs<'a>(
 }
 
 #[cycle(read)]
+#[inline(never)]
 #[tactic(auto, unfolding(crate::specs::Reading::created, crate::specs::Reading::arguments, cad_parse_type::specs::Views::seen))]
 fn created<'a>(
     alloc: Global,
@@ -242,6 +249,7 @@ fn created<'a>(
 }
 
 #[cycle(read)]
+#[inline(never)]
 #[tactic(auto, unfolding(crate::specs::Reading::primary))]
 fn primary<'a>(
     alloc: Global,
@@ -272,6 +280,7 @@ fn primary<'a>(
 }
 
 #[cycle(read)]
+#[inline(never)]
 #[tactic(auto, unfolding(crate::specs::Reading::index_tail))]
 fn index_tail<'a>(
     alloc: Global,
@@ -293,6 +302,7 @@ fn index_tail<'a>(
 }
 
 #[cycle(read)]
+#[inline(never)]
 #[tactic(auto, unfolding(crate::specs::Reading::call_tail, crate::specs::Reading::arguments, cad_parse_type::specs::Views::seen))]
 fn call_tail<'a>(
     alloc: Global,
@@ -312,6 +322,7 @@ fn call_tail<'a>(
 }
 
 #[cycle(read)]
+#[inline(never)]
 #[tactic(auto, unfolding(crate::specs::Reading::typed_call))]
 fn typed_call<'a>(
     alloc: Global,
@@ -355,6 +366,7 @@ fn postfix_tail<'a>(
 }
 
 #[cycle(read)]
+#[inline(never)]
 #[tactic(auto, unfolding(crate::specs::Reading::operation))]
 fn operation<'a>(
     alloc: Global,
@@ -400,6 +412,7 @@ fn tail<'a>(
 
 // The expression with all tails of the level that follow it.
 #[cycle(read)]
+#[inline(never)]
 #[tactic(auto, unfolding(cad_parse_type::specs::Reading::climb))]
 fn with_tails<'a>(
     alloc: Global,
@@ -441,6 +454,7 @@ fn chain<'a>(
 }
 
 #[cycle(read)]
+#[inline(never)]
 #[tactic(auto, unfolding(crate::specs::Reading::unary))]
 fn unary<'a>(
     alloc: Global,
@@ -460,6 +474,7 @@ fn unary<'a>(
 }
 
 #[cycle(read)]
+#[inline(never)]
 #[tactic(auto, unfolding(crate::specs::Reading::borrowed))]
 fn borrowed<'a>(
     alloc: Global,
@@ -481,6 +496,7 @@ fn borrowed<'a>(
 }
 
 #[cycle(read)]
+#[inline(never)]
 #[tactic(auto, unfolding(crate::specs::Reading::prefix))]
 fn prefix<'a>(
     alloc: Global,
@@ -499,6 +515,7 @@ fn prefix<'a>(
 }
 
 #[cycle(read)]
+#[inline(never)]
 #[tactic(auto, unfolding(crate::specs::Reading::fallback))]
 fn fallback<'a>(
     alloc: Global,
@@ -517,6 +534,7 @@ fn fallback<'a>(
 }
 
 #[cycle(read)]
+#[inline(never)]
 #[tactic(auto, unfolding(crate::specs::Reading::coalesce))]
 fn coalesce<'a>(
     alloc: Global,
@@ -537,6 +555,7 @@ fn coalesce<'a>(
 }
 
 #[cycle(read)]
+#[inline(never)]
 #[tactic(auto, unfolding(crate::specs::Reading::branches))]
 fn branches<'a>(
     alloc: Global,
@@ -564,6 +583,7 @@ fn branches<'a>(
 }
 
 #[cycle(read)]
+#[inline(never)]
 #[tactic(auto, unfolding(crate::specs::Reading::conditional))]
 fn conditional<'a>(
     alloc: Global,
