@@ -1,3 +1,4 @@
+// Registers in memory: their order, their sizes, and which are those of sound accounts.
 use super::*;
 use cad_syntax::{Bytes, Items};
 use cad_wire::{Entries, Entry, Key};

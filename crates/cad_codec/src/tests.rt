@@ -1,3 +1,4 @@
+// Numbers as bytes and back, and bytes that no value has.
 use super::*;
 use cad_syntax::{Kind, Num};
 use cad_values::Value;

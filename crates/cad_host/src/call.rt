@@ -1,3 +1,4 @@
+// What a host in memory did, call by call, so that a crash can be replayed.
 use crate::Tape;
 
 /// A call that changed something.

@@ -1,3 +1,4 @@
+// Calls that fail, tapes in memory and as files, and what crashes leave.
 use crate::{Failed, FileHost, Host, MemHost, SureHost, Tape};
 use std::fs;
 use std::test::Fail;

@@ -150,6 +150,17 @@ fn unsigned_kinds(rt: HostRuntime) {
             100_000_000_000_000_000_000,
             Ok(63_374_607_431_768_211_455),
         ),
+    ] {
+        let a = unsigned(&rt, kind, a);
+        let b = unsigned(&rt, kind, b);
+        let expected = expected.map(|value| unsigned(&rt, kind, value));
+        assert_eq!(rt; run(operation, a, b), expected);
+    }
+}
+
+#[test]
+fn word_kinds(rt: HostRuntime) {
+    for (kind, a, operation, b, expected) in [
         (Kind::Word8, 255, Call::Add, 1, Ok(0)),
         (Kind::Word16, 0, Call::Sub, 1, Ok(65_535)),
         (Kind::Word32, 2_147_483_648, Call::Mul, 2, Ok(0)),
@@ -172,7 +183,7 @@ fn unsigned_kinds(rt: HostRuntime) {
 }
 
 #[test]
-fn fixed_kinds(rt: HostRuntime) {
+fn fixed_products(rt: HostRuntime) {
     for (kind, a, operation, b, expected) in [
         (Kind::UFix64, 1, Call::Mul, 50_000_000, Ok(0)),
         (Kind::Fix64, -1, Call::Mul, 50_000_000, Ok(0)),
@@ -183,6 +194,31 @@ fn fixed_kinds(rt: HostRuntime) {
             150_000_000,
             Ok(-225_000_000),
         ),
+        (
+            Kind::UFix64,
+            18_446_744_073_709_551_615,
+            Call::Mul,
+            100_000_000,
+            Ok(18_446_744_073_709_551_615),
+        ),
+        (
+            Kind::UFix64,
+            18_446_744_073_709_551_615,
+            Call::Mul,
+            100_000_001,
+            Err(NumError::Overflow),
+        ),
+    ] {
+        let a = number(&rt, kind, a);
+        let b = number(&rt, kind, b);
+        let expected = outcome(&rt, kind, expected);
+        assert_eq!(rt; run(operation, a, b), expected);
+    }
+}
+
+#[test]
+fn fixed_quotients_and_differences(rt: HostRuntime) {
+    for (kind, a, operation, b, expected) in [
         (
             Kind::Fix64,
             -100_000_000,
@@ -205,20 +241,6 @@ fn fixed_kinds(rt: HostRuntime) {
             Ok(-150_000_000),
         ),
         (Kind::UFix64, 0, Call::Sub, 1, Err(NumError::Underflow)),
-        (
-            Kind::UFix64,
-            18_446_744_073_709_551_615,
-            Call::Mul,
-            100_000_000,
-            Ok(18_446_744_073_709_551_615),
-        ),
-        (
-            Kind::UFix64,
-            18_446_744_073_709_551_615,
-            Call::Mul,
-            100_000_001,
-            Err(NumError::Overflow),
-        ),
         (
             Kind::Fix64,
             -9_223_372_036_854_775_808,

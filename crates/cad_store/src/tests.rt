@@ -1,3 +1,4 @@
+// Commits of accounts, stores that are full or bad, and disk calls that fail.
 ghost use Rattle.std.specs.Prelude.{◌≤◌, ◌^◌, IfOk};
 ghost use Rattle.cad_accounts.specs.Registers.{Map, Leads};
 ghost use Rattle.cad_accounts.specs.Worlds.{AreSound};

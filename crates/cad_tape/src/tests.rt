@@ -1,3 +1,4 @@
+// Records on a tape of bytes: whole ones, each front of one, damaged ones, and disk calls that fail.
 ghost use Rattle.std.specs.Prelude.{[]};
 ghost use Rattle.cad_host.specs.Faults.{IsCaused};
 

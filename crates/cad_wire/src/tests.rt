@@ -1,3 +1,4 @@
+// Fields and a record's body as bytes and back, and bytes that are none.
 use super::*;
 use cad_syntax::{Bytes, Items};
 use std::alloc::{AllocError, Global};
