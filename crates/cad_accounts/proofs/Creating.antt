@@ -30,16 +30,9 @@ only_more key v m is only k there =
 
 -- ---- how many there are
 
-count_none : (t : Bool) (n : ℕ) (bytes : List ℕ) → (t ≡ true → n ≡ 0) → cond t None (Some bytes) ≡ None → n ≡ 0
-count_none true n bytes f e = f refl
-count_none false n bytes f e = absurd cc
-
 count_some : (t : Bool) (bytes found : List ℕ) → cond t None (Some bytes) ≡ Some found → bytes ≡ found
 count_some true bytes found e = absurd cc
 count_some false bytes found e = cc
-
-pub none_counted : (m : Map) (w : Accounts) → StandsFor m w → m head_key ≡ None → 0 ≡ w.count
-none_counted m w s none = sym (count_none (eqb w.count 0) w.count (number_field w.count ++ number_field w.next_identity) (eqb-true w.count 0) (sym s.are.head ∙ none))
 
 pub some_counted : (m : Map) (w : Accounts) (bytes : List ℕ) → StandsFor m w → m head_key ≡ Some bytes → number_at bytes ≡ Some (w.count, number_field w.next_identity)
 some_counted m w bytes s there =

@@ -53,9 +53,6 @@ abbrev step_value : (count address : ℕ) (key bytes : List ℕ) (after : ℕ) �
 step_value count address key bytes after (inl c) b i = None
 step_value count address key bytes after (inr s) b i = cond (eqb b s.1.address && same_key i s.1.identifier) (Some s.1.spells.value) None
 
-some_bytes : List ℕ → Option (List ℕ)
-some_bytes bytes = Some bytes
-
 number_spelled : (count address : ℕ) (key bytes : List ℕ) (after : ℕ) (s : Steps count address key bytes after) (b : ℕ) → count < 2 ^ 64 → b < 2 ^ 64 → option_map number_field (step_number count address key bytes after s b) ≡ here (controller_key b) key bytes
 number_spelled count address key bytes after (inl c) b few fits =
     elim (cases_eq b address) [

@@ -7,10 +7,6 @@ use Rattle.cad_accounts.specs.Places.{row_key, AllBefore, AllBehind}
 use Rattle.cad_accounts.proofs.Keys.{same_is, is_same, before_differs, behind_differs}
 use Rattle.cad_accounts.proofs.Order.{both_left, both_right, both}
 
-pub none_before : (front : List Row) (key : List ℕ) → AllBefore row_key front key → at front key ≡ None
-none_before [] key h = refl
-none_before (r ∷ front) key h = rw (behind_differs key r.key.0 h.0) (none_before front key h.1)
-
 pub none_behind : (back : List Row) (key : List ℕ) → AllBehind row_key key back → at back key ≡ None
 none_behind [] key h = refl
 none_behind (r ∷ back) key h = rw (before_differs key r.key.0 h.0) (none_behind back key h.1)

@@ -103,10 +103,10 @@ same_magnitude a b upper lower = omega arith
 
 -- ---- numbers
 
-abbrev num_of : (k : Kind) (s : Bool) (m : ℕ) → is_kept k s m ≡ true → Num
+abbrev pub num_of : (k : Kind) (s : Bool) (m : ℕ) → is_kept k s m ≡ true → Num
 num_of k s m kept = record { kind = k; negative = s; magnitude = m; kept = kept }
 
-same_fields : (k j : Kind) (s t : Bool) (m o : ℕ) → k ≡ j → s ≡ t → m ≡ o → (p : is_kept k s m ≡ true) (q : is_kept j t o ≡ true) → num_of k s m p ≡ num_of j t o q
+pub same_fields : (k j : Kind) (s t : Bool) (m o : ℕ) → k ≡ j → s ≡ t → m ≡ o → (p : is_kept k s m ≡ true) (q : is_kept j t o ≡ true) → num_of k s m p ≡ num_of j t o q
 same_fields k j s t m o kk ss mm =
     subst (λ x. (p : is_kept k s m ≡ true) (q : is_kept x t o ≡ true) → num_of k s m p ≡ num_of x t o q) kk
     (subst (λ x. (p : is_kept k s m ≡ true) (q : is_kept k x o ≡ true) → num_of k s m p ≡ num_of k x o q) ss

@@ -5,4 +5,3 @@ pub mod Saving
 pub mod Meaning
 pub mod Refusals
 pub mod Uniques
-pub mod Ranges

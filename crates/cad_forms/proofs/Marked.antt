@@ -1,5 +1,5 @@
 -- Tokens that are asked for one after another.
-use Rattle.std.proofs.Common.{◌≡◌, ℕ, zero, suc, ◌<◌, ◌≤◌, ◌-◌, List, [], ◌∷◌, ◌++◌, length, get_or, take, drop, refl, sym, ◌∙◌, ap, arith, length-append}
+use Rattle.std.proofs.Common.{◌≡◌, ℕ, zero, suc, ◌<◌, ◌≤◌, ◌-◌, List, [], ◌∷◌, ◌++◌, length, get_or, take, drop, refl, sym, ◌∙◌, ap, arith}
 use Rattle.std.proofs.lemmas.List.{length-map, map-append, take_rest}
 use Rattle.std.proofs.Math.ListN.{get_or-map, get_or-append}
 use Rattle.cad_syntax.specs.declared.token.Token.{Token}
@@ -10,9 +10,6 @@ use Rattle.cad_forms.specs.Marks.{kind_asked, kinds_asked}
 
 as_long : (marks : List Mark) (head : List Token) → kinds_of head ≡ kinds_asked marks → length head ≡ length marks
 as_long marks head same = omega (arith, ap length same, length-map head (λ (t : Token). t.kind), length-map marks kind_asked)
-
-pub asked_short : (tokens : List Token) (marks : List Mark) (i : ℕ) → i < length marks → length tokens ≤ i → (head rest : List Token) → tokens ≡ head ++ rest → kinds_of head ≡ kinds_asked marks → ⊥
-asked_short tokens marks i within short head rest split same = omega (arith, as_long marks head same, ap length split, length-append head rest)
 
 any_default : {A : Type 0} (xs : List A) (i : ℕ) (d e : A) → i < length xs → get_or xs i d ≡ get_or xs i e
 any_default [] i d e inside = absurd (omega arith)

@@ -72,9 +72,6 @@ same_sums (x ∷ xs) (y ∷ ys) kinds q r a b =
 pub are_sum : (tokens : List Token) (sum : List (List ℕ)) → IsSum tokens sum → AreSum (kinds_of tokens) sum tail_kinds
 are_sum tokens sum s = record { are = s.kinds; some = s.some; products = s.products; ends = ends_close }
 
-pub is_sum : (tokens : List Token) (sum : List (List ℕ)) (rest : List TokenKind) → AreSum (kinds_of tokens) sum rest → rest ≡ tail_kinds → IsSum tokens sum
-is_sum tokens sum rest a e = record { kinds = a.are ∙ ap (λ l. sum_kinds sum ++ l) e; some = a.some; products = a.products }
-
 -- what is read is a sum
 pub sum_read : (kinds : List TokenKind) (k : TokenKind) (n : ℕ) (start : List ℕ) (behind : List TokenKind) (product : List ℕ) (behind2 : List TokenKind) (given products : List (List ℕ)) (rest : List TokenKind) → kinds ≡ k ∷ behind → k ≡ literal n → n ≤ greatest
     → start ≡ n ∷ [] → Multiplies start behind product behind2 → Lacks sign.Star behind2 → given ≡ product ∷ [] → Adds given behind2 products rest → Lacks sign.Plus rest → AreSum kinds products rest
@@ -93,9 +90,3 @@ sum_read kinds k n start behind product behind2 given products rest begins numbe
       products = subst (AllByRecursion IsProduct) (sym whole) (p, t.products);
       ends = record { no_factor = t.no_factor lacks; no_term = last };
     }
-
--- a sum begins with a literal
-pub sum_begins : (kinds : List TokenKind) (sum : List (List ℕ)) (rest : List TokenKind) → AreSum kinds sum rest → (n : ℕ) × (behind : List TokenKind) × (n ≤ greatest) × (kinds ≡ literal n ∷ behind)
-sum_begins kinds [] rest a = absurd (a.some refl)
-sum_begins kinds ([] ∷ ps) rest a = absurd (a.products.0.0 refl)
-sum_begins kinds ((n ∷ ns) ∷ ps) rest a = (n, (factor_kinds ns ++ term_kinds ps) ++ rest, a.products.0.1.0, a.are)

@@ -1,5 +1,5 @@
 -- A line's code is refused by one phase and at one place at most.
-use Rattle.std.proofs.Common.{◌≡◌, ℕ, List, Some, codes, sym, ap, ◌∙◌, subst}
+use Rattle.std.proofs.Common.{◌≡◌, ℕ, List, codes, sym, ap, ◌∙◌, subst}
 use Rattle.cad_grammar.specs.declared.phase.Phase.{Phase}
 use Rattle.cad_parse.specs.Program.{Refuses}
 use Rattle.cad_forms.specs.Request.{text_at}

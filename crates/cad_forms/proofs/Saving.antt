@@ -1,7 +1,6 @@
 -- Transactions that save a sum are read exactly.
-use Rattle.std.proofs.Common.{◌≡◌, ◌≢◌, ℕ, ◌≤◌, List, [], ◌∷◌, ◌++◌, Option, Some, None, Result, Ok, Err, IfOk, MatchOption, codes, refl, sym, ◌∙◌, ap, subst, append_assoc, length, arith}
+use Rattle.std.proofs.Common.{◌≡◌, ◌≢◌, ℕ, ◌≤◌, List, [], ◌∷◌, ◌++◌, Option, Some, None, Result, Ok, Err, IfOk, MatchOption, codes, refl, sym, ◌∙◌, ap, subst, append_assoc}
 use Rattle.std.specs.List.{AllByRecursion}
-use Rattle.std.proofs.lemmas.List.{length-map}
 use Rattle.cad_syntax.specs.declared.token.Sign.TheVariants as sign
 use Rattle.cad_syntax.specs.declared.token.TokenKind.{TokenKind}
 use Rattle.cad_syntax.specs.declared.token.TokenKind.TheVariants as kind
@@ -178,14 +177,6 @@ save_exactly seen one code tokens lexes (Ok o) h = code_means seen one code toke
 save_exactly seen one code tokens lexes (Err e) h = tt
 
 -- what is read of a transaction's end and of its sum's begin
-
-pub no_tail : (kinds : List TokenKind) (path : List ℕ) (rest : List Token) → 1 ≤ length rest
-    → kinds ≡ tail_front ++ name path ∷ ((kind.Sign sign.CloseParenthesis ∷ kind.Sign sign.CloseBrace ∷ kind.Sign sign.CloseBrace ∷ []) ++ kinds_of rest) → (p : List ℕ) → kinds ≡ save_tail_kinds p → ⊥
-no_tail kinds path rest some e p f =
-    let close : List TokenKind = kind.Sign sign.CloseParenthesis ∷ kind.Sign sign.CloseBrace ∷ kind.Sign sign.CloseBrace ∷ [] in
-    let w = same_next (name path) (name p) (close ++ kinds_of rest) close (cancel tail_front (name path ∷ (close ++ kinds_of rest)) (name p ∷ close) (sym e ∙ f)) in
-    let none = cancel close (kinds_of rest) [] w.1 in
-    omega (arith, ap length none, length-map rest (λ (t : Token). t.kind))
 
 pub begins_loaded : (kinds behind : List TokenKind) (path product : List ℕ) → product ≡ [] → kinds ≡ load_kinds path ++ behind → (b : List TokenKind) × Begins (Some path) product b × (kinds ≡ b ++ behind)
 begins_loaded kinds behind path product none e = (load_kinds path, subst (λ p. Begins (Some path) p (load_kinds path)) (sym none) loaded, e)

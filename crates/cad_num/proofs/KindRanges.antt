@@ -3,7 +3,7 @@ use Rattle.std.proofs.Common.{◌≡◌, ℕ, ◌-◌, ◌*◌, ◌^◌, true, l
 use Rattle.cad_syntax.specs.Kinds.{greatest, depth}
 use Rattle.cad_syntax.specs.declared.kind.Kind.{Kind}
 use Rattle.cad_syntax.specs.declared.kind.Kind.TheVariants.{Int, Int8, Int16, Int32, Int64, Int128, UInt, UInt8, UInt16, UInt32, UInt64, UInt128, Word8, Word16, Word32, Word64, Word128, Fix64, UFix64, Address}
-use Rattle.cad_num.specs.Numbers.{is_word, is_fixed, count_of}
+use Rattle.cad_num.specs.Numbers.{is_word, count_of}
 
 pub greatest_small : (kind : Kind) → ltb (greatest kind) (2 ^ 128) ≡ true
 greatest_small Int = refl
@@ -51,17 +51,6 @@ word_range Word32 h = record { bits = 32; more = 96; greatest_is = refl; multipl
 word_range Word64 h = record { bits = 64; more = 64; greatest_is = refl; multiple = refl }
 word_range Word128 h = record { bits = 128; more = 0; greatest_is = refl; multiple = refl }
 word_range _ h = cc
-
--- a fixed-point kind has 64 bits
-pub fixed_small : (kind : Kind) → is_fixed kind ≡ true → ltb (greatest kind) (2 ^ 64) ≡ true
-fixed_small Fix64 h = refl
-fixed_small UFix64 h = refl
-fixed_small _ h = cc
-
-pub fixed_shallow : (kind : Kind) → is_fixed kind ≡ true → ltb (depth kind) (2 ^ 64) ≡ true
-fixed_shallow Fix64 h = refl
-fixed_shallow UFix64 h = refl
-fixed_shallow _ h = cc
 
 -- each kind has 2 ^ k integers
 pub record IsBitRange (count : ℕ) : Type 0 where

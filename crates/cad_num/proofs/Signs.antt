@@ -3,35 +3,14 @@ use Rattle.std.specs.Bool.{beq}
 use Rattle.std.proofs.lemmas.Bool.{ne_eqb, lt-ltb}
 use Rattle.std.proofs.Math.Nat.{mul-zero, zero-mul, div-zero, zero-div}
 use Rattle.std.proofs.Common.{eqb, ltb, zero, suc, ◌&&◌, ap, ◌∙◌, ◌≡◌, ℕ, ◌+◌, ◌-◌, ◌*◌, ◌/◌, ◌≤◌, Bool, true, false, not, pos, ◌+ℤ◌, ◌*ℤ◌, refl, arith}
-use Rattle.std.proofs.lemmas.Int.{ints}
 use Rattle.std.specs.Prelude.{int_div}
 use Rattle.cad_syntax.specs.Kinds.{signed}
-
-pub sum_same : (s : Bool) (m n : ℕ) → signed s m +ℤ signed s n ≡ signed s (m + n)
-sum_same true m n = omega (arith, ints)
-sum_same false m n = refl
-
-pub sum_larger : (s t : Bool) (m n : ℕ) → (s ≡ t → ⊥) → n ≤ m → signed s m +ℤ signed t n ≡ signed s (m - n)
-sum_larger true false m n h le = omega (arith, ints)
-sum_larger false true m n h le = omega (arith, ints)
-sum_larger true true m n h le = absurd (h refl)
-sum_larger false false m n h le = absurd (h refl)
-
-pub sum_smaller : (s t : Bool) (m n : ℕ) → (s ≡ t → ⊥) → m ≤ n → signed s m +ℤ signed t n ≡ signed t (n - m)
-sum_smaller true false m n h le = omega (arith, ints)
-sum_smaller false true m n h le = omega (arith, ints)
-sum_smaller true true m n h le = absurd (h refl)
-sum_smaller false false m n h le = absurd (h refl)
 
 -- negative zero is zero
 pub signed-unsigned_zero : (s : Bool) (m : ℕ) → signed (s && not (eqb m 0)) m ≡ signed s m
 signed-unsigned_zero true zero = refl
 signed-unsigned_zero true (suc m) = rw (ne_eqb (suc m) 0 (λ e. omega arith)) refl
 signed-unsigned_zero false m = refl
-
-pub signed-zero : (s : Bool) → signed s 0 ≡ pos 0
-signed-zero true = refl
-signed-zero false = refl
 
 pub product : (s t : Bool) (m n : ℕ) → signed s m *ℤ signed t n ≡ signed (not (beq s t)) (m * n)
 product false false m n = refl

@@ -1,5 +1,5 @@
 -- Access: what is read is spelled, and what is spelled is read.
-use Rattle.std.proofs.Common.{◌≡◌, ℕ, ◌<◌, Bool, true, false, if◌then◌else◌, List, [], ◌∷◌, length, codes, Option, Some, None, refl, sym, ap, ◌∙◌, ◌⊎◌, inl, inr, arith}
+use Rattle.std.proofs.Common.{◌≡◌, ℕ, ◌<◌, true, false, if◌then◌else◌, List, [], ◌∷◌, length, codes, Option, Some, None, refl, sym, ap, ◌∙◌, ◌⊎◌, arith}
 use Rattle.cad_syntax.specs.declared.token.Sign.{Sign}
 use Rattle.cad_syntax.specs.declared.token.Sign.TheVariants as s
 use Rattle.cad_syntax.specs.declared.token.Keyword.TheVariants as k
@@ -10,7 +10,7 @@ use Rattle.cad_grammar.specs.declared.type_expr.Entitlements.{Entitlements}
 use Rattle.cad_grammar.specs.declared.type_expr.Entitlements.TheVariants as entitlements
 use Rattle.cad_grammar.specs.declared.declaration.Access.{Access}
 use Rattle.cad_grammar.specs.declared.declaration.Access.TheVariants as access
-use Rattle.cad_grammar.specs.Spots.{Spot, back, read, after, keyword, word, name, opening, either}
+use Rattle.cad_grammar.specs.Spots.{Spot, read, after, keyword, word, name, opening, either}
 use Rattle.cad_grammar.specs.Lists.{Listed}
 use Rattle.cad_grammar.specs.Lists as l
 use Rattle.cad_grammar.specs.TypeGrammar.{Dotted, Entitled}
@@ -19,8 +19,8 @@ use Rattle.cad_grammar.specs.ProgramGrammar.{plain_access_named, plain_access_of
 use Rattle.cad_grammar.specs.ProgramGrammar as g
 use Rattle.cad_parse_type.specs.Reading.{dotted, entitled}
 use Rattle.cad_parse.specs.Reading.{plain_access, mapping_access, entitled_access, allows, accessed}
-use Rattle.cad_parse_type.proofs.Heads.{none_of, other, some_same, then_some, Taken, read_taken, read_head, read_shorter, head, after_head, after_shorter, keyword_shorter, opening_shorter, name_head, name_no_sign, sign_no_name, resumed_head, head_same}
-use Rattle.cad_parse_type.proofs.Climbs.{then_is, then_not, either_is, either_not, IfFound, then_found, either_found, found_is}
+use Rattle.cad_parse_type.proofs.Heads.{none_of, other, some_same, then_some, read_taken, read_head, read_shorter, head, after_head, after_shorter, keyword_shorter, opening_shorter, name_head, resumed_head, head_same}
+use Rattle.cad_parse_type.proofs.Climbs.{then_is, either_is, either_not, IfFound, then_found, either_found, found_is}
 use Rattle.cad_parse_type.proofs.ListLaws.{IsSound}
 use Rattle.cad_parse_type.proofs.TypeLaws.{TypeLaws}
 use Rattle.cad_parse_type.proofs.NameLaws.{dotted_head}
@@ -170,9 +170,6 @@ module _ (types : TypeLaws) where
 
   pub access_shorter : {p q : Spot} {c : Access} → ReadsAccess p c q → length q.tokens < length p.tokens
   access_shorter (g.allowed {p} {q} {r} e f d) = omega (arith, keyword_shorter k.Access p q e, opening_shorter s.OpenParenthesis q r f, allows_shorter d)
-
-pub access_left : {p q : Spot} {c : Access} → ReadsAccess p c q → q.left ≡ p.left
-access_left (g.allowed e f d) = refl
 
 pub access_word : {p q : Spot} {c : Access} → ReadsAccess p c q → (u : Spot) × (keyword k.Access p ≡ Some u)
 access_word (g.allowed {q} e f d) = (q, e)

@@ -1,5 +1,5 @@
 -- What parse_program answers.
-use Rattle.std.proofs.Common.{◌≡◌, ℕ, List, [], ◌∷◌, length, Result, Ok, Err, IfOk, refl, sym, ap, ◌∙◌, subst, arith}
+use Rattle.std.proofs.Common.{◌≡◌, ℕ, List, [], ◌∷◌, length, Result, Ok, Err, IfOk, refl, sym, ◌∙◌, subst, arith}
 use Rattle.cad_syntax.specs.declared.token.Token.{Token}
 use Rattle.cad_syntax.specs.Lexes.{Lexes, Stops}
 use Rattle.cad_grammar.specs.declared.phase.Phase.{Phase}
@@ -8,9 +8,9 @@ use Rattle.cad_grammar.specs.declared.declaration.Program.{Program}
 use Rattle.cad_grammar.specs.Trees.{ProgramTree}
 use Rattle.cad_grammar.specs.Views.{program_of}
 use Rattle.cad_grammar.specs.ProgramGrammar.{Spells}
-use Rattle.cad_parse.specs.Program.{Parses, EndsAt, Unparsed, Refuses}
+use Rattle.cad_parse.specs.Program.{Parses, EndsAt, Refuses}
 use Rattle.cad_parse.specs.declared.program.ParseStop.{ParseStop}
-use Rattle.cad_parse.specs.declared.program.ParseStop.TheVariants.{At, Memory}
+use Rattle.cad_parse.specs.declared.program.ParseStop.TheVariants.{At}
 
 -- a stop at a place of a phase
 pub phase_same : {phase other : Phase} {m n : ℕ} → ◌≡◌ {A = Result Program ParseStop} (Err (At phase m)) (Err (At other n)) → phase ≡ other

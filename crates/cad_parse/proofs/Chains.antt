@@ -1,10 +1,10 @@
 -- Items one after another, as long as one can be read.
-use Rattle.std.proofs.Common.{◌≡◌, ◌⊎◌, inl, inr, ℕ, zero, suc, ◌<◌, ◌≤◌, List, [], ◌∷◌, ◌++◌, length, Option, Some, None, refl, sym, ap, ◌∙◌, arith, append-nil, append_assoc}
+use Rattle.std.proofs.Common.{◌≡◌, ◌⊎◌, ℕ, zero, suc, ◌<◌, ◌≤◌, List, [], ◌∷◌, ◌++◌, length, Some, None, refl, sym, ap, ◌∙◌, append-nil, append_assoc}
 use Rattle.cad_grammar.specs.Spots.{Spot, either}
 use Rattle.cad_grammar.specs.ProgramGrammar.{Chain}
 use Rattle.cad_grammar.specs.ProgramGrammar as g
 use Rattle.cad_parse_type.specs.Reading.{Reader, climb, appended}
-use Rattle.cad_parse_type.proofs.Climbs.{either_is, either_not, cases_of, Shrinks, climb_more, climb_gives, climb_stops, climb_keeps, IfFound, found_is}
+use Rattle.cad_parse_type.proofs.Climbs.{either_is, either_not, cases_of, Shrinks, climb_more, climb_gives, climb_stops, climb_keeps, found_is}
 use Rattle.cad_parse.specs.Reading.{chain}
 
 module _ {A : Type 0} (item : Reader A) where

@@ -11,7 +11,7 @@ use Rattle.cad_grammar.specs.Trees.{FunctionBlockTree, FunctionTree, InitTree, F
 use Rattle.cad_grammar.specs.Spots.{Spot, read, after, keyword, name, opened, opening}
 use Rattle.cad_grammar.specs.Levels.{token_strength}
 use Rattle.cad_grammar.specs.StatementGrammar.{variable_word, variable_kind_of}
-use Rattle.cad_grammar.specs.ProgramGrammar.{composite_kind_of, viewed, ReadsAccess, FunctionWith, ReadsFunction, ReadsInit, ReadsField, ReadsInterfaceField, EventHead, ReadsEvent, ReadsCompositeMember, ReadsInterfaceMember, Conforms, Conforming, ReadsComposite, ReadsInterface}
+use Rattle.cad_grammar.specs.ProgramGrammar.{composite_kind_of, viewed, ReadsAccess, FunctionWith, ReadsInit, ReadsField, ReadsInterfaceField, EventHead, ReadsEvent, ReadsCompositeMember, ReadsInterfaceMember, Conforms, Conforming, ReadsComposite, ReadsInterface}
 use Rattle.cad_grammar.specs.ProgramGrammar as g
 use Rattle.cad_parse_type.specs.Reading.{dotted_list}
 use Rattle.cad_parse_type.proofs.TypeLaws.{TypeLaws}

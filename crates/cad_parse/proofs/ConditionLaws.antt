@@ -1,5 +1,5 @@
 -- Conditions: what is read is spelled, and what is spelled is read.
-use Rattle.std.proofs.Common.{◌≡◌, ℕ, zero, suc, ◌<◌, ◌≤◌, Bool, true, false, List, [], ◌∷◌, ◌++◌, length, Option, Some, None, refl, sym, ap, ◌∙◌, ◌⊎◌, inl, inr, subst, arith, append-nil, append_assoc}
+use Rattle.std.proofs.Common.{◌≡◌, ℕ, zero, suc, ◌<◌, ◌≤◌, true, List, [], ◌∷◌, ◌++◌, length, Option, Some, None, refl, sym, ap, ◌∙◌, ◌⊎◌, inl, inr, subst, arith, append-nil, append_assoc}
 use Rattle.cad_syntax.specs.declared.token.Sign.TheVariants as s
 use Rattle.cad_syntax.specs.declared.token.Keyword.{Keyword}
 use Rattle.cad_syntax.specs.declared.token.Keyword.TheVariants as k
@@ -15,9 +15,9 @@ use Rattle.cad_grammar.specs.ProgramGrammar as g
 use Rattle.cad_parse_type.specs.Reading.{maybe}
 use Rattle.cad_parse_expr.specs.Reading.{expression}
 use Rattle.cad_parse.specs.Reading.{repeated, emitted, plain, condition, parted_condition, condition_list, conditions, conditions_behind}
-use Rattle.cad_parse_type.proofs.Heads.{none_of, some_same, then_some, head_start, after_head, after_shorter, after_left, keyword_shorter, keyword_left, keyword_head, opening_shorter}
+use Rattle.cad_parse_type.proofs.Heads.{none_of, some_same, then_some, head_start, after_head, after_shorter, keyword_shorter, keyword_head, opening_shorter}
 use Rattle.cad_parse_type.proofs.Climbs.{then_is, either_is, either_not, IfFound, then_found, either_found, found_is, found_weaker}
-use Rattle.cad_parse_type.proofs.ListLaws.{IsSound, IsRead, maybe_sound, maybe_exact, maybe_short, maybe_left}
+use Rattle.cad_parse_type.proofs.ListLaws.{IsSound, IsRead, maybe_sound, maybe_exact, maybe_short}
 use Rattle.cad_parse_expr.proofs.ExpressionLaws.{ExpressionLaws}
 use Rattle.cad_parse_statement.proofs.Facts.{Begins, parted_is, parted_short, plainly_begins, begins_weak}
 use Rattle.cad_parse.proofs.Found.{As, sound, if_found_by, if_is, sign_weak}
@@ -167,9 +167,3 @@ module _ (expressions : ExpressionLaws) where
 
   pub behind_short : {p q : Spot} {c : Option (List ConditionTree)} → (asked : Keyword) → l.Maybe (keyword asked) Conditions p c q → length q.tokens ≤ length p.tokens
   behind_short asked d = maybe_short (λ p q e. omega (arith, keyword_shorter asked p q e)) (λ p q a d. omega (arith, conditions_shorter d)) d
-
-conditions_left : {p q : Spot} {all : List ConditionTree} → Conditions p all q → q.left ≡ p.left
-conditions_left (g.conditions e d) = refl
-
-pub behind_left : {p q : Spot} {c : Option (List ConditionTree)} → (asked : Keyword) → l.Maybe (keyword asked) Conditions p c q → q.left ≡ p.left
-behind_left asked d = maybe_left (λ p q e. keyword_left asked p q e) (λ p q a d. conditions_left d) d

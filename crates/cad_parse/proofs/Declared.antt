@@ -7,7 +7,7 @@ use Rattle.cad_grammar.specs.declared.declaration.Import.{Import}
 use Rattle.cad_grammar.specs.Trees as tree
 use Rattle.cad_grammar.specs.Trees.{FunctionTree, ContractTree, TransactionTree, DeclTree}
 use Rattle.cad_grammar.specs.Spots.{Spot, keyword}
-use Rattle.cad_grammar.specs.ProgramGrammar.{ReadsAccess, ReadsFunction, ReadsContract, ReadsTransaction, ReadsDecl, ReadsImport}
+use Rattle.cad_grammar.specs.ProgramGrammar.{ReadsAccess, ReadsContract, ReadsTransaction, ReadsDecl, ReadsImport}
 use Rattle.cad_grammar.specs.ProgramGrammar as g
 use Rattle.cad_parse_type.proofs.TypeLaws.{TypeLaws}
 use Rattle.cad_parse_type.proofs.Heads.{keyword_head}

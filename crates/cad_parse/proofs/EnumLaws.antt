@@ -26,22 +26,9 @@ use Rattle.cad_parse_type.proofs.Climbs.{then_is, either_is, either_not, IfFound
 use Rattle.cad_parse.specs.Reading as r
 use Rattle.cad_parse.proofs.MemberLaws.{MemberLaws}
 use Rattle.cad_parse.proofs.Firsts.{Begins, begins_weak, begins_no_sign, named_begins, word_head}
+use Rattle.cad_parse.proofs.ParameterLaws.{labelled_is, labelled_exact}
 use Rattle.cad_parse.proofs.RepeatedLaws.{As, ItemLaws, repeated_sound, repeated_shorter, repeated_exact}
 use Rattle.cad_parse.proofs.CompositeLaws.{access_begins}
-
--- ---- a name and ":"
-
-pub labelled_is : (p : Spot) (x : Name × Spot) → r.labelled p ≡ Some x → (q : Spot) × (name p ≡ Some (x.0, q)) × (after s.Colon q ≡ Some x.1)
-unfolding r.labelled
-labelled_is p x e =
-    let w = then_some (name p) _ x e in
-    let v = then_some (after s.Colon w.0.1) _ x w.2 in
-    let same = some_same (w.0.0, v.0) x v.2 in
-    (w.0.1, w.1 ∙ ap (λ y. Some (y.0, w.0.1)) same, v.1 ∙ ap (λ y. Some y.1) same)
-
-pub labelled_exact : (p q u : Spot) (n : Name) → name p ≡ Some (n, q) → after s.Colon q ≡ Some u → r.labelled p ≡ Some (n, u)
-unfolding r.labelled
-labelled_exact p q u n e f = then_is (name p) _ (n, q) e ∙ then_is (after s.Colon q) _ u f
 
 -- ---- where a name stands before a sign
 

@@ -1,7 +1,6 @@
 -- What holds of what is found, and of the token that comes next.
-use Rattle.std.proofs.Common.{◌≡◌, ℕ, ◌<◌, Bool, true, false, if◌then◌else◌, List, [], ◌∷◌, length, codes, Option, Some, None, refl, sym, ap, ◌∙◌, arith}
+use Rattle.std.proofs.Common.{◌≡◌, ℕ, ◌<◌, Bool, true, false, if◌then◌else◌, List, [], ◌∷◌, length, Option, Some, None, refl, sym, ap, ◌∙◌}
 use Rattle.cad_syntax.specs.declared.token.Sign.{Sign}
-use Rattle.cad_syntax.specs.declared.token.Sign.TheVariants as s
 use Rattle.cad_syntax.specs.declared.token.Keyword.{Keyword}
 use Rattle.cad_syntax.specs.declared.token.TokenKind.{TokenKind}
 use Rattle.cad_syntax.specs.declared.token.TokenKind.TheVariants as kind
@@ -10,7 +9,7 @@ use Rattle.cad_syntax.specs.declared.text.Name.{Name}
 use Rattle.cad_grammar.specs.Spots.{Spot, behind, read, name_of, is_word, after, keyword, word, name}
 use Rattle.cad_grammar.specs.Levels.{kind_strength, token_strength}
 use Rattle.cad_parse_type.specs.Reading.{Reader}
-use Rattle.cad_parse_type.proofs.Heads.{none_of, some_same, Taken, next_taken, read_taken, next_shorter, next_left, head_of, head, keyword_head, name_head, read_not, head_strength, after_strength}
+use Rattle.cad_parse_type.proofs.Heads.{none_of, some_same, Taken, next_taken, read_taken, next_shorter, head_of, head, keyword_head, after_strength}
 use Rattle.cad_parse_type.proofs.Climbs.{IfFound, found_is}
 use Rattle.cad_parse_type.proofs.ListLaws.{IsSound}
 
@@ -49,9 +48,6 @@ word_taken text p q e = (next_taken _ p q e).0
 pub word_shorter : (text : List ℕ) (p q : Spot) → word text p ≡ Some q → length q.tokens < length p.tokens
 word_shorter text p q e = next_shorter _ p q e
 
-pub word_left : (text : List ℕ) (p q : Spot) → word text p ≡ Some q → q.left ≡ p.left
-word_left text p q e = next_left _ p q e
-
 is_word_name : (text : List ℕ) (found : TokenKind) → is_word text found ≡ true → (n : Name) × (found ≡ kind.Name n)
 is_word_name text (kind.Name n) e = (n, refl)
 is_word_name text _ e = cc
@@ -85,10 +81,6 @@ other_keyword a b p ne e = none_of (keyword b p) (λ q f. ne (same (kinds_same (
     same e = cc e
 
 -- ---- what goes on nothing
-
--- before a kind of token of strength 0
-pub head_weak : (p : Spot) (found : TokenKind) → ((b : Bool) → kind_strength b found ≡ 0) → head p ≡ Some found → token_strength p ≡ 0
-head_weak p found h e = let w = head_strength p found e in w.1 ∙ h w.0
 
 pub sign_weak : (sign : Sign) (p q : Spot) → ((b : Bool) → kind_strength b (kind.Sign sign) ≡ 0) → after sign p ≡ Some q → token_strength p ≡ 0
 sign_weak sign p q h e = let w = after_strength sign p q e in w.1 ∙ h w.0

@@ -1,31 +1,30 @@
 -- Blocks of functions, functions and initializers: what is read is spelled, and what is spelled is read.
-use Rattle.std.proofs.Common.{◌≡◌, ℕ, ◌<◌, ◌≤◌, Bool, true, false, List, [], ◌∷◌, length, codes, Option, Some, None, refl, sym, ap, ◌∙◌, ◌⊎◌, inl, inr, arith}
+use Rattle.std.proofs.Common.{◌≡◌, ℕ, ◌<◌, ◌≤◌, Bool, true, false, [], ◌∷◌, length, codes, Option, Some, None, refl, sym, ap, ◌∙◌, ◌⊎◌, inl, inr, arith}
 use Rattle.cad_syntax.specs.declared.token.Sign.TheVariants as s
 use Rattle.cad_syntax.specs.declared.token.Keyword.{Keyword}
 use Rattle.cad_syntax.specs.declared.token.Keyword.TheVariants as k
-use Rattle.cad_syntax.specs.declared.token.TokenKind.{TokenKind}
 use Rattle.cad_syntax.specs.declared.token.TokenKind.TheVariants as kind
 use Rattle.cad_syntax.specs.declared.text.Name.{Name}
 use Rattle.cad_grammar.specs.declared.declaration.Access.{Access}
-use Rattle.cad_grammar.specs.Trees.{Annotation, StmtTree, ParameterTree, ConditionTree, FunctionBlockTree, FunctionTree, InitTree}
+use Rattle.cad_grammar.specs.Trees.{FunctionBlockTree, FunctionTree, InitTree}
 use Rattle.cad_grammar.specs.Spots.{Spot, then, either, after, keyword, word, name, opening}
-use Rattle.cad_grammar.specs.Levels.{kind_strength, token_strength}
+use Rattle.cad_grammar.specs.Levels.{token_strength}
 use Rattle.cad_grammar.specs.StatementGrammar.{variable_kind_of, variable_word}
 use Rattle.cad_grammar.specs.ProgramGrammar.{ReadsAccess, ReadsFunction, FunctionBlock, FunctionWith, Blocked, MaybeBlocked, ReadsInit, viewed}
 use Rattle.cad_grammar.specs.ProgramGrammar as g
 use Rattle.cad_parse_statement.specs.Reading.{maybe_annotated, statements_in}
 use Rattle.cad_parse.specs.Reading.{labelled, parameters, conditions_behind, function_block, blocked, maybe_blocked, block_of, function_with, initializer}
-use Rattle.cad_parse_type.proofs.Heads.{none_of, some_same, then_some, head, after_head, name_head, keyword_head, keyword_shorter, keyword_left, keyword_no_sign, keyword_no_name, read_not, after_shorter, name_shorter, name_left, opening_shorter, opening_is}
+use Rattle.cad_parse_type.proofs.Heads.{none_of, then_some, head, keyword_head, keyword_shorter, keyword_no_sign, keyword_no_name, read_not, after_shorter, name_shorter, opening_shorter, opening_is}
 use Rattle.cad_parse_type.proofs.Climbs.{then_is, either_is, either_not, cases_of, IfFound, then_found, either_found, found_is}
 use Rattle.cad_parse_type.proofs.ListLaws.{IsSound}
 use Rattle.cad_parse_type.proofs.TypeLaws.{TypeLaws}
 use Rattle.cad_parse_expr.proofs.ExpressionLaws.{ExpressionLaws}
 use Rattle.cad_parse_statement.proofs.StatementLaws.{StatementLaws}
 use Rattle.cad_parse.proofs.MemberLaws.{FunctionRead, InitRead}
-use Rattle.cad_parse.proofs.Found.{As, sound, taken_same, name_taken, word_taken, word_head, word_shorter, word_left, head_weak, sign_weak}
-use Rattle.cad_parse.proofs.AccessLaws.{access_shorter, access_left, access_word}
-use Rattle.cad_parse.proofs.ParameterLaws.{labelled_is, parameters_sound, parameters_exact, parameters_shorter, parameters_left, annotated_sound, annotated_exact, annotated_short, annotated_left}
-use Rattle.cad_parse.proofs.ConditionLaws.{behind_sound, behind_exact, behind_short, behind_left}
+use Rattle.cad_parse.proofs.Found.{As, sound, taken_same, name_taken, word_taken, word_head, word_shorter, sign_weak}
+use Rattle.cad_parse.proofs.AccessLaws.{access_shorter}
+use Rattle.cad_parse.proofs.ParameterLaws.{labelled_is, parameters_sound, parameters_exact, parameters_shorter, annotated_sound, annotated_exact, annotated_short}
+use Rattle.cad_parse.proofs.ConditionLaws.{behind_sound, behind_exact, behind_short}
 
 -- ---- `view` and a keyword
 
@@ -41,18 +40,6 @@ viewed_shorter asked p x e =
     same : (a b : Bool × Spot) → Some a ≡ Some b → a ≡ b
     same a b e = cc
 
-pub viewed_left : (asked : Keyword) (p : Spot) (x : Bool × Spot) → viewed asked p ≡ Some x → x.1.left ≡ p.left
-unfolding viewed
-viewed_left asked p x e =
-    cases_of _ (word (codes "view") p)
-    (λ f. let w = then_some (keyword asked p) _ x (sym (either_not (word (codes "view") p) _ _ f) ∙ e) in
-    sym (ap (λ y. y.1.left) (same (false, w.0) x w.2)) ∙ keyword_left asked p w.0 w.1)
-    (λ q f. let w = then_some (keyword asked q) _ x (sym (either_is (word (codes "view") p) _ _ q f) ∙ e) in
-    sym (ap (λ y. y.1.left) (same (true, w.0) x w.2)) ∙ keyword_left asked q w.0 w.1 ∙ word_left (codes "view") p q f)
-  where
-    same : (a b : Bool × Spot) → Some a ≡ Some b → a ≡ b
-    same a b e = cc
-
 -- the keyword, or the name `view`, comes next
 pub viewed_head : (asked : Keyword) (p : Spot) (x : Bool × Spot) → viewed asked p ≡ Some x → (head p ≡ Some (kind.Keyword asked)) ⊎ ((n : Name) × (head p ≡ Some (kind.Name n)))
 unfolding viewed
@@ -60,18 +47,6 @@ viewed_head asked p x e =
     cases_of _ (word (codes "view") p)
     (λ f. let w = then_some (keyword asked p) _ x (sym (either_not (word (codes "view") p) _ _ f) ∙ e) in inl (keyword_head asked p w.0 w.1))
     (λ q f. inr (word_head (codes "view") p q f))
-
--- behind the name `view` the keyword comes next
-pub viewed_behind : (asked : Keyword) (p q : Spot) (x : Bool × Spot) → viewed asked p ≡ Some x → word (codes "view") p ≡ Some q → head q ≡ Some (kind.Keyword asked)
-unfolding viewed
-viewed_behind asked p q x e f = let w = then_some (keyword asked q) _ x (sym (either_is (word (codes "view") p) _ _ q f) ∙ e) in keyword_head asked q w.0 w.1
-
-pub viewed_weak : (asked : Keyword) (p : Spot) (x : Bool × Spot) → ((b : Bool) → kind_strength b (kind.Keyword asked) ≡ 0) → viewed asked p ≡ Some x → token_strength p ≡ 0
-viewed_weak asked p x h e = by_head (viewed_head asked p x e)
-  where
-    by_head : (head p ≡ Some (kind.Keyword asked)) ⊎ ((n : Name) × (head p ≡ Some (kind.Name n))) → token_strength p ≡ 0
-    by_head (inl f) = head_weak p (kind.Keyword asked) h f
-    by_head (inr w) = head_weak p (kind.Name w.0) (λ b. refl) w.1
 
 -- it is neither a variable's word nor a name before a `:`
 pub viewed_no_variable : (asked : Keyword) (p : Spot) (x : Bool × Spot) → variable_kind_of (kind.Keyword asked) ≡ None → viewed asked p ≡ Some x → variable_word p ≡ None
@@ -228,18 +203,3 @@ block_left _ _ _ true (g.a_block (g.function_block e a b d c)) = refl
 block_left _ _ _ false (g.blocked (g.function_block e a b d c)) = refl
 
 module _ (types : TypeLaws) where
-  pub function_left : {p q : Spot} {f : FunctionTree} → (in_interface : Bool) → FunctionWith (BlockOf in_interface) p f q → q.left ≡ p.left
-  function_left in_interface (g.function {p} {q} {r} {u} {v} {w} {x} {is_view} {n} c e1 e2 d a b) =
-      block_left _ _ _ in_interface b ∙ annotated_left types a ∙ parameters_left d ∙ name_left r (n, u) e2 ∙ viewed_left k.Fun q (is_view, r) e1 ∙ access_left c
-
-  pub init_left : {p q : Spot} {i : InitTree} → ReadsInit p i q → q.left ≡ p.left
-  init_left (g.init {p} {q} {r} {u} {is_view} e d (g.function_block f a b h c)) = parameters_left d ∙ viewed_left k.Init p (is_view, q) e
-
-pub access_weak : {p q : Spot} {c : Access} → ReadsAccess p c q → token_strength p ≡ 0
-access_weak {p} d = let w = access_word d in head_weak p (kind.Keyword k.Access) (λ b. refl) (keyword_head k.Access p w.0 w.1)
-
-pub function_weak : {HasBlock : Spot → Option FunctionBlockTree → Spot → Type 0} {p q : Spot} {f : FunctionTree} → FunctionWith HasBlock p f q → token_strength p ≡ 0
-function_weak (g.function c e1 e2 d a b) = access_weak c
-
-pub init_weak : {p q : Spot} {i : InitTree} → ReadsInit p i q → token_strength p ≡ 0
-init_weak (g.init {p} {q} {is_view} e d f) = viewed_weak k.Init p (is_view, q) (λ b. refl) e

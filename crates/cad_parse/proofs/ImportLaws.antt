@@ -1,5 +1,5 @@
 -- Imports: what is read is spelled, and what is spelled is read.
-use Rattle.std.proofs.Common.{◌≡◌, ℕ, zero, suc, ◌<◌, ◌≤◌, List, [], ◌∷◌, ◌++◌, length, codes, Option, Some, None, refl, sym, ap, ◌∙◌, subst, arith, append-nil, append_assoc}
+use Rattle.std.proofs.Common.{◌≡◌, ℕ, zero, suc, ◌<◌, ◌≤◌, List, [], ◌∷◌, ◌++◌, length, codes, Some, None, sym, ap, ◌∙◌, subst, arith, append-nil, append_assoc}
 use Rattle.cad_syntax.specs.declared.token.Sign.TheVariants as s
 use Rattle.cad_syntax.specs.declared.token.Keyword.TheVariants as k
 use Rattle.cad_syntax.specs.declared.text.Name.{Name}
@@ -9,7 +9,7 @@ use Rattle.cad_grammar.specs.ProgramGrammar.{hexadecimal_of, origin, ImportedNam
 use Rattle.cad_grammar.specs.ProgramGrammar as g
 use Rattle.cad_parse.specs.Reading.{imported, import}
 use Rattle.cad_parse_type.proofs.Heads.{none_of, then_some, after_head, after_shorter, keyword_shorter, name_shorter, read_shorter}
-use Rattle.cad_parse_type.proofs.Climbs.{then_is, either_is, either_not, IfFound, then_found, either_found, found_is, found_weaker, Shrinks}
+use Rattle.cad_parse_type.proofs.Climbs.{then_is, either_is, either_not, IfFound, then_found, either_found, found_weaker, Shrinks}
 use Rattle.cad_parse.proofs.Found.{As, sound, sign_no_word, word_shorter}
 
 -- `from` and an address

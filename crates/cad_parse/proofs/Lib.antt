@@ -18,4 +18,3 @@ pub mod Programs
 pub mod RepeatedLaws
 pub mod TransactionLaws
 pub mod Whole
-mod Turns

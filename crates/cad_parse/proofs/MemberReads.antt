@@ -1,5 +1,5 @@
 -- Fields, events and members of interfaces: what is read is spelled, and what is spelled is read.
-use Rattle.std.proofs.Common.{◌≡◌, ℕ, ◌<◌, ◌≤◌, Bool, true, false, if◌then◌else◌, List, [], ◌∷◌, length, Option, Some, None, refl, sym, ap, ◌∙◌, ◌⊎◌, inl, inr, subst, arith}
+use Rattle.std.proofs.Common.{◌≡◌, ℕ, ◌<◌, ◌≤◌, Bool, true, false, if◌then◌else◌, List, [], ◌∷◌, length, Some, None, refl, sym, ap, ◌∙◌, ◌⊎◌, inl, inr, subst, arith}
 use Rattle.cad_syntax.specs.declared.token.Sign.{Sign}
 use Rattle.cad_syntax.specs.declared.token.Sign.TheVariants as s
 use Rattle.cad_syntax.specs.declared.token.Keyword.TheVariants as k
@@ -7,28 +7,27 @@ use Rattle.cad_syntax.specs.declared.token.TokenKind.TheVariants as kind
 use Rattle.cad_syntax.specs.declared.text.Name.{Name}
 use Rattle.cad_grammar.specs.declared.statement.VariableKind.{VariableKind}
 use Rattle.cad_grammar.specs.declared.declaration.Access.{Access}
-use Rattle.cad_grammar.specs.Trees.{FieldTree, FunctionTree, EventParameterTree, EventTree, InterfaceMemberTree}
-use Rattle.cad_grammar.specs.Trees as tree
+use Rattle.cad_grammar.specs.Trees.{FieldTree, EventParameterTree, EventTree, InterfaceMemberTree}
 use Rattle.cad_grammar.specs.Spots.{Spot, back, after, keyword, name, opening}
 use Rattle.cad_grammar.specs.Levels.{sign_strength, token_strength}
 use Rattle.cad_grammar.specs.Lists.{Listed}
 use Rattle.cad_grammar.specs.StatementGrammar.{variable_kind_of, variable_word}
-use Rattle.cad_grammar.specs.ProgramGrammar.{ReadsAccess, ReadsParameter, Typed, ReadsField, ReadsInterfaceField, FunctionWith, EventParameter, is_destruction, EventHead, ReadsEvent, ReadsInterfaceMember}
+use Rattle.cad_grammar.specs.ProgramGrammar.{ReadsAccess, ReadsField, EventParameter, is_destruction, EventHead, ReadsEvent, ReadsInterfaceMember}
 use Rattle.cad_grammar.specs.ProgramGrammar as g
 use Rattle.cad_parse_type.specs.Reading.{annotation}
 use Rattle.cad_parse_expr.specs.Reading.{expression}
 use Rattle.cad_parse.specs.Reading.{accessed, labelled, parameter, function_with, field, event_parameter, event_parameter_list, event_parameters, event, destruction, unsorted, interface_member_with, interface_member}
-use Rattle.cad_parse_type.proofs.Heads.{some_same, then_some, head, name_head, name_no_sign, read_not, keyword_head, keyword_shorter, keyword_left, read_shorter, read_left, after_shorter, after_left, name_shorter, name_left, opening_shorter}
+use Rattle.cad_parse_type.proofs.Heads.{some_same, then_some, head, name_head, name_no_sign, read_not, keyword_shorter, read_shorter, after_shorter, name_shorter, opening_shorter}
 use Rattle.cad_parse_type.proofs.Climbs.{then_is, either_is, either_not, IfFound, then_found, either_found, found_is}
 use Rattle.cad_parse_type.proofs.ListLaws.{IsSound, ReadBefore, listed_sound, listed_read, listed_exact, listed_shorter}
 use Rattle.cad_parse_type.proofs.TypeLaws.{TypeLaws}
 use Rattle.cad_parse_expr.proofs.ExpressionLaws.{ExpressionLaws}
 use Rattle.cad_parse_statement.proofs.StatementLaws.{StatementLaws}
 use Rattle.cad_parse.proofs.MemberLaws.{FieldRead, OpenEventRead, DestructionRead}
-use Rattle.cad_parse.proofs.Found.{As, sound, if_found_by, if_is, head_weak, sign_weak}
-use Rattle.cad_parse.proofs.AccessLaws.{access_sound, access_exact, access_shorter, access_left}
+use Rattle.cad_parse.proofs.Found.{As, sound, if_found_by, if_is, sign_weak}
+use Rattle.cad_parse.proofs.AccessLaws.{access_sound, access_exact, access_shorter}
 use Rattle.cad_parse.proofs.ParameterLaws.{labelled_is, labelled_exact, parameter_name, parameter_sound, parameter_exact, parameter_shorter}
-use Rattle.cad_parse.proofs.FunctionLaws.{BlockOf, function_sound, function_read, function_shorter, function_left, viewed_no_variable, viewed_not_labelled, access_weak, function_weak}
+use Rattle.cad_parse.proofs.FunctionLaws.{function_sound, function_read, function_shorter, viewed_no_variable, viewed_not_labelled}
 
 -- its first token is a name
 event_parameter_name : {p q : Spot} {x : EventParameterTree} → (b : Bool) → EventParameter b p x q → (n : Name) × (head p ≡ Some (kind.Name n))
@@ -71,10 +70,6 @@ module _ (types : TypeLaws) where
   pub field_shorter : {p q : Spot} {f : FieldTree} → ReadsField p f q → length q.tokens < length p.tokens
   field_shorter (g.field d (g.typed {p = word} {q} {r} {u} {kind = found} {n} e1 e2 e3 w)) =
       omega (arith, access_shorter types d, read_shorter variable_kind_of word (found, q) e1, name_shorter q (n, r) e2, after_shorter s.Colon r u e3, types.annotated_shorter w)
-
-  pub field_left : {p q : Spot} {f : FieldTree} → ReadsField p f q → q.left ≡ p.left
-  field_left (g.field d (g.typed {p = word} {q} {r} {u} {kind = found} {n} e1 e2 e3 w)) =
-      types.annotated_left w ∙ after_left s.Colon r u e3 ∙ name_left q (n, r) e2 ∙ read_left variable_kind_of word (found, q) e1 ∙ access_left d
 
   module _ (expressions : ExpressionLaws) where
     -- ---- parameters of events
@@ -191,29 +186,7 @@ module _ (types : TypeLaws) where
     event_shorter (g.open_event d h) = omega (arith, access_shorter types d, event_head_shorter h)
     event_shorter (g.destruction h e) = event_head_shorter h
 
-event_head_left : {p q : Spot} {n : Name} {all : List EventParameterTree} → EventHead p n all q → q.left ≡ p.left
-event_head_left (g.event_head e1 e2 e3 w) = refl
-
-pub event_left : {p q : Spot} {e : EventTree} → ReadsEvent p e q → q.left ≡ p.left
-event_left (g.open_event d h) = event_head_left h ∙ access_left d
-event_left (g.destruction h e) = event_head_left h
-
-pub field_weak : {p q : Spot} {f : FieldTree} → ReadsField p f q → token_strength p ≡ 0
-field_weak (g.field d w) = access_weak d
-
-event_head_weak : {p q : Spot} {n : Name} {all : List EventParameterTree} → EventHead p n all q → token_strength p ≡ 0
-event_head_weak (g.event_head {p} {q} e1 e2 e3 w) = head_weak p (kind.Keyword k.Event) (λ b. refl) (keyword_head k.Event p q e1)
-
-pub event_weak : {p q : Spot} {e : EventTree} → ReadsEvent p e q → token_strength p ≡ 0
-event_weak (g.open_event d h) = access_weak d
-event_weak (g.destruction h e) = event_head_weak h
-
 -- ---- members of interfaces
-
-pub interface_member_weak : {p q : Spot} {m : InterfaceMemberTree} → ReadsInterfaceMember p m q → token_strength p ≡ 0
-interface_member_weak (g.interface_field (g.sorted d)) = field_weak d
-interface_member_weak (g.interface_field (g.unsorted d e f w)) = access_weak d
-interface_member_weak (g.interface_function d) = function_weak d
 
 module _ (types : TypeLaws) (expressions : ExpressionLaws) (statements : StatementLaws) where
   with_found : (p q : Spot) (c : Access) → ReadsAccess p c q → IfFound (As ReadsInterfaceMember p) (interface_member_with c q)
@@ -253,9 +226,3 @@ module _ (types : TypeLaws) (expressions : ExpressionLaws) (statements : Stateme
   interface_member_shorter (g.interface_field (g.unsorted {p} {q} {r} {u} {n} d e f w)) =
       omega (arith, access_shorter types d, name_shorter q (n, r) e, after_shorter s.Colon r u f, types.annotated_shorter w)
   interface_member_shorter (g.interface_function d) = function_shorter types expressions statements true d
-
-  pub interface_member_left : {p q : Spot} {m : InterfaceMemberTree} → ReadsInterfaceMember p m q → q.left ≡ p.left
-  interface_member_left (g.interface_field (g.sorted d)) = field_left types d
-  interface_member_left (g.interface_field (g.unsorted {p} {q} {r} {u} {n} d e f w)) =
-      types.annotated_left w ∙ after_left s.Colon r u f ∙ name_left q (n, r) e ∙ access_left d
-  interface_member_left (g.interface_function d) = function_left types true d

@@ -1,5 +1,5 @@
 -- Parameters: what is read is spelled, and what is spelled is read.
-use Rattle.std.proofs.Common.{◌≡◌, ℕ, ◌<◌, ◌≤◌, Bool, List, [], ◌∷◌, length, Option, Some, None, refl, sym, ap, ◌∙◌, arith}
+use Rattle.std.proofs.Common.{◌≡◌, ℕ, ◌<◌, ◌≤◌, Bool, List, [], ◌∷◌, length, Option, Some, refl, sym, ap, ◌∙◌, arith}
 use Rattle.cad_syntax.specs.declared.token.Sign.{Sign}
 use Rattle.cad_syntax.specs.declared.token.Sign.TheVariants as s
 use Rattle.cad_syntax.specs.declared.token.TokenKind.TheVariants as kind
@@ -15,7 +15,7 @@ use Rattle.cad_grammar.specs.ProgramGrammar as g
 use Rattle.cad_parse_type.specs.Reading.{annotation}
 use Rattle.cad_parse_statement.specs.Reading.{maybe_annotated}
 use Rattle.cad_parse.specs.Reading.{labelled, parameter_behind, parameter, parameter_list, parameters}
-use Rattle.cad_parse_type.proofs.Heads.{none_of, some_same, then_some, head, after_shorter, after_left, name_shorter, name_left, name_head, name_no_sign, opening_shorter}
+use Rattle.cad_parse_type.proofs.Heads.{some_same, then_some, head, after_shorter, after_left, name_shorter, name_head, name_no_sign, opening_shorter}
 use Rattle.cad_parse_type.proofs.Climbs.{then_is, either_is, either_not, IfFound, then_found, either_found}
 use Rattle.cad_parse_type.proofs.ListLaws.{IsSound, IsRead, ReadBefore, listed_sound, listed_read, listed_exact, listed_shorter, maybe_sound, maybe_exact, maybe_short, maybe_left}
 use Rattle.cad_parse_type.proofs.TypeLaws.{TypeLaws}
@@ -128,6 +128,3 @@ module _ (types : TypeLaws) where
 
   pub annotated_left : {p q : Spot} {a : Option Annotation} → MaybeAnnotated p a q → q.left ≡ p.left
   annotated_left d = maybe_left (λ p q e. after_left s.Colon p q e) (λ p q a d. types.annotated_left d) d
-
-pub parameters_left : {p q : Spot} {all : List ParameterTree} → Parameters p all q → q.left ≡ p.left
-parameters_left (g.parameters e d) = refl

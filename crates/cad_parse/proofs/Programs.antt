@@ -1,5 +1,5 @@
 -- The longest program, and that there is one at most.
-use Rattle.std.proofs.Common.{◌≡◌, ◌⊎◌, inl, inr, ℕ, ◌<◌, ◌≤◌, List, [], ◌∷◌, length, Option, Some, None, refl, sym, ap, ◌∙◌, subst, arith}
+use Rattle.std.proofs.Common.{◌≡◌, ◌⊎◌, inl, inr, ℕ, ◌<◌, ◌≤◌, List, [], ◌∷◌, length, Some, None, refl, sym, ap, ◌∙◌, subst, arith}
 use Rattle.cad_syntax.specs.declared.token.Token.{Token}
 use Rattle.cad_syntax.specs.Lexes.{Lexes, Stops}
 use Rattle.cad_grammar.specs.declared.phase.Phase.{Phase}
@@ -9,8 +9,8 @@ use Rattle.cad_grammar.specs.Trees.{DeclTree, ProgramTree}
 use Rattle.cad_grammar.specs.Spots.{Spot}
 use Rattle.cad_grammar.specs.ProgramGrammar.{Chain, ReadsImport, ReadsDecl, ReadsProgram, begin, Spells}
 use Rattle.cad_grammar.specs.ProgramGrammar as g
-use Rattle.cad_parse_type.proofs.Climbs.{then_is, cases_of, Shrinks}
-use Rattle.cad_parse.specs.Program.{Parses, EndsAt, Unparsed, Refuses}
+use Rattle.cad_parse_type.proofs.Climbs.{then_is, Shrinks}
+use Rattle.cad_parse.specs.Program.{Parses, EndsAt, Refuses}
 use Rattle.cad_parse.specs.Reading.{chain, import, declaration, imports, declarations, program}
 use Rattle.cad_parse.proofs.Chains.{chain_extends, chain_exact, chain_sound, chain_gives}
 

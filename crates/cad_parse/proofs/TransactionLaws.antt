@@ -25,7 +25,7 @@ use Rattle.cad_parse.specs.Reading as r
 use Rattle.cad_parse.proofs.MemberLaws.{MemberLaws}
 use Rattle.cad_parse.proofs.Firsts.{variable_weak}
 use Rattle.cad_parse.proofs.RepeatedLaws.{As}
-use Rattle.cad_parse.proofs.EnumLaws.{labelled_is, labelled_exact}
+use Rattle.cad_parse.proofs.ParameterLaws.{labelled_is, labelled_exact}
 
 -- ---- options
 

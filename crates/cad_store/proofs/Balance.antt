@@ -1,9 +1,8 @@
 -- What changes add to the size of rows.
-use Rattle.std.proofs.Common.{◌≡◌, ⊎_elim, ℕ, ◌+◌, ◌<◌, ◌≤◌, Bool, true, false, cond, List, [], ◌∷◌, length, drop, get_or, Option, Some, None, refl, sym, ap, subst, ◌∙◌, arith, add-one}
+use Rattle.std.proofs.Common.{◌≡◌, ⊎_elim, ℕ, ◌+◌, ◌<◌, ◌≤◌, Bool, true, false, cond, List, [], ◌∷◌, Option, Some, None, refl, sym, ap, subst, ◌∙◌, arith}
 use Rattle.std.specs.Prelude.{sum_by, IsTrue, ◌↔◌}
 use Rattle.std.proofs.lemmas.Bool.{cases_lt}
 use Rattle.std.proofs.lemmas.List.Sums.{sum_by-cons}
-use Rattle.std.proofs.Math.Seq.{drop-cons}
 use Rattle.cad_wire.specs.declared.entry.Entry.{Entry}
 use Rattle.cad_wire.specs.Body.{are_ascending}
 use Rattle.cad_accounts.specs.declared.row.Row.{Row}
@@ -194,14 +193,6 @@ unfolding total
 balance entries r rows d e up same = omega (arith, balanced entries r rows (distinct_of r d) (distinct_of rows e) (each_once entries up) same, size_is r, size_is rows)
 
 -- ---- entry by entry
-
-pub added_step : (entries : List Entry) (i : ℕ) (x : Entry) → i < length entries → x ≡ get_or entries i x → added (drop i entries) ≡ value_size x.key.0 x.value + added (drop (i + 1) entries)
-added_step entries i x inside is =
-    ap added (drop-cons entries i x inside) ∙ (λ j. value_size (sym is j).key.0 (sym is j).value + added (drop (sym (add-one i) j) entries))
-
-pub replaced_step : (m : Map) (entries : List Entry) (i : ℕ) (x : Entry) → i < length entries → x ≡ get_or entries i x → replaced m (drop i entries) ≡ value_size x.key.0 (m x.key.0) + replaced m (drop (i + 1) entries)
-replaced_step m entries i x inside is =
-    ap (replaced m) (drop-cons entries i x inside) ∙ (λ j. value_size (sym is j).key.0 (m (sym is j).key.0) + replaced m (drop (sym (add-one i) j) entries))
 
 -- ---- over the room, and within it
 

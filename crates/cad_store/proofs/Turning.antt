@@ -12,9 +12,6 @@ pub record Turns (all : List Entry) (first m : Map) (left : List Entry) (count :
   pub is : (key : List ℕ) → applied left m key ≡ applied all first key
   pub count_is : count ≡ length left
 
-pub turns_begin : (all left : List Entry) (m : Map) (count : ℕ) → left ≡ all → count ≡ length left → Turns all m m left count
-turns_begin all left m count e n = record { is = λ key. ap (λ (es : List Entry). applied es m key) e; count_is = n }
-
 pub turns_on : (all : List Entry) (first m n : Map) (x : Entry) (left rest : List Entry) (count less : ℕ) → Turns all first m left count → left ≡ x ∷ rest → less + 1 ≡ count → ((key : List ℕ) → n key ≡ changed x.key.0 x.value m key) → Turns all first n rest less
 turns_on all first m n x left rest count less t e c new =
     let same : n ≡ changed x.key.0 x.value m = λ i key. new key i in
@@ -31,10 +28,6 @@ pub turns_end : (all : List Entry) (first m : Map) (left : List Entry) (count : 
 turns_end all first m left count t zero key =
     let none : left ≡ [] = none_left left (sym zero ∙ t.count_is) in
     ap (λ (es : List Entry). applied es m key) (sym none) ∙ t.is key
-
--- the first of them
-pub fits_first : (x : Entry) (left rest : List Entry) → left ≡ x ∷ rest → All Fits left → Fits x
-fits_first x left rest e h = (All-by_recursion Fits (x ∷ rest) (subst (λ (es : List Entry). All Fits es) e h)).0
 
 pub fits_rest : (x : Entry) (left rest : List Entry) → left ≡ x ∷ rest → All Fits left → All Fits rest
 fits_rest x left rest e h = All-from_recursion Fits rest (All-by_recursion Fits (x ∷ rest) (subst (λ (es : List Entry). All Fits es) e h)).1

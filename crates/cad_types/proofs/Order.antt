@@ -16,9 +16,6 @@ use Rattle.cad_types.specs.Sub as s
 use Rattle.cad_types.specs.Sub.{Sub, is_optional, HasInterface}
 use Rattle.cad_types.specs.Below.{is_never, reaches_resource, by_class, is_path_into, BasicBelow, has_interface, Narrower, Conforms, Below}
 
-absurd_bool : {A : Type 0} (x : Bool) → x ≡ false → x ≡ true → A
-absurd_bool x e f = absurd (false≢true (sym e ∙ f))
-
 not_false : (x : Bool) → not x ≡ true → x ≡ false
 not_false true e = absurd (false≢true e)
 not_false false e = refl

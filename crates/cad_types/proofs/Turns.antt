@@ -2,10 +2,8 @@
 use Rattle.std.proofs.Common.{◌≡◌, ℕ, zero, suc, ◌+◌, ◌<◌, Bool, true, false, ◌&&◌, ◌||◌, List, [], ◌∷◌, length, map, drop, get_or, refl, ap, sym, ◌∙◌, add-one, arith}
 use Rattle.std.proofs.lemmas.Bool.{false≢true}
 use mathlib.Core.Bool.{beq}
-use Rattle.std.specs.List.{list_any, AllZip}
+use Rattle.std.specs.List.{list_any}
 use Rattle.cad_syntax.specs.TypeIds.{same_id, has}
-use Rattle.cad_syntax.specs.Types.{pure_type}
-use Rattle.cad_syntax.specs.declared.types.CadType.{CadType}
 use Rattle.cad_syntax.proofs.Members.{and_both}
 use Rattle.cad_syntax.proofs.Same.{Tells}
 use Rattle.cad_syntax.specs.declared.type_id.TypeId.{TypeId}
@@ -69,10 +67,3 @@ some_of_two p q (x ∷ xs) = ap (λ r. (p x || q x) || r) (some_of_two p q xs) �
 -- an interface is had where it is there itself or one of those there has it
 pub interface_by : (k : List Declaration) (ids : List TypeId) (id : TypeId) → has_interface k ids id ≡ (has ids id || list_any (λ i. has (interfaces_of k i) id) ids)
 interface_by k ids id = some_of_two (λ i. same_id i id) (λ i. has (interfaces_of k i) id) ids
-
--- copies of types are the same types
-pub clones_same : (types copies : List CadType) → AllZip (λ t copy. pure_type copy ≡ pure_type t) types copies → map pure_type copies ≡ map pure_type types
-clones_same [] [] h = refl
-clones_same [] (c ∷ cs) h = absurd h
-clones_same (t ∷ ts) [] h = absurd h
-clones_same (t ∷ ts) (c ∷ cs) h = ap (λ x. x ∷ map pure_type cs) h.0 ∙ ap (λ xs. pure_type t ∷ xs) (clones_same ts cs h.1)

@@ -40,13 +40,6 @@ served_then w u v xs ys o p q h k = record {
 pub front_of : (xs ys : List (List ℕ)) → take (length xs) (xs ++ ys) ≡ xs
 front_of xs ys = take-append-le (length xs) xs ys (omega arith) ∙ take-length xs
 
-pub some_of : (w v : Accounts) (xs ys : List (List ℕ)) (o p : List ℕ) → Served w xs o p v → ServedSome w (xs ++ ys) o p v
-some_of w v xs ys o p h = record {
-  count = length xs;
-  within = omega (arith, length-append xs ys);
-  served = subst (λ l. Served w l o p v) (sym (front_of xs ys)) h;
-}
-
 pub some_then : (w u v : Accounts) (xs ys : List (List ℕ)) (o p q : List ℕ) → Served w xs o p u → ServedSome u ys p q v → ServedSome w (xs ++ ys) o q v
 some_then w u v xs ys o p q h k = record {
   count = length xs + k.count;

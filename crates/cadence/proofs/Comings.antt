@@ -17,7 +17,7 @@ use Rattle.std.specs.List.{AllByRecursion}
 use Rattle.cad_forms.specs.Sums.{IsProduct, greatest}
 use Rattle.cad_forms.specs.Request.{script, account, save, Asks, asks_script, asks_save}
 use Rattle.cadence.specs.Answer as answer
-use Rattle.cadence.specs.Answer.{Answer, Loads, none, loaded, Saves, nothing_there, out_of_range, occupied, saved, Does, made, no_account, saves, error_number}
+use Rattle.cadence.specs.Answer.{Loads, none, loaded, Saves, nothing_there, out_of_range, occupied, saved, Does, made, no_account, saves, error_number}
 use Rattle.cadence.specs.declared.outcome.Outcome.{Outcome}
 use Rattle.cadence.specs.declared.outcome.Outcome.TheVariants.{Stays, Leads as Leading}
 use Rattle.cadence.specs.declared.reply.Reply.TheVariants.{Failed}

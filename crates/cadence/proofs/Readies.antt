@@ -1,5 +1,5 @@
 -- What is ready in answer to a line.
-use Rattle.std.proofs.Common.{◌≡◌, ◌≢◌, ℕ, ◌≤◌, ◌<◌, Bool, true, false, ltb, List, [], ◌∷◌, length, Result, Ok, Err, IfOk, refl, sym, ◌∙◌, ap, subst}
+use Rattle.std.proofs.Common.{◌≡◌, ◌≢◌, ℕ, ◌≤◌, ◌<◌, true, false, ltb, List, [], ◌∷◌, length, Result, Ok, Err, IfOk, refl, sym, ◌∙◌, ap, subst}
 use Rattle.std.proofs.lemmas.List.{take_all}
 use Rattle.std.proofs.lemmas.Bool.Decides.{nat_tests}
 use Rattle.std.proofs.Common.{arith}
@@ -11,7 +11,7 @@ use Rattle.cad_accounts.proofs.Existing.{rows_exist}
 use Rattle.cad_forms.specs.Request.{Request, Asks}
 use Rattle.cad_store.specs.declared.store.Store.{Store}
 use Rattle.cadence.specs.Answer as answer
-use Rattle.cadence.specs.Answer.{Answer, Answers, too_long, Declines, declined, asks, Does, Commits, unchanged, fits, full, most_bytes, bad, answer_line}
+use Rattle.cadence.specs.Answer.{Answer, Answers, too_long, Declines, declined, asks, Does, Commits, unchanged, fits, full, most_bytes, bad}
 use Rattle.cadence.specs.Held.{Holds, longest}
 use Rattle.cadence.specs.Outcomes.{Comes, IsReady}
 use Rattle.cadence.specs.Views.{answer_of}
@@ -60,10 +60,6 @@ stands_unchanged v old new changes none h stands = subst (λ es. StandsFor (appl
 pub ready_as : {P Q : Answer → Accounts → Type 0} (p : Prepared) (store : Store) → ((a : Answer) (v : Accounts) → P a v → Q a v) → IsReady p store P → IsReady p store Q
 ready_as (Reply text) store f h = (h.0, h.1, f h.0 h.1 h.2, h.3, h.4)
 ready_as (Commit commit text) store f h = (h.0, h.1, h.2, f h.0 h.1 h.3, h.4, h.5, h.6, h.7, h.8)
-
-pub ready_ok : {E : Type 0} {P Q : Answer → Accounts → Type 0} (r : Result Prepared E) (store : Store) → ((a : Answer) (v : Accounts) → P a v → Q a v) → IfOk r (λ p. IsReady p store P) → IfOk r (λ p. IsReady p store Q)
-ready_ok (Ok p) store f h = ready_as p store f h
-ready_ok (Err e) store f h = tt
 
 -- a line that is held
 test_long : (n m : ℕ) → ltb n m ≡ true → n < m

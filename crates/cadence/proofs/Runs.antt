@@ -11,7 +11,7 @@ use Rattle.cadence.specs.Lines.{commands_among, is_command, commands, lines}
 use Rattle.cadence.specs.Held.{Holds}
 use Rattle.cadence.specs.Served.{Served, Begun, Finished}
 use Rattle.cadence.specs.Writing.{Wrote}
-use Rattle.cadence.specs.Crashes.{DiskStands, Survives}
+use Rattle.cadence.specs.Crashes.{Survives}
 use Rattle.cadence.specs.Progress.{Said, Halts, Halted, Going, Goes, Stops}
 use Rattle.cadence.specs.declared.line.Line.{Line}
 use Rattle.cadence.specs.declared.status.Status.{Status}

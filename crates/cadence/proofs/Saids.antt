@@ -1,5 +1,5 @@
 -- One command, and commands in turn: what is said, and what a crash leaves.
-use Rattle.std.proofs.Common.{◌≡◌, ◌≢◌, ◌⊎◌, inl, inr, ℕ, suc, ◌+◌, ◌≤◌, List, [], ◌∷◌, ◌++◌, length, take, Result, Ok, Err, OnOk, refl, sym, ◌∙◌, ap, subst, arith, length-append}
+use Rattle.std.proofs.Common.{◌≡◌, ◌≢◌, ◌⊎◌, inl, inr, ℕ, ◌+◌, ◌≤◌, List, [], ◌∷◌, ◌++◌, length, take, Result, Ok, Err, OnOk, refl, sym, ◌∙◌, ap, subst, arith}
 use Rattle.std.proofs.lemmas.List.{append-nil}
 use Rattle.std.proofs.Math.Seq.{take-length}
 use Rattle.cad_host.specs.declared.host.Tape.{Tape}
@@ -16,13 +16,13 @@ use Rattle.cad_store.specs.declared.place.Place.{Place}
 use Rattle.cad_store.specs.declared.place.Place.TheVariants.{Behind, Onto}
 use Rattle.cad_store.specs.Stores.{DiskHolds, held, IsAt, IsOn, Keeps, BreaksRecord}
 use Rattle.cadence.specs.Answer.{Answer, Answers, answer_line}
-use Rattle.cadence.specs.Served.{AnswersAll, Served, ServedSome, Broken}
-use Rattle.cadence.specs.Writing.{Written, nothing, Wrote, WroteSome, WroteBroken, WroteStopped, writing}
+use Rattle.cadence.specs.Served.{Served, Broken}
+use Rattle.cadence.specs.Writing.{Written, nothing, Wrote, WroteBroken, WroteStopped, writing}
 use Rattle.cadence.specs.Crashes.{DiskStands, HasPrefix, IsPrefix, Survives, line_feeds, acknowledged}
 use Rattle.cadence.specs.Progress.{Said, Halts, Halted}
 use Rattle.cadence.specs.declared.status.Status.{Status}
 use Rattle.cadence.specs.declared.status.Status.TheVariants.{Done, Usage, ReadFault, WriteFault, DiskFault, Memory, BadStore, InputBound}
-use Rattle.cadence.proofs.Batches.{served_none, served_then, some_then, some_more, broken_then, broken_more, some_of}
+use Rattle.cadence.proofs.Batches.{served_none, served_then, some_then, some_more, broken_then, broken_more}
 use Rattle.cadence.proofs.Writings.{wrote_then, some_none, wrote_some_then, wrote_some_more, wrote_broken_then, wrote_broken_more, wrote_stopped_then, wrote_stopped_more}
 use Rattle.cadence.proofs.Feeds.{feeds_append, feeds_front}
 use Rattle.cadence.proofs.Lines_of.{one_feed}

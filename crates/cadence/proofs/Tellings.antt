@@ -1,5 +1,5 @@
 -- A command is answered, or answering stops.
-use Rattle.std.proofs.Common.{◌≡◌, ◌≢◌, ℕ, List, [], ◌∷◌, Bool, true, false, cond, not, Result, Ok, Err, OnOk, IfErr, refl, sym, ◌∙◌, ap, subst}
+use Rattle.std.proofs.Common.{◌≡◌, ◌≢◌, ℕ, List, [], ◌∷◌, Bool, true, false, cond, not, Result, Ok, Err, OnOk, IfErr, sym, ◌∙◌, ap, subst}
 use Rattle.cad_host.specs.Disk.{Event, put, output, Puts, Ran, BreaksPut}
 use Rattle.cad_tape.specs.Reading.{IsQuiet}
 use Rattle.cad_wire.specs.declared.entry.Entry.{Entry}

@@ -1,10 +1,10 @@
 -- A command has one answer at most, and leads to one state of the accounts.
 use Rattle.std.proofs.Common.{◌≡◌, ℕ, zero, suc, ◌≤◌, ◌<◌, Bool, true, false, ℤ, List, Option, Some, None, Result, Ok, Err, refl, sym, ◌∙◌, ap, subst, arith}
-use Rattle.std.proofs.Math.Bool.{Bool-set}
 use Rattle.cad_syntax.specs.declared.kind.Kind.{Kind}
 use Rattle.cad_syntax.specs.declared.kind.Kind.TheVariants.{Int}
 use Rattle.cad_syntax.specs.declared.num.Num.{Num}
 use Rattle.cad_syntax.specs.Kinds.{signed, is_kept}
+use Rattle.cad_codec.proofs.Numbers.{same_fields}
 use Rattle.cad_num.specs.declared.error.NumError.{NumError}
 use Rattle.cad_num.specs.Numbers.{value_of}
 use Rattle.cad_values.specs.declared.value.Value.{Value}
@@ -29,16 +29,6 @@ parts kind true false (suc x) y h k e = cc e
 parts kind false true x zero h k e = absurd (let c : false ≡ true = k in cc c)
 parts kind false true x (suc y) h k e = cc e
 parts kind false false x y h k e = (refl, cc e)
-
-abbrev num_of : (k : Kind) (s : Bool) (m : ℕ) → is_kept k s m ≡ true → Num
-num_of k s m kept = record { kind = k; negative = s; magnitude = m; kept = kept }
-
-same_fields : (k j : Kind) (s t : Bool) (m o : ℕ) → k ≡ j → s ≡ t → m ≡ o → (p : is_kept k s m ≡ true) (q : is_kept j t o ≡ true) → num_of k s m p ≡ num_of j t o q
-same_fields k j s t m o kk ss mm =
-    subst (λ x. (p : is_kept k s m ≡ true) (q : is_kept x t o ≡ true) → num_of k s m p ≡ num_of x t o q) kk
-    (subst (λ x. (p : is_kept k s m ≡ true) (q : is_kept k x o ≡ true) → num_of k s m p ≡ num_of k x o q) ss
-    (subst (λ (x : ℕ). (p : is_kept k s m ≡ true) (q : is_kept k s x ≡ true) → num_of k s m p ≡ num_of k s x q) mm
-    (λ p q. ap (λ r. num_of k s m r) (Bool-set (is_kept k s m) true p q))))
 
 same_num : (a b : Num) → a.kind ≡ Int → b.kind ≡ Int → value_of a ≡ value_of b → a ≡ b
 same_num a b k l values =

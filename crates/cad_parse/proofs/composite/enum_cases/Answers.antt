@@ -5,7 +5,7 @@ use Rattle.cad_parse.specs.Reading.{repeated}
 use Rattle.cad_parse.specs.Reading as spec
 use Rattle.cad_parse.specs.Views.{items_in}
 use Rattle.cad_parse_type.specs.Views.{seen}
-use Rattle.cad_parse.proofs.Turns.{one_more}
+use Rattle.cad_parse_type.proofs.Turns.{one_more}
 use Rattle.cad_parse.proofs.composite.enum_cases.Goals as goal
 
 pub returns-in-Some : goal.returns-in-Some

@@ -4,7 +4,7 @@ use Rattle.cad_parse.specs.Reading.{chain}
 use Rattle.cad_parse.specs.Reading as spec
 use Rattle.cad_parse.specs.Views.{declarations_in}
 use Rattle.cad_parse_type.specs.Views.{seen}
-use Rattle.cad_parse.proofs.Turns.{one_more}
+use Rattle.cad_parse_type.proofs.Turns.{one_more}
 use Rattle.cad_parse.proofs.declaration.declarations.Goals as goal
 
 pub returns-in_default : goal.returns-in_default

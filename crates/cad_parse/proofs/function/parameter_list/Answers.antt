@@ -5,7 +5,7 @@ use Rattle.cad_parse_type.specs.Reading.{listed}
 use Rattle.cad_parse.specs.Reading as spec
 use Rattle.cad_parse.specs.Views.{parameters_in}
 use Rattle.cad_parse_type.specs.Views.{seen}
-use Rattle.cad_parse.proofs.Turns.{one_more}
+use Rattle.cad_parse_type.proofs.Turns.{one_more}
 use Rattle.cad_parse.proofs.function.parameter_list.Goals as goal
 
 pub returns-in-Some : goal.returns-in-Some

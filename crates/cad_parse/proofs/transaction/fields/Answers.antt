@@ -3,7 +3,7 @@ use Rattle.std.proofs.lemmas.Grind.{common_steps}
 use Rattle.cad_parse.specs.Reading.{fields}
 use Rattle.cad_parse.specs.Views.{fields_in}
 use Rattle.cad_parse_type.specs.Views.{seen}
-use Rattle.cad_parse.proofs.Turns.{one_more}
+use Rattle.cad_parse_type.proofs.Turns.{one_more}
 use Rattle.cad_parse.proofs.transaction.fields.Goals as goal
 
 pub returns-in_default : goal.returns-in_default
