@@ -64,9 +64,11 @@ fn grants_by_sets(rt: HostRuntime) -> Result<(), Fail> {
 fn images_of_two_entitlements(rt: HostRuntime) -> Result<(), Fail> {
     let both = all(rt.alloc(), &["E", "F"])?;
     let either = any(rt.alloc(), &["E", "F"])?;
-    let map = mapping(rt.alloc(), false, &[("F", "Y"), ("E", "X")])?;
-    assert!(rt; image(rt.alloc(), &map, &both)? == Some(all(rt.alloc(), &["X", "Y"])?));
-    assert!(rt; image(rt.alloc(), &map, &either)? == Some(any(rt.alloc(), &["X", "Y"])?));
+    for rows in [[("E", "X"), ("F", "Y")], [("F", "Y"), ("E", "X")]] {
+        let map = mapping(rt.alloc(), false, &rows)?;
+        assert!(rt; image(rt.alloc(), &map, &both)? == Some(all(rt.alloc(), &["X", "Y"])?));
+        assert!(rt; image(rt.alloc(), &map, &either)? == Some(any(rt.alloc(), &["X", "Y"])?));
+    }
     let more = mapping(rt.alloc(), false, &[("E", "X"), ("E", "Y"), ("F", "Z")])?;
     assert!(rt; image(rt.alloc(), &more, &either)?.is_none());
     let same = mapping(rt.alloc(), false, &[("E", "X"), ("F", "X")])?;

@@ -447,6 +447,15 @@ fn numbers_are_written(rt: HostRuntime) -> Result<(), Fail> {
 }
 
 #[test]
+fn the_greatest_number_is_written(rt: HostRuntime) -> Result<(), Fail> {
+    let most = unsigned(&rt, Kind::UInt, u128::MAX);
+    let text = "340282366920938463463374607431768211455";
+    assert_eq!(rt; write(rt.alloc(), most)?.as_str(), text);
+    assert_eq!(rt; read(Kind::UInt, text), Some(most));
+    Ok(())
+}
+
+#[test]
 fn texts_are_read(rt: HostRuntime) {
     for (kind, text, value) in [
         (Kind::Int8, "-0", 0),
@@ -458,6 +467,7 @@ fn texts_are_read(rt: HostRuntime) {
         ),
         (Kind::Fix64, "-0.0", 0),
         (Kind::Fix64, "-00.00000001", -1),
+        (Kind::UFix64, "10.5", 1_050_000_000),
         (Kind::UFix64, "010.5", 1_050_000_000),
     ] {
         assert_eq!(rt; read(kind, text), Some(number(&rt, kind, value)));

@@ -271,6 +271,7 @@ C&/Int 100\n\
 {SI} 100\n\
 :/Tree 111\n\
 ?/Void 000\n\
+[/Void 000\n\
 ?/Ring 100";
 
 #[test]
@@ -305,6 +306,9 @@ fn walks_go_512_deep(rt: HostRuntime) -> Result<(), Fail> {
     assert!(rt; below(&kinds, &rings, &CadType::Basic(Basic::AnyResource)) == Some(true));
     assert!(rt; below(&kinds, &rings, &CadType::Basic(Basic::AnyStruct)) == Some(false));
     assert!(rt; is_judged(&kinds, &rings, "100"));
+    let nevers = nested(rt.alloc(), b"[:[:", "Never", 512)?;
+    assert!(rt; below(&kinds, &nevers, &CadType::Basic(Basic::AnyResource)) == Some(true));
+    assert!(rt; below(&kinds, &nevers, &CadType::Basic(Basic::AnyStruct)) == Some(true));
     let trees = nested(rt.alloc(), b"?[:[", "Tree", 512)?;
     assert!(rt; is_judged(&kinds, &trees, "111"));
     assert_eq!(rt; trees.nesting(DEEPEST), Some(512));
