@@ -3,7 +3,7 @@ use Rattle.std.proofs.Common.{◌≡◌, inr, ℕ, Bool, true, false, List, [], 
 use Rattle.std.proofs.lemmas.Grind.{same_number_lists}
 use Rattle.cad_host.specs.declared.host.Tape.{Tape}
 use Rattle.cad_host.specs.declared.host.Tape.TheVariants.{A, B, Pick}
-use Rattle.cad_host.specs.Disk.{Event, wrote, synced, broke, TapeState, state, same_tape, overwritten, Outside, IsImage, IsDisk, IsClean}
+use Rattle.cad_host.specs.Disk.{Event, wrote, synced, broke, filled, TapeState, state, same_tape, overwritten, Outside, IsImage, IsDisk, IsClean}
 
 -- a tape is the same as itself
 pub same_refl : (t : Tape) → same_tape t t ≡ true
@@ -49,6 +49,9 @@ state_synced t m = at_tape t t true _ _ _ (same_refl t) refl
 pub state_broke : (t : Tape) (at n : ℕ) (now : List ℕ) (m : List Event) → state t (broke t at n now ∷ m) ≡ record { reads = now; settled = (state t m).settled; loose = (at, n) ∷ (state t m).loose }
 state_broke t at n now m = at_tape t t true _ _ _ (same_refl t) refl
 
+pub state_filled : (t : Tape) (bytes : List ℕ) (m : List Event) → state t (filled t bytes ∷ m) ≡ record { reads = bytes; settled = length bytes; loose = [] }
+state_filled t bytes m = at_tape t t true _ _ _ (same_refl t) refl
+
 -- and leaves the others
 pub other_wrote : (t u : Tape) (at : ℕ) (bytes : List ℕ) (m : List Event) → same_tape u t ≡ false → state t (wrote u at bytes ∷ m) ≡ state t m
 other_wrote t u at bytes m other = at_tape t u false _ _ _ other refl
@@ -58,6 +61,9 @@ other_broke t u at n now m other = at_tape t u false _ _ _ other refl
 
 pub other_synced : (t u : Tape) (m : List Event) → same_tape u t ≡ false → state t (synced u ∷ m) ≡ state t m
 other_synced t u m other = at_tape t u false _ _ _ other refl
+
+pub other_filled : (t u : Tape) (bytes : List ℕ) (m : List Event) → same_tape u t ≡ false → state t (filled u bytes ∷ m) ≡ state t m
+other_filled t u bytes m other = at_tape t u false _ _ _ other refl
 
 -- one tape, and then the others
 pub each_tape : (u : Tape) (P : Tape → Type 0) → P u → ((t : Tape) → same_tape u t ≡ false → P t) → (t : Tape) → P t

@@ -1,9 +1,9 @@
 -- What each call leaves as it was.
 use Rattle.std.proofs.Common.{◌≡◌, ◌⊎◌, ⊎_elim, ℕ, ◌≤◌, List, [], ◌∷◌, length, refl, sym, ap, subst, arith}
 use Rattle.cad_host.specs.declared.host.Tape.{Tape}
-use Rattle.cad_host.specs.Disk.{Event, wrote, synced, broke, put, TapeState, state, reads, IsImage, IsDisk, overwritten, output, BreaksWrite, BreaksSync, BreaksPut}
+use Rattle.cad_host.specs.Disk.{Event, wrote, synced, broke, filled, put, TapeState, state, reads, IsImage, IsDisk, overwritten, output, BreaksWrite, BreaksSync, BreaksPut}
 use Rattle.cad_host.specs.Crash.{IsSettled}
-use Rattle.cad_host.proofs.Images.{each_tape, state_wrote, state_synced, state_broke, other_wrote, other_synced, other_broke}
+use Rattle.cad_host.proofs.Images.{each_tape, state_wrote, state_synced, state_broke, state_filled, other_wrote, other_synced, other_broke, other_filled}
 use Rattle.cad_host.proofs.Lists.{long_over}
 
 -- a put, whole or broken, leaves each tape
@@ -37,6 +37,11 @@ pub settled_synced : (u : Tape) (old : List Event) → IsSettled old → IsSettl
 settled_synced u old settled = each_tape u (λ t. Bounded (state t (synced u ∷ old)))
     (subst Bounded (sym (state_synced u old)) (omega arith))
     (λ t other. subst Bounded (sym (other_synced t u old other)) (settled t))
+
+pub settled_filled : (u : Tape) (bytes : List ℕ) (old : List Event) → IsSettled old → IsSettled (filled u bytes ∷ old)
+settled_filled u bytes old settled = each_tape u (λ t. Bounded (state t (filled u bytes ∷ old)))
+    (subst Bounded (sym (state_filled u bytes old)) (omega arith))
+    (λ t other. subst Bounded (sym (other_filled t u bytes old other)) (settled t))
 
 settled_broke : (u : Tape) (at n : ℕ) (now : List ℕ) (old : List Event) → (state u old).settled ≤ length now → IsSettled old → IsSettled (broke u at n now ∷ old)
 settled_broke u at n now old here settled = each_tape u (λ t. Bounded (state t (broke u at n now ∷ old)))

@@ -2,6 +2,7 @@
 use Rattle.std.proofs.Common.{◌≡◌, ⊎_elim, ℕ, suc, ◌-◌, ◌≤◌, List, [], ◌∷◌, ◌++◌, length, drop, refl, sym, ◌∙◌, ap, subst, arith, append_assoc}
 use Rattle.std.proofs.lemmas.Bool.{cases_lt}
 use Rattle.cad_host.specs.Disk.{Event, Each, Ran}
+use Rattle.cad_host.specs.Crash.{at_moment}
 
 each_joined : (P : List Event → Type 0) (later since old : List Event) → Each P later (since ++ old) → Each P since old → Each P (later ++ since) old
 each_joined P [] since old second first = first
@@ -28,9 +29,21 @@ ran_on P old mid new first second = record {
 pub ran_none : (P : List Event → Type 0) (old : List Event) → P old → Ran old old P
 ran_none P old p = record { since = []; is = refl; each = p }
 
+-- the same, where the trace is known to be the old one
+pub ran_same : (P : List Event → Type 0) (old new : List Event) → P old → new ≡ old → Ran old new P
+ran_same P old new p is = record { since = []; is = is; each = p }
+
 -- a run of one event
 pub ran_one : (P : List Event → Type 0) (e : Event) (old new : List Event) → P old → P (e ∷ old) → new ≡ e ∷ old → Ran old new P
 ran_one P e old new before behind is = record { since = e ∷ []; is = is; each = (behind, before) }
+
+-- the first moment is one
+pub ran_start : (P : List Event → Type 0) (old new : List Event) → Ran old new P → P old
+ran_start P old new ran = first ran.since ran.each
+  where
+    first : (since : List Event) → Each P since old → P old
+    first [] p = p
+    first (e ∷ since) p = first since p.1
 
 -- and so is the last
 pub ran_end : (P : List Event → Type 0) (old new : List Event) → Ran old new P → P new
@@ -39,6 +52,13 @@ ran_end P old new ran = subst P (sym ran.is) (last ran.since ran.each)
     last : (since : List Event) → Each P since old → P (since ++ old)
     last [] p = p
     last (e ∷ since) p = p.0
+
+-- and so is each that a crash may be asked for
+pub ran_moment : (P : List Event → Type 0) (old new : List Event) (moment : ℕ) → Ran old new P → length old ≤ moment → moment ≤ length new → P (at_moment new moment)
+ran_moment P old new moment ran from to = subst (λ (m : List Event). P (at_moment m moment)) (sym ran.is) (among ran.since ran.each (subst (λ (m : List Event). moment ≤ length m) ran.is to))
+  where
+    at : (m : List Event) (n : ℕ) → n ≡ 0 → P m → P (drop n m)
+    at m n is p = subst (λ (k : ℕ). P (drop k m)) (sym is) p
 
     among : (since : List Event) → Each P since old → moment ≤ length (since ++ old) → P (drop (length (since ++ old) - moment) (since ++ old))
     among [] p within = at old (length old - moment) (omega (arith, from)) p

@@ -1,12 +1,12 @@
 -- A replay of a record of calls on what a tape reads and on the image of a crash.
 use Rattle.std.proofs.Common.{◌≡◌, inl, inr, ⊎_elim, ℕ, ◌+◌, ◌-◌, ◌<◌, ◌≤◌, true, List, [], ◌∷◌, ◌++◌, length, get_or, take, drop, min, replicate, refl, sym, ◌∙◌, ap, subst, arith, if◌then◌else◌, length-append, length-drop, append_assoc, take-append-drop}
-use Rattle.std.proofs.lemmas.List.{get_or-replicate, length-replicate, drop_at}
+use Rattle.std.proofs.lemmas.List.{take_all, get_or-replicate, length-replicate, drop_at}
 use Rattle.std.proofs.lemmas.Bool.{cases_lt}
 use Rattle.std.proofs.lemmas.Grind.{take_at_read}
 use Rattle.cad_host.specs.declared.host.Tape.{Tape}
 use Rattle.cad_host.specs.declared.host.Tape.TheVariants.{A, B, Pick}
 use Rattle.cad_host.specs.declared.call.Call.{Call}
-use Rattle.cad_host.specs.Disk.{Event, wrote, filled, TapeState, state, reads, after, same_tape, overwritten, Outside, IsImage, IsDisk}
+use Rattle.cad_host.specs.Disk.{Event, wrote, filled, TapeState, state, reads, after, same_tape, overwritten, Outside, IsImage, IsDisk, IsClean}
 use Rattle.cad_host.specs.Crash.{IsFilledImage, IsReplayed, IsSettled, at_moment}
 use Rattle.cad_host.specs.Record.{event_of, onto, trace_of}
 use Rattle.cad_host.proofs.Recorded.{trace_push}
@@ -61,6 +61,17 @@ replay_wrote fill tape t at bytes filling s now image now2 image2 is_same r fill
       settled_so = omega (arith, r.settled_so, long_over s.reads bytes at);
       image_so = subst (λ (l : List ℕ). IsFilledImage fill (record { reads = overwritten s.reads at bytes; settled = s.settled; loose = (at, length bytes) ∷ s.loose }) l) (sym is_image) (write_filled fill at bytes filling s image r.settled_so r.image_so filling_is);
     })
+
+-- a sync or a fill replayed
+pub replay_exact : (fill : ℕ) (bytes now image : List ℕ) → now ≡ bytes → image ≡ bytes → IsReplayed fill (record { reads = bytes; settled = length bytes; loose = [] }) now image
+replay_exact fill bytes now image is_now is_image = record {
+  reads_so = is_now;
+  settled_so = omega arith;
+  image_so = record { long = ap length is_image; stays = λ i below outside. ap (λ (l : List ℕ). get_or l i 0) is_image; loose = λ i inside not_kept. absurd (not_kept (inside, tt)) };
+}
+
+pub replay_none : (fill : ℕ) (tape : Tape) → IsReplayed fill (state tape []) [] []
+replay_none fill tape = record { reads_so = refl; settled_so = omega arith; image_so = record { long = refl; stays = λ i below outside. refl; loose = λ i inside not_kept. absurd (omega (arith, inside)) } }
 
 -- one more call of a record
 trace-step : (calls : List Call) (i : ℕ) (call : Call) → i < length calls → call ≡ get_or calls i call → trace_of (take (i + 1) calls) ≡ event_of call ∷ trace_of (take i calls)
@@ -123,6 +134,26 @@ three_images m n a b pick is in_a in_b in_pick = subst (λ n. IsDisk m (reads n)
     by_tape A = in_a
     by_tape B = in_b
     by_tape Pick = in_pick
+
+abbrev Clean : List Event → Type 0
+Clean n = (t : Tape) → IsClean (state t n)
+
+pub three_clean : (n : List Event) (a b pick : List ℕ) → n ≡ three a b pick → (t : Tape) → IsClean (state t n)
+three_clean n a b pick is = subst Clean (sym is) by_tape
+  where
+    by_tape : Clean (three a b pick)
+    by_tape A = record { settled = refl; loose = refl }
+    by_tape B = record { settled = refl; loose = refl }
+    by_tape Pick = record { settled = refl; loose = refl }
+
+-- the image at the end of a replay
+pub replay_all : (fill : ℕ) (tape : Tape) (calls : List Call) (i : ℕ) (now image : List ℕ) → length calls ≤ i → IsReplayed fill (state tape (trace_of (take i calls))) now image
+    → IsFilledImage fill (state tape (trace_of calls)) image × IsImage (state tape (trace_of calls)) image
+replay_all fill tape calls i now image is r =
+    let whole : take i calls ≡ calls = take_all i calls is in
+    let exact : IsFilledImage fill (state tape (trace_of calls)) image = subst (λ (l : List Call). IsFilledImage fill (state tape (trace_of l)) image) whole r.image_so in
+    let settled : (state tape (trace_of calls)).settled ≤ length (reads (trace_of calls) tape) = subst (λ (l : List Call). (state tape (trace_of l)).settled ≤ length (reads (trace_of l) tape)) whole r.settled_so in
+    (exact, filled_image fill (state tape (trace_of calls)) image settled exact)
 
 -- a host over the images of the front of a record is one over those of that moment
 module _ (calls past : List Call) (k : ℕ) (inside : k ≤ length calls) (front : past ≡ take k calls) (n : List Event) (a b pick : List ℕ) (is : n ≡ three a b pick) where

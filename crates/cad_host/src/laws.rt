@@ -1,6 +1,6 @@
 // What holds of each trace.
 ghost use Rattle.std.specs.Prelude.{◌≡◌, ◌⊎◌, ◌≤◌, List, ℕ, length, take, ◌∷◌, []};
-ghost use Rattle.cad_host.specs.Disk.{Event, state, reads, wrote, synced, broke, put, IsImage, IsDisk, IsClean, output, BreaksWrite, BreaksSync, BreaksPut};
+ghost use Rattle.cad_host.specs.Disk.{Event, state, reads, wrote, synced, broke, filled, put, IsImage, IsDisk, IsClean, output, BreaksWrite, BreaksSync, BreaksPut};
 ghost use Rattle.cad_host.specs.Crash.{IsSettled, IsFilledImage};
 ghost use Rattle.cad_host.specs.declared.host.Tape.{Tape};
 
@@ -25,12 +25,13 @@ pub fn each_leaves_the_other()
     ensures sync { (t : Tape) (old new : List Event) → (new ≡ synced t ∷ old) ⊎ BreaksSync t old new → output new ≡ output old }
 {}
 
-/// No tape is shorter than at its last sync: at first, and after each call that ended or failed.
+/// No tape is shorter than at its last sync: at first, after each call that ended or failed, and when a tape is filled.
 pub fn no_shorter_than_synced()
     ensures none { IsSettled [] }
     ensures put { (bytes : List ℕ) (old new : List Event) → (new ≡ put bytes ∷ old) ⊎ BreaksPut bytes old new → IsSettled old → IsSettled new }
     ensures write { (t : Tape) (at : ℕ) (bytes : List ℕ) (old new : List Event) → (new ≡ wrote t at bytes ∷ old) ⊎ BreaksWrite t at bytes old new → IsSettled old → IsSettled new }
     ensures sync { (t : Tape) (old new : List Event) → (new ≡ synced t ∷ old) ⊎ BreaksSync t old new → IsSettled old → IsSettled new }
+    ensures fill { (t : Tape) (bytes : List ℕ) (old : List Event) → IsSettled old → IsSettled (filled t bytes ∷ old) }
 {}
 
 /// What reads is itself an image, and so is the one in which each byte that may be anything is the same.

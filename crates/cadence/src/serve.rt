@@ -377,8 +377,9 @@ fn stop_of(stop: OpenStop) -> Status
 // Opens the accounts and reads the input.
 fn open_and_run<H: Host>(alloc: Global, host: &mut H) -> Status
     ensures ends { H.tells → (w : Accounts) → DiskStands (reads (H.trace host.old)) w → Ends result w (H.left host.old) (H.left host.new) (H.trace host.old) (H.trace host.new) }
-    ensures bad { H.tells → result ≡ Status.BadStore → ((w : Accounts) → DiskStands (reads (H.trace host.old)) w → ⊥)
-        × (H.trace host.new ≡ H.trace host.old) × (H.left host.new ≡ H.left host.old) }
+    ensures bad { H.tells → result ≡ Status.BadStore → (w : Accounts) → DiskStands (reads (H.trace host.old)) w → ⊥ }
+    ensures unopened { H.tells → ((w : Accounts) → DiskStands (reads (H.trace host.old)) w → ⊥)
+        → (H.trace host.new ≡ H.trace host.old) × (H.left host.new ≡ H.left host.old) }
     ensures opened { H.tells → HasRun result → (w : Accounts) × DiskStands (reads (H.trace host.old)) w }
     ensures run { result ≢ Status.Usage }
     ensures cause { IsCausedBy result (H.input_faults host.old) (H.input_faults host.new) (H.output_faults host.old) (H.output_faults host.new) (H.disk_faults host.old) (H.disk_faults host.new) }
@@ -402,9 +403,11 @@ pub fn serve<H: Host>(alloc: Global, words: &[Text], host: &mut H) -> Status
     ensures usage { (result ≡ Status.Usage) ↔ (¬ IsRun words.now) }
     ensures idle { result ≡ Status.Usage → host.new ≡ host.old }
 
-    // BadStore: the tapes stand for no accounts, and nothing was taken, written or put. Where they don't, the input isn't read.
-    ensures bad_store { H.tells → result ≡ Status.BadStore → ((w : Accounts) → DiskStands (reads (H.trace host.old)) w → ⊥)
-        × (H.trace host.new ≡ H.trace host.old) × (H.left host.new ≡ H.left host.old) }
+    // BadStore: the tapes stand for no accounts. Where they stand for none, nothing is taken, written or put, whatever the
+    // status, and it is none of those that a run over accounts ends with but DiskFault and Memory.
+    ensures bad_store { H.tells → result ≡ Status.BadStore → (w : Accounts) → DiskStands (reads (H.trace host.old)) w → ⊥ }
+    ensures unopened { H.tells → ((w : Accounts) → DiskStands (reads (H.trace host.old)) w → ⊥)
+        → (H.trace host.new ≡ H.trace host.old) × (H.left host.new ≡ H.left host.old) }
     ensures opened { H.tells → HasRun result → (w : Accounts) × DiskStands (reads (H.trace host.old)) w }
 
     // Done: the input was read to its end, the output grew by the reply lines of all commands, in order, and the tapes stand

@@ -1,4 +1,4 @@
-use Rattle.cad_host.proofs.Kept.{settled_none, settled_put, settled_write, settled_sync}
+use Rattle.cad_host.proofs.Kept.{settled_none, settled_put, settled_write, settled_sync, settled_filled}
 use Rattle.cad_host.proofs.laws.no_shorter_than_synced.Goals as goal
 
 pub returns-clause-none : goal.returns-clause-none
@@ -12,3 +12,6 @@ returns-clause-write c = settled_write
 
 pub returns-clause-sync : goal.returns-clause-sync
 returns-clause-sync c = settled_sync
+
+pub returns-clause-fill : goal.returns-clause-fill
+returns-clause-fill c = settled_filled

@@ -20,6 +20,10 @@ pub returns-in-Ok-clause-opened : goal.returns-in-Ok-clause-opened
 returns-in-Ok-clause-opened g c = λ tell ran.
     (c.in-Ok.ensures.sound.0, subst (λ m. DiskStands (reads m) c.in-Ok.ensures.sound.0) (c.open.ensures.story tell) (on_stands (g.H.Host.trace c.open.new.host) c.in-Ok.store c.in-Ok.ensures.sound.0 (c.in-Ok.ensures.on tell) c.in-Ok.ensures.sound.1))
 
+pub returns-in-Ok-clause-unopened : goal.returns-in-Ok-clause-unopened
+returns-in-Ok-clause-unopened g c = λ tell none.
+    absurd (none c.in-Ok.ensures.sound.0 (subst (λ m. DiskStands (reads m) c.in-Ok.ensures.sound.0) (c.open.ensures.story tell) (on_stands (g.H.Host.trace c.open.new.host) c.in-Ok.store c.in-Ok.ensures.sound.0 (c.in-Ok.ensures.on tell) c.in-Ok.ensures.sound.1)))
+
 pub returns-in-Ok-clause-run : goal.returns-in-Ok-clause-run
 returns-in-Ok-clause-run g c = no_usage c.run.result _ _ _ _ _ _ c.run.ensures.cause
 
@@ -33,11 +37,11 @@ returns-in-Err-clause-ends g c = λ tell w disk.
     (λ is. c.in-Err.ensures.bad tell (ap Err is) disk.map disk.holds (w, disk.stands)))
 
 pub returns-in-Err-clause-bad : goal.returns-in-Err-clause-bad
-returns-in-Err-clause-bad g c = λ tell is. (
-  λ w disk. c.in-Err.ensures.bad tell (ap Err (bad_stop c.in-Err.stop (sym c.stop_of.ensures ∙ is))) disk.map disk.holds (w, disk.stands),
-  c.open.ensures.story tell,
-  c.open.ensures.stays tell,
-)
+returns-in-Err-clause-bad g c = λ tell is w disk.
+    c.in-Err.ensures.bad tell (ap Err (bad_stop c.in-Err.stop (sym c.stop_of.ensures ∙ is))) disk.map disk.holds (w, disk.stands)
+
+pub returns-in-Err-clause-unopened : goal.returns-in-Err-clause-unopened
+returns-in-Err-clause-unopened g c = λ tell none. (c.open.ensures.story tell, c.open.ensures.stays tell)
 
 pub returns-in-Err-clause-opened : goal.returns-in-Err-clause-opened
 returns-in-Err-clause-opened g c = λ tell ran. absurd (stop_runs c.in-Err.stop (subst HasRun c.stop_of.ensures ran))
