@@ -90,6 +90,9 @@ are_decimal (l.more_digits {b} e f d) = (decimal_digit b e, are_decimal d)
 digit_is_low : (radix b : ℕ) → radix ≤ 36 → is_digit b radix ≡ true → b < 128
 digit_is_low radix b small e = grind (arith, nat_tests)
 
+underscore_is_low : (b : ℕ) → is_underscore b ≡ true → b < 128
+underscore_is_low b e = grind (arith, nat_tests)
+
 pub front_seam : {test : ℕ → Bool} {text some rest after : List ℕ} → Front test text some rest → Seam rest after → Seam text after
 front_seam l.none s = s
 front_seam (l.more e d) s = seam_later (front_seam d s)

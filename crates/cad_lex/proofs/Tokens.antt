@@ -8,7 +8,7 @@ use Rattle.cad_syntax.specs.declared.token.TokenKind.{TokenKind}
 use Rattle.cad_syntax.specs.declared.token.TokenKind.TheVariants as kind
 use Rattle.cad_syntax.specs.Keywords.{keyword_spelling}
 use Rattle.cad_syntax.specs.Names.{is_first_of_name, is_part_of_name}
-use Rattle.cad_syntax.specs.Lexes.{is_white_space, begins_with_letter, opens_line, opens_block, radix_of, number, scaled, Front, Quoted, Gap, Shape, Word, Whole, Fixed, Quotation, Mark, Shaped, Judged, Begins}
+use Rattle.cad_syntax.specs.Lexes.{is_white_space, begins_with_letter, opens_line, opens_block, radix_of, number, scaled, Front, Numeral, Quoted, Gap, Shape, Word, Whole, Fixed, Quotation, Mark, Shaped, Judged, Begins}
 use Rattle.cad_syntax.specs.Lexes as l
 use Rattle.cad_lex.specs.Reading.{is_decimal, keyword, kind_by, word_kind, number_from, whole, fixed, power_of_ten, sign, single, with_rest, shape, judge, judged, token}
 use Rattle.cad_lex.proofs.Keywords.{keyword_spells, keyword_found}
@@ -126,6 +126,10 @@ no_opening : (text : List ℕ) → (opens_line text || opens_block text) ≡ fal
 unfolding token
 no_opening text e = ap (λ v. if v then None else judged (shape text)) e
 
+pub opening_is_none : (text : List ℕ) → (opens_line text || opens_block text) ≡ true → token text ≡ None
+unfolding token
+opening_is_none text e = ap (λ v. if v then None else judged (shape text)) e
+
 pub begins_is : {text : List ℕ} {x : TokenKind} {rest : List ℕ} → Begins text x rest → token text ≡ Some (x, rest)
 begins_is {text} {x} {rest} b =
     let w = shaped_reaches b.shaped in
@@ -201,6 +205,9 @@ pub begins_utf8 : {text : List ℕ} {x : TokenKind} {rest : List ℕ} → IsUtf8
 begins_utf8 {text} {x} {rest} u b = behind_seam text rest u (shaped_seam b.shaped)
 
 -- a gap begins no token
+
+space_opens_nothing : (b : ℕ) → is_white_space b ≡ true → (b == 47) ≡ false
+space_opens_nothing b h = grind (arith, nat_tests)
 
 space_is_no_start : (b : ℕ) → is_white_space b ≡ true → is_first_of_name b ≡ false
 space_is_no_start b h = grind (arith, nat_tests)

@@ -160,6 +160,9 @@ read_token text tokens broken from rest t more r f s e a m =
     subst (λ ts. Read text ts false rest) (sym m)
     (record { utf8 = r.utf8; turns = subst (λ n. InTurn (begin text) (tokens ++ t ∷ []) (past_token n rest)) e longer; within = omega (arith, less, within); rest_utf8 = begins_utf8 r.rest_utf8 b })
 
+pub read_all : (text : List ℕ) (tokens : List Token) (broken : Bool) (rest : List ℕ) → Read text tokens broken rest → rest ≡ [] → Lexes text tokens
+read_all text tokens broken rest r e = record { utf8 = r.utf8; end = before text broken rest; turns = r.turns; over = e }
+
 pub read_stops : (text : List ℕ) (tokens : List Token) (broken : Bool) (rest : List ℕ) → Read text tokens broken rest → (length rest ≡ 0 → ⊥) → gap rest ≡ None → token rest ≡ None → Stops text (length text - length rest)
 read_stops text tokens broken rest r some e f =
     l.nothing_begins r.utf8 r.turns refl (record {
@@ -167,3 +170,6 @@ read_stops text tokens broken rest r some e f =
       no_gap = λ front after g. found_never e (gap_found g);
       no_token = λ x after b. found_never f (begins_is b);
     })
+
+pub stops_before : (text : List ℕ) (n : ℕ) → IsValidUpTo text n → Stops text n
+stops_before text n v = l.bad_byte v

@@ -5,12 +5,12 @@ use Rattle.cad_syntax.specs.declared.token.Keyword.TheVariants as k
 use Rattle.cad_syntax.specs.declared.text.Name.{Name}
 use Rattle.cad_grammar.specs.declared.statement.VariableKind.{VariableKind}
 use Rattle.cad_grammar.specs.declared.statement.Transfer.{Transfer}
-use Rattle.cad_grammar.specs.Trees.{Annotation, ExprTree, TestTree, SecondTree}
+use Rattle.cad_grammar.specs.Trees.{Annotation, ExprTree, TestTree, SecondTree, StmtTree}
 use Rattle.cad_grammar.specs.Trees as tree
 use Rattle.cad_grammar.specs.Spots.{Spot, after, keyword, name}
 use Rattle.cad_grammar.specs.TypeGrammar.{Annotated}
 use Rattle.cad_grammar.specs.ExpressionGrammar.{Expression}
-use Rattle.cad_grammar.specs.StatementGrammar.{MaybeAnnotated, Tested, Seconded, Loops, ReadsStmt, variable_word, transfer}
+use Rattle.cad_grammar.specs.StatementGrammar.{MaybeAnnotated, Tested, Seconded, Loops, ReadsStmt, variable_word, variable_kind_of, transfer, transfer_of}
 use Rattle.cad_grammar.specs.StatementGrammar as g
 use Rattle.cad_parse_type.specs.Reading.{annotation}
 use Rattle.cad_parse_type.proofs.TypeLaws.{TypeLaws}

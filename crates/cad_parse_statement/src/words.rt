@@ -1,10 +1,11 @@
 // Tests on the tokens of statements.
 ghost use Rattle.std.specs.Prelude.{◌≡◌, option_map};
 ghost use Rattle.cad_grammar.specs.StatementGrammar as spec;
+ghost use Rattle.cad_grammar.specs.Levels as levels;
 ghost use Rattle.cad_parse_type.specs.Views.{seen, seen_with};
 
 use cad_grammar::{Transfer, VariableKind};
-use cad_parse_type::{Spot, begins_expression};
+use cad_parse_type::Spot;
 use cad_syntax::{Keyword, Sign, TokenKind};
 
 fn variable_kind_of(kind: &TokenKind) -> Option<VariableKind>
@@ -121,6 +122,35 @@ pub fn parted(spot: Spot<'_>) -> Option<Spot<'_>>
         Some(spot)
     } else {
         None
+    }
+}
+
+fn begins_expression(kind: &TokenKind) -> bool
+    ensures { result ≡ levels.begins_expression kind.now }
+{
+    match kind {
+        TokenKind::Sign(sign) => matches!(
+            sign,
+            Sign::Minus
+                | Sign::Bang
+                | Sign::Star
+                | Sign::Move
+                | Sign::Ampersand
+                | Sign::OpenParenthesis
+                | Sign::OpenBracket
+                | Sign::OpenBrace
+                | Sign::Slash
+        ),
+        TokenKind::Keyword(word) => matches!(
+            word,
+            Keyword::Destroy
+                | Keyword::True
+                | Keyword::False
+                | Keyword::Nil
+                | Keyword::Self_
+                | Keyword::Create
+        ),
+        _ => true,
     }
 }
 

@@ -7,7 +7,7 @@ use Rattle.cad_grammar.specs.declared.type_expr.Entitlements.{Entitlements}
 use Rattle.cad_grammar.specs.Trees.{TypeTree, Annotation}
 use Rattle.cad_grammar.specs.Spots.{Spot, keyword, opened}
 use Rattle.cad_grammar.specs.Lists.{Maybe}
-use Rattle.cad_grammar.specs.TypeGrammar.{Authorized, ReadsType, ReadsCore, ReadsAnnotation, AnnotationList, Annotated}
+use Rattle.cad_grammar.specs.TypeGrammar.{Dotted, Authorized, Intersected, ReadsType, ReadsCore, ReadsAnnotation, AnnotationList, Annotated}
 use Rattle.cad_grammar.specs.TypeGrammar as g
 use Rattle.cad_parse_type.proofs.Heads.{after_shorter, after_left, after_ends, keyword_shorter, keyword_left, keyword_ends, opened_is, opened_ends, opening_shorter, opening_ends, resumed_left, resumed_shorter, resumed_ends, Ends, ends_trans}
 use Rattle.cad_parse_type.proofs.ListLaws.{maybe_falls, maybe_short, maybe_ends}

@@ -199,6 +199,9 @@ opening_head sign p q e = let w = opening_is sign p q e in after_head sign p w.0
 pub head_same : (a b : Sign) (p : Spot) → head p ≡ Some (kind.Sign a) → head p ≡ Some (kind.Sign b) → a ≡ b
 head_same a b p e f = let c : Some (kind.Sign a) ≡ Some (kind.Sign b) = sym e ∙ f in cc
 
+pub after_same : (a b : Sign) (p q r : Spot) → after a p ≡ Some q → after b p ≡ Some r → a ≡ b
+after_same a b p q r e f = head_same a b p (after_head a p q e) (after_head b p r f)
+
 -- of two different signs one comes next
 pub not_after : (a b : Sign) (p : Spot) → (a ≡ b → ⊥) → head p ≡ Some (kind.Sign a) → after b p ≡ None
 not_after a b p ne e = none_of (after b p) (λ q f. ne (head_same a b p e (after_head b p q f)))
@@ -212,6 +215,12 @@ not_resumed a b p q ne e = none_of (resumed b p q) (λ r f. ne (head_same a b q 
 pub other : (a b : Sign) (p q : Spot) → (a ≡ b → ⊥) → after a p ≡ Some q → after b p ≡ None
 other a b p q ne e = not_after a b p ne (after_head a p q e)
 
+pub other_joined : (a b : Sign) (p q : Spot) → (a ≡ b → ⊥) → joined a p ≡ Some q → joined b p ≡ None
+other_joined a b p q ne e = not_joined a b p ne (joined_head a p q e)
+
+pub other_resumed : (a b : Sign) (p q r : Spot) → (a ≡ b → ⊥) → resumed a p q ≡ Some r → after b q ≡ None
+other_resumed a b p q r ne e = not_after a b q ne (resumed_head a p q r e)
+
 -- a name or a keyword is no sign, and so on
 pub name_no_sign : (sign : Sign) (n : Name) (p : Spot) → head p ≡ Some (kind.Name n) → after sign p ≡ None
 name_no_sign sign n p e = none_of (after sign p) (λ q f. let c : Some (kind.Name n) ≡ Some (kind.Sign sign) = sym e ∙ after_head sign p q f in cc)
@@ -224,6 +233,9 @@ sign_no_keyword asked sign p e = none_of (keyword asked p) (λ q f. let c : Some
 
 pub name_no_keyword : (asked : Keyword) (n : Name) (p : Spot) → head p ≡ Some (kind.Name n) → keyword asked p ≡ None
 name_no_keyword asked n p e = none_of (keyword asked p) (λ q f. let c : Some (kind.Name n) ≡ Some (kind.Keyword asked) = sym e ∙ keyword_head asked p q f in cc)
+
+pub sign_no_name : (sign : Sign) (p : Spot) → head p ≡ Some (kind.Sign sign) → name p ≡ None
+sign_no_name sign p e = none_of (name p) (λ x f. let c : Some (kind.Sign sign) ≡ Some (kind.Name x.0) = sym e ∙ name_head p x f in cc)
 
 pub keyword_no_name : (asked : Keyword) (p : Spot) → head p ≡ Some (kind.Keyword asked) → name p ≡ None
 keyword_no_name asked p e = none_of (name p) (λ x f. let c : Some (kind.Keyword asked) ≡ Some (kind.Name x.0) = sym e ∙ name_head p x f in cc)

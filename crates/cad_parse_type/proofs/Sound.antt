@@ -12,7 +12,7 @@ use Rattle.cad_grammar.specs.Spots.{Spot, back, after, keyword, opened, opening,
 use Rattle.cad_grammar.specs.Levels.{question, questions}
 use Rattle.cad_grammar.specs.Lists.{Listed, Maybe}
 use Rattle.cad_grammar.specs.Lists as l
-use Rattle.cad_grammar.specs.TypeGrammar.{Dotted, Authorized, ReadsType, ReadsCore, ReadsAnnotation, AnnotationList, Annotated}
+use Rattle.cad_grammar.specs.TypeGrammar.{Dotted, Authorized, Intersected, ReadsType, ReadsCore, ReadsAnnotation, AnnotationList, Annotated}
 use Rattle.cad_grammar.specs.TypeGrammar as g
 use Rattle.cad_parse_type.specs.Reading.{Found, Reader, filled, marked, dotted, dotted_list}
 use Rattle.cad_parse_type.specs.Reading as r

@@ -7,7 +7,7 @@ mod reader;
 mod spot;
 mod types;
 
-pub use marks::{begins_expression, question, questions};
+pub use marks::{question, questions};
 pub use names::{dotted, dotted_list, entitled};
 pub use reader::{annotation, annotation_at, arguments_at, type_at};
 pub use spot::Spot;

@@ -40,8 +40,8 @@ fn keyword_begins(keyword: Keyword) -> bool
     )
 }
 
-/// Whether a token may begin an expression.
-pub fn begins_expression(kind: &TokenKind) -> bool
+// Whether a token may begin an expression.
+fn begins_expression(kind: &TokenKind) -> bool
     ensures { result ≡ levels.begins_expression kind.now }
 {
     match kind {
