@@ -171,6 +171,48 @@ parse 0 ⇒ access(all) contract C { access(all) let a: A<B>.C }
 ok ⇒ access(all) contract C { access(all) let a: auth(E) &[T] }
 ok ⇒ access(all) fun main() {↵let a: T??=b↵}↵"#;
 
+// What is told apart in lists, access, events, blocks and expressions.
+pub const EXAMPLES: &str =
+    r#"lex 38 ⇒ access(all) fun main(): UInt { return 340282366920938463463374607431768211456 }
+ok ⇒ access(all) fun main(): UInt { return 340282366920938463463374607431768211455 }
+ok ⇒ access(all) fun main(): Int { return 1 + 2 * 3 }
+ok ⇒ access(all) fun main(): Int8 { let a: Int8 = 127; return a + 1 }
+ok ⇒ access(all) fun main() { while true {} }
+ok ⇒ access(all) fun main(): Bool { return "\u{65}\u{301}" == "\u{E9}" }
+ok ⇒ access(all) fun main(): Int { var a = [1, 2]; a[0] <-> a[0]; return a[0] }
+ok ⇒ access(all) fun main(): Int8 { let a: Int8 = -128; return a }
+ok ⇒ access(all) fun main(): AnyStruct { return Type<Int>() }
+ok ⇒ import Token from 0x1↵access(all) fun main(): UFix64 { return getAccount(0x2).capabilities.borrow<&Token.Vault>(/public/token)!.balance }
+ok ⇒ access(all) contract C { init() { self.account.contracts.add(name: "C", code: "access(all) contract C {}".utf8) } }
+parse 0 ⇒ access(all) contract C { access(all,) let a: T }
+ok ⇒ access(all) contract C { access(all, E) let a: T }
+ok ⇒ access(all) contract C { access(all.E) let a: T }
+ok ⇒ access(all) contract C { access(mapping) let a: T }
+ok ⇒ access(all) contract C { access(mapping.E) let a: T }
+ok ⇒ access(all) contract C { access(all) let a: C<T,> access(all) let b: &{I, J,} access(all) let c: auth(E,) &T }
+parse 0 ⇒ access(all) contract C { access(all) event E(a: Int = 1) }
+ok ⇒ access(all) contract C { access(all) resource R { event ResourceDestroyed(id: UInt64 = self.uuid) } }
+ok ⇒ access(all) contract C { event ResourceDestroyed(id: UInt64 = 1,) }
+parse 0 ⇒ access(all) fun f() { pre { a;; b } }
+ok ⇒ access(all) fun f() { pre { a; b; } post { a↵; } a↵; }
+parse 0 ⇒ access(all) fun f() { pre { a }; b }
+parse 0 ⇒ access(all) fun f() { return f(,) }
+ok ⇒ access(all) fun f() { return / storage /↵x }
+parse 0 ⇒ access(all) fun f() { return f<T>↵(a) }
+ok ⇒ access(all) fun f() { return f↵<T>(a) }
+parse 0 ⇒ access(all) fun f() { return a as T < b }
+ok ⇒ access(all) fun f() { return (&a as T) < b }
+parse 0 ⇒ access(all) fun f() { return &a as T < b }
+ok ⇒ access(all) fun f() { return &a as T ? b : c }
+parse 0 ⇒ access(all) fun f() { return &a as T? / b }
+ok ⇒ access(all) fun f() { return a?.n<T?,>(b) }
+ok ⇒ access(all) fun f() { return /public/a<b>(c) }
+ok ⇒ access(all) fun f() { if {} == a {}↵while -a < b {} }
+ok ⇒ access(all) fun f() { return create R↵(a) }
+ok ⇒ access(all) fun f() { emit↵-a; destroy↵a; switch a { case -1: b case↵c: d } }
+ok ⇒ access(all) fun f() { return a ? b ? c : d : e }
+ok ⇒ access(all) fun f() { return a ? (b as T) : (c < d) ? e : f }"#;
+
 // A contract of a token.
 pub const TOKEN: &str = r#"access(all) contract Token {
   access(all) entitlement Withdraw

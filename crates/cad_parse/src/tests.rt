@@ -1,5 +1,5 @@
 // What parsing texts comes to.
-use crate::rows::{BLOCKS, MEMBERS, PROGRAMS, PUBLISH, SETUP, TOKEN, TRANSFER};
+use crate::rows::{BLOCKS, EXAMPLES, MEMBERS, PROGRAMS, PUBLISH, SETUP, TOKEN, TRANSFER};
 use crate::{ParseStop, parse_program};
 use cad_grammar::Phase;
 use std::alloc::{AllocError, Global};
@@ -35,7 +35,7 @@ fn differences(alloc: Global, rows: &str) -> Result<String, AllocError> {
 #[test]
 fn programs_are_parsed(rt: HostRuntime) -> Result<(), Fail> {
     let alloc = rt.alloc();
-    for rows in [PROGRAMS, MEMBERS, BLOCKS] {
+    for rows in [PROGRAMS, MEMBERS, BLOCKS, EXAMPLES] {
         assert_eq!(rt; differences(alloc, rows)?.as_str(), "");
     }
     for code in [TOKEN, SETUP, PUBLISH, TRANSFER] {
@@ -68,6 +68,12 @@ fn nestings_are_bounded(rt: HostRuntime) -> Result<(), Fail> {
         (["access(all) fun f() { return ", "[", "a", "]", " }"], 127),
         (["access(all) fun f() { return ", "a[", "a", "]", " }"], 127),
         (["access(all) fun f() { return ", "-", "a", "", " }"], 127),
+        (
+            ["access(all) fun f() { return ", "& ", "a", " as T", " }"],
+            63,
+        ),
+        (["access(all) fun f() { return a", "()", "", "", " }"], 127),
+        (["access(all) fun f() { return a", "[0]", "", "", " }"], 127),
         (["access(all) fun f() { ", "if a {", "", "}", " }"], 127),
         (
             [
@@ -98,6 +104,16 @@ fn nestings_are_bounded(rt: HostRuntime) -> Result<(), Fail> {
                 " }",
             ],
             127,
+        ),
+        (
+            [
+                "access(all) contract C { access(all) let a: ",
+                "",
+                "T",
+                "??",
+                " }",
+            ],
+            63,
         ),
     ] {
         assert_eq!(rt; nested(alloc, pieces, most)?.as_str(), "ok");
