@@ -137,6 +137,9 @@ fn sound(rt: HostRuntime) -> Result<(), Fail> {
     let one = one_account(rt.alloc())?;
     assert!(rt; is_sound(rt.alloc(), &one)?);
     assert!(rt; is_sound_with(rt.alloc(), &X, &SEVEN)?);
+    // a next controller that isn't the first, and an identifier that is no name
+    assert!(rt; is_sound_with(rt.alloc(), &FIRST, &[0, 0, 0, 0, 0, 0, 0, 9])?);
+    assert!(rt; is_sound_with(rt.alloc(), &X[..9], &SEVEN)?);
     Ok(())
 }
 

@@ -10,16 +10,25 @@ const SCRIPT: &str =
 
 const ACCOUNT: &str = "{\"kind\":\"account\",\"limit\":3}";
 
+// The last of equal keys stands, and fields that an account doesn't have are free.
+const LAST: &str =
+    "{\"kind\":\"script\",\"arguments\":{},\"limit\":null,\"signers\":1,\"code\":2,\"kind\":\"account\"}";
+
 const SAVE: &str =
     "{\"kind\":\"transaction\",\"code\":\"transaction { prepare(a: auth(Storage) &Account) { a.storage.save(40 + 2, to: /storage/x) } }\",\"signers\":[\"0x1\"]}";
 
 const LOAD: &str =
     "{\"kind\":\"transaction\",\"code\":\"transaction { prepare(a: auth(Storage) &Account) { a.storage.save(a.storage.load<Int>(from: /storage/x)! + 1, to: /storage/y) } }\",\"signers\":[\"0x1\"]}";
 
-// A second signer, no signer, a limit, another domain, another type, a load as the second factor, an open block, an
-// address with no digit, a keyword as an identifier.
-const NOTHING: &str =
-    "{\"kind\":\"transaction\",\"code\":\"transaction { prepare(a: auth(Storage) &Account) { a.storage.save(1, to: /storage/x) } }\",\"signers\":[\"0x1\",\"0x2\"]}
+// The same with line breaks.
+const LOOSE: &str =
+    "{\"kind\":\"transaction\",\"code\":\"transaction\\n{ prepare\\n(a: auth\\n(Storage) &Account) { a\\n.storage.save\\n(a.storage.load\\n<Int>\\n(from: /storage\\n/x)\\n!\\n+ 1, to: /storage/y)\\n} }\",\"signers\":[\"0x1\"]}";
+
+// A line break behind `return`, a number that is too large for JSON, a second signer, no signer, a limit, another domain,
+// another type, a load as the second factor, an open block, an address with no digit, a keyword as an identifier.
+const NOTHING: &str = "{\"kind\":\"script\",\"code\":\"access(all) fun main(): Int { return\\n1 }\"}
+{\"kind\":\"account\",\"x\":1e400}
+{\"kind\":\"transaction\",\"code\":\"transaction { prepare(a: auth(Storage) &Account) { a.storage.save(1, to: /storage/x) } }\",\"signers\":[\"0x1\",\"0x2\"]}
 {\"kind\":\"transaction\",\"code\":\"transaction { prepare(a: auth(Storage) &Account) { a.storage.save(1, to: /storage/x) } }\",\"signers\":[]}
 {\"kind\":\"transaction\",\"code\":\"transaction { prepare(a: auth(Storage) &Account) { a.storage.save(1, to: /storage/x) } }\",\"signers\":[\"0x1\"],\"limit\":3}
 {\"kind\":\"transaction\",\"code\":\"transaction { prepare(a: auth(Storage) &Account) { a.storage.save(1, to: /public/x) } }\",\"signers\":[\"0x1\"]}
@@ -50,6 +59,7 @@ fn reads_scripts_and_accounts(rt: HostRuntime) -> Result<(), Fail> {
     sum.push(product(alloc, &[2, 3])?)?;
     assert_eq!(rt; asked(alloc, SCRIPT.as_bytes())?, Some(Asked::Script(sum)));
     assert_eq!(rt; asked(alloc, ACCOUNT.as_bytes())?, Some(Asked::Account));
+    assert_eq!(rt; asked(alloc, LAST.as_bytes())?, Some(Asked::Account));
     Ok(())
 }
 
@@ -73,10 +83,9 @@ fn reads_transactions(rt: HostRuntime) -> Result<(), Fail> {
         others: products(alloc, &[1])?,
         to: name(alloc, "y")?,
     };
-    assert_eq!(rt;
-        asked(alloc, LOAD.as_bytes())?,
-        Some(Asked::Save { signer, save })
-    );
+    let want = Some(Asked::Save { signer, save });
+    assert_eq!(rt; asked(alloc, LOAD.as_bytes())?, want);
+    assert_eq!(rt; asked(alloc, LOOSE.as_bytes())?, want);
     Ok(())
 }
 

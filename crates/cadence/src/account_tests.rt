@@ -18,6 +18,8 @@ const FIRST: &str = "{\"address\":\"0x0000000000000001\",\"reply\":\"ok\"}\n";
 
 const SECOND: &str = "{\"address\":\"0x0000000000000002\",\"reply\":\"ok\"}\n";
 
+const THIRD: &str = "{\"address\":\"0x0000000000000003\",\"reply\":\"ok\"}\n";
+
 const DONE: &str = "{\"destroyed\":[],\"events\":[],\"made\":[],\"reply\":\"ok\"}\n";
 
 const NOTHING: &str = "{\"error\":\"106\",\"reply\":\"failed\"}\n";
@@ -26,11 +28,21 @@ const OCCUPIED: &str = "{\"error\":\"111\",\"reply\":\"failed\"}\n";
 
 const NO_ACCOUNT: &str = "{\"error\":\"26\",\"reply\":\"bad\"}\n";
 
+const STRANGER: &str =
+    "{\"kind\":\"transaction\",\"signers\":[\"0x9\"],\"code\":\"transaction { prepare(a: auth(Storage) &Account) { a.storage.save(1, to: /storage/x) } }\"}\n";
+
 // The tape with the record of one account.
 const TAPE: [u8; 67] = [
     1, 0, 0, 0, 0, 0, 0, 0, 57, 1, 0, 0, 0, 2, 0, 0, 0, 1, 0, 1, 0, 0, 0, 16, 0, 0, 0, 0, 0, 0, 0,
     1, 0, 0, 0, 0, 0, 0, 0, 1, 0, 0, 0, 9, 1, 0, 0, 0, 0, 0, 0, 0, 1, 1, 0, 0, 0, 8, 0, 0, 0, 0, 0,
     0, 0, 1, 0,
+];
+
+// The record of a second account behind that one, the gate that ends it, and a byte that is left behind it.
+const BEHIND: [u8; 68] = [
+    1, 0, 0, 0, 0, 0, 0, 0, 57, 1, 0, 0, 0, 2, 0, 0, 0, 1, 0, 1, 0, 0, 0, 16, 0, 0, 0, 0, 0, 0, 0,
+    2, 0, 0, 0, 0, 0, 0, 0, 1, 0, 0, 0, 9, 1, 0, 0, 0, 0, 0, 0, 0, 2, 1, 0, 0, 0, 8, 0, 0, 0, 0, 0,
+    0, 0, 1, 0, 1,
 ];
 
 // Runs the program on a host.
@@ -88,6 +100,20 @@ fn writes_one_record(rt: HostRuntime) -> Result<(), Fail> {
 }
 
 #[test]
+fn leaves_the_tapes_empty(rt: HostRuntime) -> Result<(), Fail> {
+    let alloc = rt.alloc();
+    for (input, want) in [("", ""), (STRANGER, NO_ACCOUNT)] {
+        let mut host = MemHost::new(alloc, input.as_bytes(), &[], &[], &[])?;
+        assert_eq!(rt; run(alloc, &mut host)?, Status::Done);
+        assert_eq!(rt; host.output(), want.as_bytes());
+        assert!(rt; host.tape(Tape::A).is_empty());
+        assert!(rt; host.tape(Tape::B).is_empty());
+        assert!(rt; host.tape(Tape::Pick).is_empty());
+    }
+    Ok(())
+}
+
+#[test]
 fn ends_at_a_disk_fault(rt: HostRuntime) -> Result<(), Fail> {
     let alloc = rt.alloc();
     for call in 0..7u64 {
@@ -135,7 +161,7 @@ fn takes_effect_with_an_odd_byte(rt: HostRuntime) -> Result<(), Fail> {
     Ok(())
 }
 
-// A whole record behind a closed gate, and a byte behind it that would open one.
+// A whole record behind a closed gate, and a byte behind it that would open one: the next record goes where that gate is.
 #[test]
 fn leaves_what_is_behind_the_gate(rt: HostRuntime) -> Result<(), Fail> {
     let alloc = rt.alloc();
@@ -143,8 +169,14 @@ fn leaves_what_is_behind_the_gate(rt: HostRuntime) -> Result<(), Fail> {
     bytes.push(7)?;
     bytes.extend_from_slice(&TAPE[1..])?;
     bytes.push(1)?;
-    let reply = next_reply(alloc, &bytes, &[1])?.ok_or("a reply")?;
-    assert_eq!(rt; reply.as_slice(), SECOND.as_bytes());
+    let mut host = with_tapes(alloc, ACCOUNT, &bytes, &[], &[1])?;
+    assert_eq!(rt; run(alloc, &mut host)?, Status::Done);
+    assert_eq!(rt; host.output(), SECOND.as_bytes());
+    let mut want = Vec::from_slice(alloc, &TAPE[..66])?;
+    want.extend_from_slice(&BEHIND)?;
+    assert_eq!(rt; host.tape(Tape::A), want.as_slice());
+    let reply = next_reply(alloc, &want, &[1])?.ok_or("a reply")?;
+    assert_eq!(rt; reply.as_slice(), THIRD.as_bytes());
     Ok(())
 }
 

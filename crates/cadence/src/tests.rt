@@ -145,3 +145,23 @@ fn ends_at_the_first_fault(rt: HostRuntime) -> Result<(), Fail> {
     assert_eq!(rt; third.output(), half);
     Ok(())
 }
+
+const STATUSES: [(Status, u8, Option<&str>); 8] = [
+    (Status::Done, 0, None),
+    (Status::Usage, 2, Some("cadence: usage")),
+    (Status::ReadFault, 3, Some("cadence: read fault")),
+    (Status::WriteFault, 4, Some("cadence: write fault")),
+    (Status::DiskFault, 5, Some("cadence: disk fault")),
+    (Status::Memory, 6, Some("cadence: memory")),
+    (Status::BadStore, 7, Some("cadence: bad store")),
+    (Status::InputBound, 8, Some("cadence: input bound")),
+];
+
+#[test]
+fn tells_how_it_ends(rt: HostRuntime) -> Result<(), Fail> {
+    for (status, number, line) in STATUSES {
+        assert_eq!(rt; status.number(), number);
+        assert_eq!(rt; status.line(), line);
+    }
+    Ok(())
+}
