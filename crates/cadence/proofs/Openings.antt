@@ -11,13 +11,11 @@ use Rattle.cad_store.specs.Stores.{held, IsOn}
 use Rattle.cad_store.proofs.Holding.{one_map}
 use Rattle.cadence.specs.Lines.{commands}
 use Rattle.cadence.specs.Served.{Served}
-use Rattle.cadence.specs.Writing.{WroteStopped}
 use Rattle.cadence.specs.Crashes.{DiskStands, Survives}
 use Rattle.cadence.specs.declared.status.Status.{Status}
 use Rattle.cadence.specs.declared.status.Status.TheVariants.{Done, Usage, ReadFault, WriteFault, DiskFault, Memory, BadStore, InputBound}
 use Rattle.cadence.specs.Ending.{Ends, HasCause, IsCausedBy, HasRun, status_of}
 use Rattle.cadence.proofs.Batches.{served_none}
-use Rattle.cadence.proofs.Writings.{stopped_none}
 use Rattle.cadence.proofs.Saids.{survives_none}
 
 -- the accounts that the tapes stand for are those that the store holds
@@ -28,13 +26,13 @@ pub ends_from : (s : Status) (w : Accounts) (input input2 left : List ℕ) (old 
 ends_from s w input input2 left old old2 new same story h = subst (λ i. Ends s w i left old new) same (subst (λ m. Ends s w input2 left m new) story h)
 
 -- the store could not be opened
-pub stop_ends : (s : OpenStop) (w : Accounts) (input left : List ℕ) (old new : List Event) → new ≡ old → DiskStands (reads old) w → (s ≡ stop.BadStore → ⊥) → Ends (status_of s) w input left old new
-stop_ends stop.Failed w input left old new same h good = record {
-  leaves = (w, record { count = 0; within = omega arith; served = subst (λ m. Served w [] (output old) (output m) w) (sym same) (served_none w (output old)) }, subst (λ m. WroteStopped w (commands input) old m w) (sym same) (stopped_none w (commands input) old));
+pub stop_ends : (s : OpenStop) (w : Accounts) (input left : List ℕ) (old new : List Event) → left ≡ input → new ≡ old → DiskStands (reads old) w → (s ≡ stop.BadStore → ⊥) → Ends (status_of s) w input left old new
+stop_ends stop.Failed w input left old new stays same h good = record {
+  leaves = inl (stays, same);
   survives = subst (λ m. Survives w (commands input) old m) (sym same) (survives_none w (commands input) old h);
 }
-stop_ends stop.BadStore w input left old new same h good = absurd (good refl)
-stop_ends stop.Memory w input left old new same h good = record {
+stop_ends stop.BadStore w input left old new stays same h good = absurd (good refl)
+stop_ends stop.Memory w input left old new stays same h good = record {
   leaves = (w, record { count = 0; within = omega arith; served = subst (λ m. Served w [] (output old) (output m) w) (sym same) (served_none w (output old)) }, subst (λ m. DiskStands (reads m) w) (sym same) h, record { first = []; rest = commands input; are = refl; wrote = (refl, same) });
   survives = subst (λ m. Survives w (commands input) old m) (sym same) (survives_none w (commands input) old h);
 }

@@ -18,7 +18,7 @@ use Rattle.cadence.specs.declared.status.Status.{Status}
 use Rattle.cadence.specs.declared.status.Status.TheVariants.{Done, Usage, ReadFault, WriteFault, DiskFault, Memory, BadStore, InputBound}
 use Rattle.cadence.specs.Ending.{Leaves, Ends, HasCause, StopCause}
 use Rattle.cadence.proofs.Splits.{lines_byte, lines_feed, onto, lines_onto}
-use Rattle.cadence.proofs.Batches.{begun_all, begun_some, begun_broken, begun_more}
+use Rattle.cadence.proofs.Batches.{begun_none, begun_all, begun_some, begun_broken, begun_more}
 use Rattle.cadence.proofs.Prefixes.{survives_more}
 use Rattle.cadence.proofs.Saids.{on_stands, said_none, said_then, halted_then, halted_more, memory_here}
 
@@ -121,7 +121,7 @@ halted_leaves Done w input left base p h = absurd h
 halted_leaves Usage w input left base p h = absurd h
 halted_leaves ReadFault w input left base p h = absurd h
 halted_leaves WriteFault w input left base p h = h
-halted_leaves DiskFault w input left base p h = h
+halted_leaves DiskFault w input left base p h = inr h
 halted_leaves Memory w input left base p h = h
 halted_leaves BadStore w input left base p h = absurd h
 halted_leaves InputBound w input left base p h = absurd h
@@ -206,7 +206,8 @@ ends_begin Done w input left base o e = begun_all w e.0 (commands input) (output
 ends_begin Usage w input left base o e = absurd e
 ends_begin ReadFault w input left base o e = finished_begun w e.0 input e.1 left base o e.2 e.3
 ends_begin WriteFault w input left base o e = begun_broken w e.0 (commands input) (output base) (output o) e.1
-ends_begin DiskFault w input left base o e = begun_some w e.0 (commands input) (output base) (output o) e.1
+ends_begin DiskFault w input left base o (inl e) = subst (λ m. Begun w (commands input) (output base) (output m)) (sym e.1) (begun_none w (commands input) (output base))
+ends_begin DiskFault w input left base o (inr e) = begun_some w e.0 (commands input) (output base) (output o) e.1
 ends_begin Memory w input left base o e = begun_some w e.0 (commands input) (output base) (output o) e.1
 ends_begin BadStore w input left base o e = absurd e
 ends_begin InputBound w input left base o e = finished_begun w e.0 input e.1 (e.2 ∷ left) base o e.4 e.5

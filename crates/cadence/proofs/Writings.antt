@@ -3,7 +3,7 @@ use Rattle.std.proofs.Common.{◌≡◌, ℕ, List, [], ◌∷◌, ◌++◌, ref
 use Rattle.cad_host.specs.Disk.{Event, put}
 use Rattle.cad_accounts.specs.Accounts.{Accounts}
 use Rattle.cadence.specs.Answer.{answer_line}
-use Rattle.cadence.specs.Writing.{Wrote, WroteSome, WroteBroken, WroteStopped, Stopped, opening, writing}
+use Rattle.cadence.specs.Writing.{Wrote, WroteSome, WroteBroken, WroteStopped, Stopped, writing}
 
 pub wrote_then : (w u v : Accounts) (xs ys : List (List ℕ)) (o p q : List Event) → Wrote w xs o p u → Wrote u ys p q v → Wrote w (xs ++ ys) o q v
 wrote_then w u v [] ys o p q h k = subst (λ x. Wrote x ys o q v) h.0 (subst (λ m. Wrote u ys m q v) h.1 k)
@@ -56,9 +56,6 @@ wrote_broken_more w v xs ys o p h = record {
   broke = h.broke;
 }
 
-pub stopped_none : (w : Accounts) (cs : List (List ℕ)) (m : List Event) → WroteStopped w cs m m w
-stopped_none w cs m = record { first = []; rest = cs; are = refl; told = m; wrote = (refl, refl); stopped = opening refl }
-
 pub wrote_stopped_then : (w u v : Accounts) (xs ys : List (List ℕ)) (o p q : List Event) → Wrote w xs o p u → WroteStopped u ys p q v → WroteStopped w (xs ++ ys) o q v
 wrote_stopped_then w u v xs ys o p q h k = record {
   first = xs ++ k.first;
@@ -70,7 +67,6 @@ wrote_stopped_then w u v xs ys o p q h k = record {
 }
 
 stopped_more : (w : Accounts) (rest ys : List (List ℕ)) (o p : List Event) → Stopped w o p rest → Stopped w o p (rest ++ ys)
-stopped_more w rest ys o p (opening same) = opening same
 stopped_more w (next ∷ rest) ys o p (writing answers is_w is_v leads some broken) = writing answers is_w is_v leads some broken
 
 pub wrote_stopped_more : (w v : Accounts) (xs ys : List (List ℕ)) (o p : List Event) → WroteStopped w xs o p v → WroteStopped w (xs ++ ys) o p v

@@ -1,5 +1,5 @@
 -- What a run leaves, by its status.
-use Rattle.std.specs.Prelude.{◌≡◌, ℕ, ◌≤◌, ◌^◌, List, [], ◌∷◌, ◌++◌, length}
+use Rattle.std.specs.Prelude.{◌≡◌, ◌⊎◌, ℕ, ◌≤◌, ◌^◌, List, [], ◌∷◌, ◌++◌, length}
 use Rattle.cad_host.specs.Disk.{Event, output, reads}
 use Rattle.cad_host.specs.Faults.{Rose}
 use Rattle.cad_accounts.specs.Accounts.{Accounts}
@@ -17,7 +17,7 @@ abbrev pub input_bound : ℕ
 input_bound = 2 ^ 40
 
 -- Of the input these bytes are left, and the output grew; but for a disk fault the tapes stand for the accounts after the
--- commands that were replied to.
+-- commands that were replied to. A disk fault ended the opening, or the commit of the next command.
 abbrev pub Leaves : Status → Accounts → (input left : List ℕ) → (old new : List Event) → Type 0
 Leaves Done w input left old new =
     (v : Accounts) × (left ≡ []) × (length input ≤ input_bound) × Served w (commands input) (output old) (output new) v × DiskStands (reads new) v × Wrote w (commands input) old new v
@@ -25,7 +25,8 @@ Leaves Usage w input left old new = ⊥
 Leaves ReadFault w input left old new =
     (v : Accounts) × (taken : List ℕ) × (input ≡ taken ++ left) × Finished w taken old new v × DiskStands (reads new) v
 Leaves WriteFault w input left old new = (v : Accounts) × Broken w (commands input) (output old) (output new) v × DiskStands (reads new) v × WroteBroken w (commands input) old new v
-Leaves DiskFault w input left old new = (v : Accounts) × ServedSome w (commands input) (output old) (output new) v × WroteStopped w (commands input) old new v
+Leaves DiskFault w input left old new =
+    ((left ≡ input) × (new ≡ old)) ⊎ ((v : Accounts) × ServedSome w (commands input) (output old) (output new) v × WroteStopped w (commands input) old new v)
 Leaves Memory w input left old new = (v : Accounts) × ServedSome w (commands input) (output old) (output new) v × DiskStands (reads new) v × WroteSome w (commands input) old new v
 Leaves BadStore w input left old new = ⊥
 Leaves InputBound w input left old new =

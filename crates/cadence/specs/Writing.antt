@@ -43,9 +43,8 @@ pub record WroteBroken (w : Accounts) (commands : List (List ℕ)) (old new : Li
   pub written : Written accounts v told behind
   pub broke : BreaksPut (answer_line answer) behind new
 
--- A call of the disk broke: before any command, or one of those that write what the next command changes.
+-- One of the disk calls that write what the next command changes broke.
 pub data Stopped (w : Accounts) (old new : List Event) : List (List ℕ) → Type 0 where
-  opening : {rest : List (List ℕ)} → new ≡ old → Stopped w old new rest
   writing : {next : List ℕ} {rest : List (List ℕ)} {a : Answer} {v : Accounts} {before behind : Map} {changes : List Entry} → Answers w next a v → StandsFor before w → StandsFor behind v
       → Leads before behind changes → changes ≢ [] → BreaksRecord (body_bytes changes) old new → Stopped w old new (next ∷ rest)
 

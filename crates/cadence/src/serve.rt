@@ -1,5 +1,5 @@
 // The run: lines come in, and a reply goes out for each command.
-ghost use Rattle.std.specs.Prelude.{◌≡◌, ◌≢◌, ◌≤◌, ◌<◌, ◌+◌, ◌^◌, ◌++◌, ◌↔◌, [], ◌∷◌, List, ℕ, length, take, IfOk, IfErr, OnOk, OnErr, Ok};
+ghost use Rattle.std.specs.Prelude.{◌≡◌, ◌≢◌, ◌≤◌, ◌<◌, ◌+◌, ◌^◌, ◌++◌, ◌↔◌, ◌⊎◌, [], ◌∷◌, List, ℕ, length, take, IfOk, IfErr, OnOk, OnErr, Ok};
 ghost use Rattle.cad_host.specs.Disk.{Event, output, reads, Puts};
 ghost use Rattle.cad_host.specs.Faults.{Rose, IsCaused};
 ghost use Rattle.cad_wire.specs.declared.entry.Entry.{Entry};
@@ -393,7 +393,7 @@ fn open_and_run<H: Host>(alloc: Global, host: &mut H) -> Status
 /// All that the program does. It reads the words `run FOLDER`, opens the accounts that the tapes stand for, which writes
 /// nothing, and reads the input: lines that end with a line feed or with the input. A line of spaces, tabs and carriage
 /// returns alone is no command and has no reply; any other line is a command. What it changes is written, and then its reply
-/// line is put, before the next is read.
+/// line is put.
 ///
 /// The status is Usage exactly where the words are others. BadStore comes exactly where the tapes stand for no accounts,
 /// unless a disk fault or want of memory ended the opening. ReadFault, WriteFault and DiskFault come only where the host's
@@ -422,15 +422,16 @@ pub fn serve<H: Host>(alloc: Global, words: &[Text], host: &mut H) -> Status
     ensures begun { H.tells → (w : Accounts) → DiskStands (reads (H.trace host.old)) w
         → Begun w (commands (H.left host.old)) (output (H.trace host.old)) (output (H.trace host.new)) }
 
-    // Memory: the tapes stand for the accounts after exactly the commands that were replied to. DiskFault: no command whose
-    // commit failed was replied to, and no command behind it was begun. WriteFault: the command whose line broke took effect,
-    // and what it changes was written before.
+    // Memory: the tapes stand for the accounts after exactly the commands that were replied to. DiskFault: the opening failed,
+    // and nothing was taken, written or put; or a disk call of a commit broke, and neither was its command replied to nor a
+    // command behind it begun. WriteFault: the command whose line broke took effect, and what it changes was written before.
     ensures memory { H.tells → result ≡ Status.Memory → (w : Accounts) → DiskStands (reads (H.trace host.old)) w
         → (v : Accounts) × ServedSome w (commands (H.left host.old)) (output (H.trace host.old)) (output (H.trace host.new)) v
         × DiskStands (reads (H.trace host.new)) v × WroteSome w (commands (H.left host.old)) (H.trace host.old) (H.trace host.new) v }
     ensures disk_fault { H.tells → result ≡ Status.DiskFault → (w : Accounts) → DiskStands (reads (H.trace host.old)) w
-        → (v : Accounts) × ServedSome w (commands (H.left host.old)) (output (H.trace host.old)) (output (H.trace host.new)) v
-        × WroteStopped w (commands (H.left host.old)) (H.trace host.old) (H.trace host.new) v }
+        → ((H.left host.new ≡ H.left host.old) × (H.trace host.new ≡ H.trace host.old))
+        ⊎ ((v : Accounts) × ServedSome w (commands (H.left host.old)) (output (H.trace host.old)) (output (H.trace host.new)) v
+        × WroteStopped w (commands (H.left host.old)) (H.trace host.old) (H.trace host.new) v) }
     ensures write_fault { H.tells → result ≡ Status.WriteFault → (w : Accounts) → DiskStands (reads (H.trace host.old)) w
         → (v : Accounts) × Broken w (commands (H.left host.old)) (output (H.trace host.old)) (output (H.trace host.new)) v
         × DiskStands (reads (H.trace host.new)) v × WroteBroken w (commands (H.left host.old)) (H.trace host.old) (H.trace host.new) v }

@@ -22,9 +22,8 @@ pub enum Status {
 }
 
 impl Status {
-    ghost use Rattle.std.specs.Prelude.{◌≡◌, ◌↔◌, IsNone};
-    ghost use Rattle.cadence.specs.Statuses.{status_number};
-    ghost use Rattle.cadence.specs.declared.status.Status.TheVariants.{Done};
+    ghost use Rattle.std.specs.Prelude.{◌≡◌, option_map};
+    ghost use Rattle.cadence.specs.Statuses.{status_number, status_line};
 
     /// The number with which the program ends.
     pub fn number(self) -> u8
@@ -44,7 +43,7 @@ impl Status {
 
     /// The line that the program prints on standard error. None exactly where the work is whole.
     pub fn line(self) -> Option<&'static str>
-        ensures { IsNone result ↔ (self ≡ Done) }
+        ensures { option_map (λ line. line.now) result ≡ status_line self }
     {
         match self {
             Status::Done => None,

@@ -33,7 +33,7 @@ returns-in-Ok-clause-cause g c = run_cause c.run.result _ _ _ _ _ _ _ _ _ c.open
 pub returns-in-Err-clause-ends : goal.returns-in-Err-clause-ends
 returns-in-Err-clause-ends g c = λ tell w disk.
     subst (λ s. Ends s w (g.H.Host.left c.args.host.now) (g.H.Host.left c.open.new.host) (g.H.Host.trace c.args.host.now) (g.H.Host.trace c.open.new.host)) (sym c.stop_of.ensures)
-    (stop_ends c.in-Err.stop w (g.H.Host.left c.args.host.now) (g.H.Host.left c.open.new.host) (g.H.Host.trace c.args.host.now) (g.H.Host.trace c.open.new.host) (c.open.ensures.story tell) disk
+    (stop_ends c.in-Err.stop w (g.H.Host.left c.args.host.now) (g.H.Host.left c.open.new.host) (g.H.Host.trace c.args.host.now) (g.H.Host.trace c.open.new.host) (c.open.ensures.stays tell) (c.open.ensures.story tell) disk
     (λ is. c.in-Err.ensures.bad tell (ap Err is) disk.map disk.holds (w, disk.stands)))
 
 pub returns-in-Err-clause-bad : goal.returns-in-Err-clause-bad
