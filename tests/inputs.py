@@ -1,9 +1,11 @@
 #!/usr/bin/env python3
 """Gives the program input of every kind, and shows that it ends with the right status and the right replies, and never hangs.
 
-Random bytes; request lines cut anywhere; lines of 1,048,576 bytes and of one more; deep JSON; NUL bytes; words of every
-form; folders that aren't there or can't be written; streams that are closed, full or fail; two runs one after another; and
-tapes that are cut, changed or made of noise. A run that takes a minute counts as one that hangs.
+Random bytes; request lines cut anywhere; lines of 1,048,576 bytes and of one more; deep JSON; NUL bytes; each control
+character; half surrogates; fields of every kind, order and number; programs at each bound on nesting, and as long as a line
+may be; words of every form; folders that aren't there or can't be written, and files that are none; streams that are closed,
+full, slow or fail; two runs one after another; and tapes that are cut, changed or made of noise. A run that takes a minute
+counts as one that hangs.
 
 Not tried: 2^40 bytes of input (status 8).
 
@@ -12,16 +14,19 @@ Not tried: 2^40 bytes of input (status 8).
 """
 import argparse
 import contextlib
+import json
 import os
 import pathlib
 import random
 import resource
+import select
 import shutil
 import subprocess
 import sys
 import tempfile
 
 import model
+import nesting
 from crashes import Wrong, hold
 from model import STATUSES, bad, result
 
@@ -125,7 +130,7 @@ def long_lines(tries):
     tries.run("a sum of many terms", model.line_of(("script", [[1]] * many)), "done", result(many))
     tries.run("a product of many factors", model.line_of(("script", [[1] * many])), "done", result(1))
     digits = model.line_of(("script", [[1]])).replace(b" 1 ", b" " + b"0" * 500_000 + b"9 ")
-    tries.run("a literal of many digits", digits, "done", None)
+    tries.run("a literal of many digits", digits, "done", result(9))
 
 
 def deep_lines(tries):
@@ -157,6 +162,156 @@ def odd_lines(tries):
     tries.run("the last of equal fields", ACCOUNT.replace(b"{", b'{"kind":"script",'), "done", FIRST)
 
 
+def code_line(code, **more):
+    kind = "transaction" if "transaction" in code[:12] else "script"
+    return json.dumps({"kind": kind, "code": code, **more}).encode() + b"\n"
+
+
+def control_characters(tries):
+    """Each in code, as JSON writes it and by itself; and some that look like gaps and are none."""
+    lines, replies = b"", b""
+    for code in [*range(33), *range(127, 161), 0xAD, 0x200B, 0x2028, 0x2029, 0x3000, 0xFEFF, 0xFFFD, 0x1F600]:
+        units = chr(code).encode("utf-16-be")
+        written = b"".join(b"\\u%02x%02x" % (units[i], units[i + 1]) for i in range(0, len(units), 2))
+        reply = result(7) if chr(code) in " \t\r\n" else rejected("lex", 38)
+        lines += SCRIPT.replace(b"1 +", b"1" + written + b" +")
+        replies += reply
+        if code != 10:
+            lines += SCRIPT.replace(b"1 +", b"1" + chr(code).encode() + b" +")
+            replies += bad(29) if code < 32 else reply
+    tries.run("control characters in code", lines, "done", replies)
+    gaps = [chr(code) for code in (9, 10, 13, 32)]
+    tries.run("gaps in JSON", ACCOUNT.replace(b":", b" \t\r: \t\r")[:-1] + b" \t\r\n", "done", FIRST)
+    for gap in gaps:
+        code = "access(all) fun main(): Int { return" + gap + "1 }"
+        reply = bad(29) if gap == "\n" else result(1)
+        tries.run(f"the gap {gap!r} behind return", code_line(code), "done", reply)
+
+
+def half_characters(tries):
+    for half in ("\\ud800", "\\udfff", "\\udc00\\ud800", "\\ud800\\ud800", "\\ud83dx", "\\ud83d\\n", "\\ud83d\\u0041", "\\ud8", "\\uzzzz", "\\x41"):
+        for line in (SCRIPT.replace(b"1 +", b"1" + half.encode() + b" +"), SCRIPT[:-3] + half.encode() + b'"}\n'):
+            tries.run(f"{half} in code", line + SCRIPT, "done", bad(29) + result(7))
+        tries.run(f"{half} in another field", SCRIPT.replace(b"{", b'{"a":"' + half.encode() + b'",', 1), "done", bad(29))
+    for cut in (b"\xc3", b"\xe2\x82", b"\xf0\x9f\x98", b"\xc0\x80", b"\xed\xa0\x80", b"\xf4\x90\x80\x80", b"\x80", b"\xff"):
+        tries.run(f"{cut} in code", SCRIPT.replace(b"1 +", b"1" + cut + b" +") + SCRIPT, "done", bad(29) + result(7))
+
+
+def odd_fields(tries):
+    """Whole numbers, lists and texts where they are wanted, and all else; names and values as JSON may write them."""
+    refused = {"kind": "script", "code": "fun"}
+    for field, kinds in {
+        "limit": "0 1 9999 1000001 18446744073709551615",
+        "arguments": "[] [1,2]",
+        "signers": '[] ["0x1"] 5 null {}',
+        "other": "1e2 -0 null 1.5e-300",
+    }.items():
+        for value in kinds.split():
+            line = json.dumps(refused)[:-1].encode() + f',"{field}":{value}}}\n'.encode()
+            tries.run(f"{field} is {value}", line, "done", rejected("parse", 0))
+    wrong = "18446744073709551616 1e2 1E2 1.0 -0 -1 -0.0 1e400 1e-400 99999999999999999999999999 01 +1 .5 1. 0x10 1_0 NaN Infinity - true null [] {}"
+    for value in wrong.split() + ['"1"', ""]:
+        line = json.dumps(refused)[:-1].encode() + f',"limit":{value}}}\n'.encode()
+        tries.run(f"limit is {value}", line + SCRIPT, "done", bad(29) + result(7))
+    for value in ("1", "null", "{}", '"[]"'):
+        tries.run(f"arguments is {value}", json.dumps(refused)[:-1].encode() + b',"arguments":' + value.encode() + b"}\n", "done", bad(29))
+    for value in ("1e400", "01", "+1", "[1,]", "{,}", "tru", "'a'"):
+        tries.run(f"another field is {value}", ACCOUNT[:-2] + b',"more":' + value.encode() + b"}\n", "done", bad(29))
+    for line in (b'[{"kind":"account"}]', b'"account"', b"null", b"7", b"{}", b'{"kind":["account"]}', b'{"kind":"Account"}', b'{"Kind":"account"}'):
+        tries.run(f"the line {line}", line + b"\n" + ACCOUNT, "done", bad(29) + FIRST)
+
+
+def equal_fields(tries):
+    tries.run("names by their codes", b'{"\\u006bin\\u0064":"acc\\u006funt"}\n', "done", FIRST)
+    first, second = (line[1:-2] for line in (SCRIPT, model.line_of(("script", [[9]]))))
+    code = b'"code":' + second.partition(b'"code": ')[2]
+    tries.run("the last of two codes", b"{" + first + b"," + code + b"}\n", "done", result(9))
+    tries.run("the last of two codes, the first no text", b'{"code":5,' + first + b"}\n", "done", result(7))
+    tries.run("the last of two limits", b'{"limit":"x","limit":-1,"code":"#","limit":3,"kind":"script"}\n', "done", rejected("lex", 0))
+    tries.run("the last of two limits is wrong", b'{"limit":3,"code":"#","limit":-0,"kind":"script"}\n', "done", bad(29))
+    tries.run("the last of two signers", ACCOUNT + SAVE.replace(b'"signers": ', b'"signers": [], "signers": '), "done", FIRST + model.DONE)
+    fields = json.loads(SAVE)
+    for order in (("code", "kind", "signers"), ("signers", "code", "kind"), ("kind", "code", "signers"), ("code", "signers", "kind")):
+        line = json.dumps({name: fields[name] for name in order}).encode() + b"\n"
+        tries.run(f"the order {order}", ACCOUNT + line, "done", FIRST + model.DONE)
+
+
+def odd_signers(tries):
+    for signers, reply in {
+        '["0x1"]': model.DONE, '["0x0000000000000001"]': model.DONE, '["0x0001"]': model.DONE,
+        '["0x0"]': bad(26), '["0x2"]': bad(26), '["0xFfFFffffFFFFffff"]': bad(26), '["0xabcdef"]': bad(26),
+        '["0x00000000000000001"]': bad(29), '["0x"]': bad(29), '["0X1"]': bad(29), '["1"]': bad(29), '[""]': bad(29),
+        '["0x1 "]': bad(29), '[" 0x1"]': bad(29), '["0xg"]': bad(29), '["0x-1"]': bad(29), '["0x1_0"]': bad(29),
+        '["0x\u0661"]': bad(29), '["0x1\\u0000"]': bad(29), '["0x1","0x1"]': bad(29), "[]": bad(29), '"0x1"': bad(29),
+        "[1]": bad(29), "[null]": bad(29), '[["0x1"]]': bad(29), "null": bad(29), "{}": bad(29),
+    }.items():  # fmt: skip
+        line = SAVE.replace(b'["0x1"]', signers.encode())
+        tries.run(f"the signers {signers}", ACCOUNT + line, "done", FIRST + reply)
+
+
+def nested_programs(tries):
+    """Each bracket, sign and word that opens a nesting, 128 times, once more, and as often as a line has room for."""
+    forms = list(nesting.forms())
+    lines, replies, names = [], [], []
+    for form in forms:
+        for count in (1, nesting.MOST - form[1], nesting.MOST - form[1] + 1):
+            lines.append(code_line(nesting.text_of(form, count)))
+            replies.append(bad(29) if form[1] + count <= nesting.MOST else rejected("parse", 0))
+            names.append(f"{form[0]}, {count} times")
+    done = tries.run("programs that nest", b"".join(lines), "done", None)
+    for name, reply, wanted in zip(names, done.stdout.splitlines(keepends=True), replies, strict=True):
+        hold(reply == wanted, name, "gives", reply)
+    for form in forms if tries.long else tries.chance.sample(forms, 10):
+        head, _, tail = form[3]
+        code = nesting.text_of(form, 900_000 // len(head + tail))
+        tries.run(f"{form[0]}, as often as there is room", code_line(code), "done", rejected("parse", 0))
+        tries.run(f"{form[0]}, not closed", code_line(form[2] + head * 200), "done", rejected("parse", 0))
+
+
+def long_programs(tries):
+    many, sum_ = 1_000_000, "access(all) fun main(): Int { return 7 }"
+    head = "access(all) fun main() { "
+    for name, code, reply in (
+        ("a long name", f"access(all) fun {'n' * many}() {{}}", bad(29)),
+        ("a long comment", f"/*{'c' * many}*/{sum_}", result(7)),
+        ("a long comment to the end", f"{sum_}//{'c' * many}", result(7)),
+        ("a long comment that isn't closed", f"/*{'c' * many}", rejected("lex", 0)),
+        ("comments in comments", "/*" * (many // 4) + "*/" * (many // 4) + sum_, result(7)),
+        ("comments in comments that aren't closed", "/*" * (many // 2), rejected("lex", 0)),
+        ("a long text", f'{head}let x = "{"t" * many}" }}', bad(29)),
+        ("a long text that isn't closed", f'{head}let x = "{"t" * many}', rejected("lex", len(head) + 8)),
+        ("a long gap", sum_.replace("7", " " * many + "7"), result(7)),
+        ("many line feeds", "\n" * (many // 2) + sum_, result(7)),
+        ("many digits", sum_.replace("7", "9" * many), rejected("lex", 37)),
+        ("many noughts", sum_.replace("7", "0" * many + "7"), result(7)),
+        ("many underscores", sum_.replace("7", "7" + "_0" * 3 + "_" * many), rejected("parse", 0)),
+        ("many digits of a fraction", sum_.replace("7", "0." + "0" * many), rejected("parse", 0)),
+        ("many imports", "import A from 0x1\n" * (many // 20), bad(29)),
+        ("an import of many names", f"import A{', A' * (many // 3)} from 0x1", bad(29)),
+        ("an import that doesn't end", f"import A{', A' * (many // 3)}", rejected("parse", 0)),
+        ("many functions", "access(all) fun f() {}" * (many // 22), bad(29)),
+        ("many statements", f"{head}{'a;' * (many // 2)} }}", bad(29)),
+        ("many semicolons", f"{head}{';' * many} }}", rejected("parse", 0)),
+        ("many parameters", f"access(all) fun f({'a: A, ' * (many // 6)}) {{}}", bad(29)),
+        ("many arguments", f"{head}f({'1,' * (many // 2)}) }}", bad(29)),
+        ("many elements", f"{head}let x = [{'1,' * (many // 2)}] }}", bad(29)),
+        ("many parts of a name", f"{head}let x: A{'.A' * (many // 2)} = 1 }}", bad(29)),
+        ("many entitlements", f"access(A{', A' * (many // 3)}) fun f() {{}}", bad(29)),
+        ("many members of an intersection", f"{head}let x: {{A{', A' * (many // 3)}}} = 1 }}", bad(29)),
+        ("many cases", f"{head}switch a {{ {'case 1: ' * (many // 8)} }} }}", bad(29)),
+        ("many comparisons", f"{head}let x = [{'a<b,' * 10_000}] }}", bad(29)),
+        ("a program and noise behind it", sum_ * (many // 50) + "#", rejected("lex", len(sum_) * (many // 50))),
+        ("programs and no program behind them", f"{sum_ * (many // 50)} x", rejected("parse", len(sum_) * (many // 50) + 1)),
+    ):
+        tries.run(name, code_line(code) + SCRIPT, "done", reply + result(7))
+    folder = tries.folder()
+    commands = [("account",), ("save", 1, None, [[1]], "n" * many), ("save", 1, "n" * many, [[2]], "m" * 500_000)]
+    replies, states = model.replies_to(commands, model.Accounts())
+    tries.run("a long path", b"".join(map(model.line_of, commands)), "done", b"".join(replies[:2]) + bad(27), folder)
+    hold(model.accounts_in(folder) == states[2], "a long path: the accounts are others")
+    tries.run("a long path again", model.line_of(("save", 1, None, [[1]], "n" * many)), "done", model.failed(111), folder)
+
+
 def odd_words(tries):
     folder = str(tries.folder())
     many = [["run", ""], ["run", "-x"], ["run", folder, "more"], ["go", folder], ["run", b"\xff"]]
@@ -185,6 +340,37 @@ def odd_folders(tries):
     for name in ("a", "b", "pick"):
         (files / name).chmod(0o444)
     tries.run("tapes that can't be written", ACCOUNT, "disk", b"", files, **user)
+
+
+def odd_files(tries):
+    """Folders, links, pipes and devices in the place of a file, and files that can't be read."""
+    user = {"user": 65534, "group": 65534, "extra_groups": []} if os.getuid() == 0 else {}
+    for name in ("a", "b", "pick"):
+        for what, make, status in (
+            ("a folder", lambda path: path.mkdir(), "disk"),
+            ("a link to nothing", lambda path: path.symlink_to(path.parent / "elsewhere"), "done"),
+            ("a link into no folder", lambda path: path.symlink_to(path.parent / "none" / "elsewhere"), "disk"),
+            ("a link to itself", lambda path: path.symlink_to(path), "disk"),
+            ("a link to the folder", lambda path: path.symlink_to(path.parent), "disk"),
+            ("a file that can't be read", lambda path: path.touch(0o222), "disk"),
+            ("a file that can't be written", lambda path: path.touch(0o444), "disk"),
+            ("a link to a full device", lambda path: path.symlink_to("/dev/full"), "done" if name == "b" else "disk"),
+            ("a pipe", os.mkfifo, "done" if name == "b" else "disk"),
+        ):
+            folder = tries.folder()
+            folder.chmod(0o777)
+            make(folder / name)
+            (folder / name).chmod(0o777) if what in ("a pipe", "a folder") else None
+            told = FIRST if status == "done" else b""
+            tries.run(f"{what} in the place of {name}", ACCOUNT, status, told, folder, **user)
+    real, links = tries.folder(), tries.folder()
+    (links / "link").symlink_to(real)
+    tries.run("a link to the folder", ACCOUNT, "done", FIRST, links / "link")
+    hold(model.accounts_in(real).count == 1, "a link to the folder: the accounts are others")
+    tries.run("a folder with a slash behind it", SAVE, "done", model.DONE, f"{real}/")
+    tries.run("a folder with odd letters", ACCOUNT, "disk", b"", real / "\n\u00e9 \u2028'")
+    tries.run("a name of a folder that is too long", ACCOUNT, "disk", b"", real / ("n" * 300))
+    tries.run("a path that is too long", ACCOUNT, "disk", b"", str(real) + "/." * 60_000)
 
 
 @contextlib.contextmanager
@@ -228,6 +414,32 @@ def odd_streams(tries):
     reading = os.open(folder, os.O_RDONLY)
     stream_run(tries, "a folder as the input", "read", folder, stdin=reading, stdout=none, stderr=none)
     os.close(reading)
+
+
+def slow_streams(tries):
+    """Each reply comes before the next line is given, however the bytes come; and the reader goes away after the first."""
+    folder, pipe = tries.folder(), subprocess.PIPE
+    lines = [ACCOUNT, SAVE, SCRIPT, b" \n" + MOVE, MOVE[:-1] + b"\r\n"]
+    replies = [FIRST, model.DONE, result(7), model.DONE, model.failed(106)]
+    process = subprocess.Popen([tries.program, "run", str(folder)], stdin=pipe, stdout=pipe, bufsize=0)
+    tries.count += 1
+    for line, reply in zip(lines, replies):
+        for part in (line[:1], line[1:9], line[9:-1], line[-1:]):
+            process.stdin.write(part)
+        ready = select.select([process.stdout], [], [], 60)[0]
+        hold(ready, "no reply before the next line")
+        hold(process.stdout.read(1000) == reply, "a wrong reply to", line)
+    process.stdin.close()
+    hold(process.wait(60) == 0, "slow lines end with", process.returncode)
+    process.stdout.close()
+    with subprocess.Popen([tries.program, "run", str(folder)], stdin=pipe, stdout=pipe, stderr=pipe, bufsize=0) as process:
+        process.stdin.write(ACCOUNT)
+        hold(process.stdout.read(1000) == FIRST.replace(b"1", b"2"), "a wrong reply to the reader that goes away")
+        process.stdout.close()
+        process.stdin.write(ACCOUNT + ACCOUNT)
+        hold(process.wait(60) == 4, "where the reader goes away the status is", process.returncode)
+        process.stdin.close()
+    hold(model.accounts_in(folder).count == 3, "where the reader went away there are", model.accounts_in(folder).count, "accounts")
 
 
 def closed_streams(tries):
@@ -351,7 +563,8 @@ def odd_stores(tries):
 
 
 KINDS = [
-    random_bytes, changed_lines, cut_lines, long_lines, deep_lines, odd_lines, odd_words, odd_folders, odd_streams,
+    random_bytes, changed_lines, cut_lines, long_lines, deep_lines, odd_lines, control_characters, half_characters, odd_fields,
+    equal_fields, odd_signers, nested_programs, long_programs, odd_words, odd_folders, odd_files, odd_streams, slow_streams,
     closed_streams, little_memory, two_runs, cut_stores, changed_stores, odd_stores,
 ]  # fmt: skip
 

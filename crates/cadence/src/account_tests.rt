@@ -31,6 +31,30 @@ const NO_ACCOUNT: &str = "{\"error\":\"26\",\"reply\":\"bad\"}\n";
 const STRANGER: &str =
     "{\"kind\":\"transaction\",\"signers\":[\"0x9\"],\"code\":\"transaction { prepare(a: auth(Storage) &Account) { a.storage.save(1, to: /storage/x) } }\"}\n";
 
+const TWO: &str = "{\"address\":\"0x0000000000000001\",\"reply\":\"ok\"}
+{\"destroyed\":[],\"events\":[],\"made\":[],\"reply\":\"ok\"}
+";
+
+// The replies to `SAVE` and `MOVE` where there is no account.
+const NONE_MADE: &str = "{\"error\":\"26\",\"reply\":\"bad\"}
+{\"error\":\"26\",\"reply\":\"bad\"}
+";
+
+// Where there is one without numbers.
+const NONE_SAVED: &str = "{\"destroyed\":[],\"events\":[],\"made\":[],\"reply\":\"ok\"}
+{\"destroyed\":[],\"events\":[],\"made\":[],\"reply\":\"ok\"}
+";
+
+// Where it has a number at x.
+const SAVED: &str = "{\"error\":\"111\",\"reply\":\"failed\"}
+{\"destroyed\":[],\"events\":[],\"made\":[],\"reply\":\"ok\"}
+";
+
+// Where it has one at y.
+const MOVED: &str = "{\"destroyed\":[],\"events\":[],\"made\":[],\"reply\":\"ok\"}
+{\"error\":\"111\",\"reply\":\"failed\"}
+";
+
 // The tape with the record of one account.
 const TAPE: [u8; 67] = [
     1, 0, 0, 0, 0, 0, 0, 0, 57, 1, 0, 0, 0, 2, 0, 0, 0, 1, 0, 1, 0, 0, 0, 16, 0, 0, 0, 0, 0, 0, 0,
@@ -99,6 +123,24 @@ fn writes_one_record(rt: HostRuntime) -> Result<(), Fail> {
     Ok(())
 }
 
+// The replies to `SAVE` and `MOVE` over the tapes of a host: they tell after how many commands of `session` these are.
+fn next_replies(alloc: Global, host: &MemHost) -> Result<Items<u8>, AllocError> {
+    let input = format!(in alloc; "{SAVE}{MOVE}")?;
+    let mut next = with_tapes(
+        alloc,
+        &input,
+        host.tape(Tape::A),
+        host.tape(Tape::B),
+        host.tape(Tape::Pick),
+    )?;
+    run(alloc, &mut next)?;
+    Items::from_slice(alloc, next.output())
+}
+
+fn session(alloc: Global) -> Result<String, AllocError> {
+    format!(in alloc; "{ACCOUNT}{SAVE}{MOVE}{MOVE}")
+}
+
 #[test]
 fn leaves_the_tapes_empty(rt: HostRuntime) -> Result<(), Fail> {
     let alloc = rt.alloc();
@@ -113,17 +155,71 @@ fn leaves_the_tapes_empty(rt: HostRuntime) -> Result<(), Fail> {
     Ok(())
 }
 
+// The disk calls are three of the opening, and four of each commit, of which the last is a sync of what takes effect.
 #[test]
-fn ends_at_a_disk_fault(rt: HostRuntime) -> Result<(), Fail> {
+fn ends_at_each_disk_fault(rt: HostRuntime) -> Result<(), Fail> {
     let alloc = rt.alloc();
-    for call in 0..7u64 {
-        let mut host = MemHost::new(alloc, ACCOUNT.as_bytes(), &[], &[], &[call])?;
-        assert_eq!(rt; run(alloc, &mut host)?, Status::DiskFault);
-        assert!(rt; host.output().is_empty());
+    let input = session(alloc)?;
+    for (from, to, output, next) in [
+        (0u64, 6u64, "", NONE_MADE),
+        (6, 7, "", NONE_SAVED),
+        (7, 10, FIRST, NONE_SAVED),
+        (10, 11, FIRST, SAVED),
+        (11, 14, TWO, SAVED),
+        (14, 15, TWO, MOVED),
+    ] {
+        for call in from..to {
+            let mut host = MemHost::new(alloc, input.as_bytes(), &[], &[], &[call])?;
+            assert_eq!(rt; run(alloc, &mut host)?, Status::DiskFault, "call {call}");
+            assert_eq!(rt; host.output(), output.as_bytes(), "call {call}");
+            let replies = next_replies(alloc, &host)?;
+            assert_eq!(rt; replies.as_slice(), next.as_bytes(), "call {call}");
+        }
     }
-    let mut host = MemHost::new(alloc, ACCOUNT.as_bytes(), &[], &[], &[7])?;
+    let mut host = MemHost::new(alloc, input.as_bytes(), &[], &[], &[15])?;
     assert_eq!(rt; run(alloc, &mut host)?, Status::Done);
-    assert_eq!(rt; host.output(), FIRST.as_bytes());
+    assert_eq!(rt;
+        host.output(),
+        format!(in alloc; "{TWO}{DONE}{NOTHING}")?.as_bytes()
+    );
+    Ok(())
+}
+
+// Of a line that breaks half is put.
+#[test]
+fn ends_at_each_output_fault(rt: HostRuntime) -> Result<(), Fail> {
+    let alloc = rt.alloc();
+    let input = session(alloc)?;
+    let three = format!(in alloc; "{TWO}{DONE}")?;
+    for (call, whole, line, next) in [
+        (0u64, "", FIRST, NONE_SAVED),
+        (1, FIRST, DONE, SAVED),
+        (2, TWO, DONE, MOVED),
+        (3, three.as_str(), NOTHING, MOVED),
+    ] {
+        let mut host = MemHost::new(alloc, input.as_bytes(), &[], &[call], &[])?;
+        assert_eq!(rt; run(alloc, &mut host)?, Status::WriteFault, "call {call}");
+        let mut output = Vec::from_slice(alloc, whole.as_bytes())?;
+        output.extend_from_slice(&line.as_bytes()[..line.len() / 2])?;
+        assert_eq!(rt; host.output(), output.as_slice(), "call {call}");
+        let replies = next_replies(alloc, &host)?;
+        assert_eq!(rt; replies.as_slice(), next.as_bytes(), "call {call}");
+    }
+    Ok(())
+}
+
+#[test]
+fn ends_at_each_input_fault(rt: HostRuntime) -> Result<(), Fail> {
+    let alloc = rt.alloc();
+    let input = session(alloc)?;
+    let all = format!(in alloc; "{TWO}{DONE}{NOTHING}")?;
+    for (call, output, next) in [(0u64, "", NONE_MADE), (1, all.as_str(), MOVED)] {
+        let mut host = MemHost::new(alloc, input.as_bytes(), &[call], &[], &[])?;
+        assert_eq!(rt; run(alloc, &mut host)?, Status::ReadFault, "call {call}");
+        assert_eq!(rt; host.output(), output.as_bytes(), "call {call}");
+        let replies = next_replies(alloc, &host)?;
+        assert_eq!(rt; replies.as_slice(), next.as_bytes(), "call {call}");
+    }
     Ok(())
 }
 

@@ -1,0 +1,118 @@
+"""Programs that nest: each bracket, sign and word that opens a nesting, in each place where it may stand.
+
+A form is a name, how many nestings are open round it, and the text before it, what is repeated before and behind its
+middle, the middle, and the text behind. One more repetition opens one nesting more. It follows docs/DEFINITIONS.md: at most
+128 are open at once.
+"""
+MOST = 128
+MAIN = "access(all) fun main() { let x = ", " }"
+BINARY = "|| && < <= > >= == != ?? | ^ & + - * / %".split()
+
+# Expressions that nest: before, middle, behind.
+EXPRESSIONS = {
+    "parentheses": ("(", "1", ")"),
+    "arrays": ("[", "1", "]"),
+    "arrays of two": ("[0, ", "1", "]"),
+    "values of dictionaries": ("{1: ", "1", "}"),
+    "keys of dictionaries": ("{", "1", ": 1}"),
+    "minus": ("-", "1", ""),
+    "not": ("!", "a", ""),
+    "stars": ("*", "a", ""),
+    "moves": ("<-", "a", ""),
+    "destroy": ("destroy ", "a", ""),
+    "members": ("", "a", ".n"),
+    "members behind a question": ("", "a", "?.n"),
+    "forced": ("", "a", "!"),
+    "indexes": ("", "a", "[1]"),
+    "calls": ("", "a", "()"),
+    "indexes in indexes": ("a[", "1", "]"),
+    "calls in calls": ("f(", "1", ")"),
+    "calls with labels": ("f(to: ", "1", ")"),
+    "create": ("create T(", "1", ")"),
+    "casts": ("", "1", " as T"),
+    "casts that may fail": ("", "1", " as? T"),
+    "casts that must hold": ("", "1", " as! T"),
+    "questions to the right": ("a ? b : ", "1", ""),
+    "questions in the middle": ("a ? ", "b", " : c"),
+    **{f"{sign} to the left": ("", "1", f" {sign} 1") for sign in BINARY},
+    "names below names": ("", "a", " < a"),
+}
+
+# Types that nest.
+TYPES = {
+    "optionals": ("", "T", "?"),
+    "references": ("& ", "T", ""),
+    "entitled references": ("auth(A) &", "T", ""),
+    "array types": ("[", "T", "]"),
+    "types in parentheses": ("(", "T", ")"),
+    "values of dictionary types": ("{T: ", "T", "}"),
+    "keys of dictionary types": ("{", "T", ": T}"),
+    "type arguments": ("C<", "T", ">"),
+    "the second of type arguments": ("C<T, ", "T", ">"),
+    "resources as type arguments": ("C<@", "T", ">"),
+}
+
+# Statements that nest, with how many nestings the middle opens.
+STATEMENTS = {
+    "if": ("if a { ", "b", " }"),
+    "if let": ("if let a <- b { ", "b", " }"),
+    "else": ("if a {} else { ", "b", " }"),
+    "while": ("while a { ", "b", " }"),
+    "for": ("for a in b { ", "c", " }"),
+    "switch": ("switch a { case 1: ", "b", " }"),
+    "default": ("switch a { default: ", "b", " }"),
+}
+
+# Where an expression may stand, and how many nestings are open there.
+PLACES = {
+    "a value": (1, *MAIN),
+    "a statement": (2, "access(all) fun main() { f(", ") }"),
+    "what is returned": (1, "access(all) fun main() { return ", " }"),
+    "a test": (1, "access(all) fun main() { while ", " {} }"),
+    "a second value": (1, "access(all) fun main() { let a <- b <- ", " }"),
+    "a case": (2, "access(all) fun main() { switch a { case ", ": b } }"),
+    "a condition": (2, "access(all) fun main() { pre { a: ", " } }"),
+    "execute": (2, "transaction { execute { let x = ", " } }"),
+    "prepare": (2, "transaction { prepare(a: &A) { let x = ", " } }"),
+    "a transaction's condition": (2, "transaction { post { a: ", " } }"),
+    "a default": (3, "access(all) contract C { access(all) resource R { event ResourceDestroyed(a: Int = ", ") } }"),
+    "a function of a struct": (3, "access(all) contract C { access(all) struct S { access(all) fun f() { let x = ", " } } }"),
+    "a condition of an interface": (4, "access(all) contract C { access(all) struct interface S { access(all) fun f() { pre { a: ", " } } } }"),
+}
+
+# Where a type may stand.
+TYPE_PLACES = {
+    "a constant": (1, "access(all) fun main() { let x: ", " = 1 }"),
+    "a result": (0, "access(all) fun main(): ", " {}"),
+    "a parameter": (1, "access(all) fun main(a: ", ") {}"),
+    "a transaction's parameter": (1, "transaction(a: ", ") {}"),
+    "a transaction's field": (1, "transaction { let a: ", " prepare(a: &A) {} }"),
+    "a contract's field": (1, "access(all) contract C { access(all) let a: ", " }"),
+    "a struct's field": (2, "access(all) contract C { access(all) struct S { access(all) let a: ", " } }"),
+    "an event": (2, "access(all) contract C { access(all) event E(a: ", ") }"),
+    "a type argument": (2, "access(all) fun main() { let x = f<", ">() }"),
+    "a cast": (2, "access(all) fun main() { let x = 1 as ", " }"),
+    "a reference": (3, "access(all) fun main() { let x = &a as ", " }"),
+}
+
+
+def forms():
+    """Each form: its name, the nestings round it, the text before, what nests (before, middle, behind), the text behind."""
+    for place, (open_, before, behind) in PLACES.items():
+        for name, nests in EXPRESSIONS.items():
+            if place == "a value" or name in ("parentheses", "calls", "- to the left", "questions to the right"):
+                yield f"{name} in {place}", open_, before, nests, behind
+    for place, (open_, before, behind) in TYPE_PLACES.items():
+        for name, nests in TYPES.items():
+            yield f"{name} in {place}", open_, before, nests, behind
+    for name, nests in STATEMENTS.items():
+        yield name, 1, "access(all) fun main() { ", nests, " }"
+        yield f"{name} in execute", 2, "transaction { execute { ", nests, " } }"
+    yield "else if", 2, "access(all) fun main() { ", ("if a {} else ", "if b {}", ""), " }"
+    yield "else if with a last else", 2, "access(all) fun main() { ", ("if a {} else ", "if b {} else {}", ""), " }"
+
+
+def text_of(form, count):
+    """The form with so many repetitions."""
+    _, _, before, (head, middle, tail), behind = form
+    return before + head * count + middle + tail * count + behind
