@@ -84,18 +84,26 @@ def generated(made, layout, long):
         yield layout.text(made.program(made.chance.randint(1, 4)), breaks, wrong)
 
 
+ALIKE = [group.split() for group in (
+    "a from view self 1 nil 1.5", "+ - * / % < > <= == ?? | ^ & && || != as?", "= <- <-! <->", ", ; : . ? ?? ?. ! |", "as as? as! . in : ,",
+    "( [ {", ") ] } >", "let var", "fun init event enum struct resource contract interface case entitlement", "all self contract account mapping E",
+    "if while for switch return emit break", "case default ;", "pre post prepare execute", "- ! * <- destroy & create (", "@ & ? [ (",
+)]  # fmt: skip
+
+
 def changed(tokens, chance):
-    """The tokens with one dropped, doubled, replaced, put in or swapped with the next."""
+    """The tokens with one dropped, doubled, swapped with the next, or another replaced or put in, often one like it."""
     at = chance.randrange(len(tokens))
-    token = chance.choice([chance.choice(ALL), chance.choice(tokens)])
+    alike = [group for group in ALIKE if tokens[at] in group] + [ALL, tokens]
+    token = chance.choice(chance.choice(alike))
     head, tail = tokens[:at], tokens[at + 1 :]
     swapped = tail[:1] + [tokens[at]] + tail[1:]
-    return head + chance.choice([tail, [tokens[at]] * 2 + tail, [token] + tail, [token, tokens[at]] + tail, swapped])
+    return head + chance.choice([tail, [tokens[at]] * 2 + tail, [token] + tail, [token] + tail, [token, tokens[at]] + tail, swapped])
 
 
 def mutated(made, layout, long):
-    for tokens in whole_programs(made, 20_000 if long else 1500):
-        for _ in range(made.chance.choice([1, 1, 2])):
+    for tokens in whole_programs(made, 20_000 if long else 1500, 2):
+        for _ in range(made.chance.choice([1, 1, 1, 2])):
             tokens = changed(tokens, made.chance)
         yield layout.text(tokens or [";"])
 
@@ -166,27 +174,43 @@ def semicolons(made, layout, long):
                 yield " ".join(tokens[:at] + [sign] + tokens[at:])
 
 
+WITHIN = [
+    FUNCTION, BODIES["a return"], BODIES["a test"], BODIES["a case"][:1] + (": b } }",), BODIES["a call"], BODIES["conditions"],
+    ("access(all) fun f() { let x = ", " }"), ("access(all) fun f() { [a, ", "] }"), ("access(all) fun f() { return {a: ", "} }"),
+    ("access(all) fun f() { a[", "] }"), ("access(all) fun f() { b ? ", " : c }"), ("access(all) fun f() { while (", ") {} }"),
+    ("access(all) fun f() { for a in ", " {} }"),
+]  # fmt: skip
+NEARLY_ARGUMENTS = (
+    "<T> <T,U> <T,> <,> <> <T <T>> <C<T>> <C<T,U>,V> <T.U> <T.> <.T> <@T> <@@T> <T@> <T?> <T??> <?T> <[T]> <[T,U]> <[@T]> <{I}> <{I,J}> <{K:V}> <{}> <{I,}> "
+    "<&T> <&T?> <auth(E)&T> <auth(E|F)&T> <auth(E)T> <(T)> <(T,U)> <-b> <1> <T,1> <a(b)> <a[b]> <a+b> <self> <T,,U> <T;U> <T:U> <!T> <T!> <T>, <T=> <T>= <as> "
+    "<T\n> \n<T> <\nT> <T,\n> <C<T>\n> <C<T>,> <a&b> <a<b> <a<b>c> <{a:b}?>"
+).split(" ")
+BEFORE = ["a", "a.b", "a?.b", "a!.b", "self", "self.b", "a()", "a[0]", "a!", "1", "/public/a", "create A", "a as T", "&a as T", "(a)", "-a", "a.b\n", "nil"]
+AFTER = ["(b)", "()", "\n(b)", "(b)(c)", "(b).c", "(x: b)", "[b]", "b", "{}", "-b", "", "!", "!(b)", ".b", "(b) < c", "(b)\n(c)", "(b, c > (d)", ", c > (d)", "(b) as T"]
+
+
 def arguments(made, layout, long):
     """What is nearly a list of type arguments behind a name."""
-    for _ in range(20_000 if long else 1500):
-        types = made.arguments_of_type(2)
-        if made.chance.random() < 0.5:
-            types = changed(types, made.chance)
-        before = made.chance.choice([["a"], ["a", "."] + made.name(), ["/", "public", "/", "a"], ["a", "as", "T"], ["a", "?.", "b"]])
-        after = made.chance.choice([["(", "b", ")"], ["(", ")"], ["[", "b", "]"], ["b"], ["{", "}"], ["-", "b"], []])
-        yield layout.text(tokens_of(FUNCTION[0]) + before + types + after + ["}"])
+    every = list(itertools.product(BEFORE, NEARLY_ARGUMENTS, AFTER, WITHIN))
+    for before, types, after, (front, back) in made.chance.sample(every, 60_000 if long else 2000):
+        yield front + before + types.replace("><", "> <") + after + back
+
+
+CAST_TYPES = ["T", "@T", "[T]", "&T", "C<T>", "C<T?>", "{I}", "{K: V}", "(T?)", "auth(E) &T", "A.B"]
+CAST_TAILS = (
+    "|? b : c|?? b|? {a: b} : c|?? {a: b}|\nb|? -b : c|? (b) : c|? [b] : c|?\nb|??\nb|?\nb : c|+ b|as U|as? U?|== b|? /public/b : c|? <-b : c|? !b : c|!= b|!|! b|"
+    "<- b|= b|? = b|<-> b|? destroy b : c|?.b|.b|(b)|[b]|< b|<U>(b)|; b|: b|? b|? b ? c : d : e|? b as V? : c|? b : c as V?|?? b ?? c|? \"a\" : 1|? & b as V : c|"
+    "? &b|? *b : c|? create A() : c|? @b : c|? nil : self|{}|? {}|?? {}|, b|? /* a */ b : c|? // a\n b : c|? /*\n*/ b : c"
+).split("|")
 
 
 def casts(made, layout, long):
     """`?` and `??` behind the type of a cast."""
-    for _ in range(20_000 if long else 1500):
-        tokens = ["&"] if made.chance.random() < 0.2 else []
-        tokens = tokens + made.postfixed(1) + [made.chance.choice(["as", "as?", "as!"])] + made.annotation(1)
-        for _ in range(made.chance.randint(0, 3)):
-            tokens.append(made.chance.choice(["?", "?", "??", ":", "a", "-", "as"]))
-        tokens += made.chance.choice([[], made.expression(1), made.expression(1) + [":"] + made.expression(1), ["{", "}"]])
-        front = made.chance.choice([FUNCTION[0], BODIES["a test"][0], BODIES["conditions"][0], FUNCTION[0] + "let x ="])
-        yield layout.text(tokens_of(front) + tokens + made.chance.choice([["}"], ["}"], ["{", "}", "}"], ["}", "}"]]), 0.05, 0)
+    casts = ["a as ", "a as? ", "a as! ", "&a as ", "-a as ", "f(b) as? "]
+    marks = ["", "", "?", "??", "? ?", "?? ?", "? ??", "\n?"]
+    every = list(itertools.product(casts, CAST_TYPES, marks, CAST_TAILS, WITHIN))
+    for cast, cast_type, mark, tail, (front, back) in made.chance.sample(every, 60_000 if long else 3000):
+        yield front + cast + cast_type + mark + " " + tail + back
 
 
 def wrapped(pieces):
@@ -226,7 +250,7 @@ PLACES = BODIES | {
 def deep(made, layout, long):
     """Nestings about the greatest number that may be open: the shortest list of pieces that is refused, and its neighbours."""
     for kind, (pieces, places) in DEEP.items():
-        for turn in range(1000 if long else 40):
+        for turn in range(300 if long else 25):
             some = pieces if turn % 3 == 0 else made.chance.sample(pieces, made.chance.randint(1, 3))
             chosen = made.chance.choices(some, k=140)
             front, back = PLACES[made.chance.choice(places)]
@@ -385,7 +409,7 @@ def main():
             wrong += len(found)
             for one in found[:5]:
                 text, said, wanted = judge.smaller(one)
-                print(f"syntax: WRONG in {kinds[one[0]]}, with --seed {options.seed}: {text!r}: the program says {said}, the reference {wanted}")
+                print(f"syntax: WRONG in {kinds[one[0]]}, with --seed {options.seed}: {text!r}: the program says {said}, the reference {wanted}", flush=True)
     print(f"syntax: {judge.count} texts, and {wrong} wrong" if wrong else f"syntax: {judge.count} texts held")
     return 1 if wrong else 0
 
