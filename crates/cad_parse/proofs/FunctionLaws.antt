@@ -196,10 +196,3 @@ module _ (types : TypeLaws) (expressions : ExpressionLaws) (statements : Stateme
 
   pub init_shorter : {p q : Spot} {i : InitTree} → ReadsInit p i q → length q.tokens < length p.tokens
   init_shorter (g.init {p} {q} {r} {u} {is_view} e d f) = omega (arith, viewed_shorter k.Init p (is_view, q) e, parameters_shorter types d, function_block_shorter f)
-
-block_left : (p q : Spot) (b : Option FunctionBlockTree) (in_interface : Bool) → BlockOf in_interface p b q → q.left ≡ p.left
-block_left _ _ _ true (g.no_block e) = refl
-block_left _ _ _ true (g.a_block (g.function_block e a b d c)) = refl
-block_left _ _ _ false (g.blocked (g.function_block e a b d c)) = refl
-
-module _ (types : TypeLaws) where
