@@ -342,6 +342,14 @@ def odd_folders(tries):
     tries.run("tapes that can't be written", ACCOUNT, "disk", b"", files, **user)
 
 
+def few_files(tries):
+    """Limits on how many files may be open, from what the system needs to start the program on."""
+    for most in range(4, 13):
+        status = "done" if 9 <= most else "disk"
+        limit = lambda: resource.setrlimit(resource.RLIMIT_NOFILE, (most, most))
+        tries.run(f"at most {most} open files", ACCOUNT, status, FIRST if status == "done" else b"", preexec_fn=limit)
+
+
 def odd_files(tries):
     """Folders, links, pipes and devices in the place of a file, and files that can't be read."""
     user = {"user": 65534, "group": 65534, "extra_groups": []} if os.getuid() == 0 else {}
@@ -564,8 +572,8 @@ def odd_stores(tries):
 
 KINDS = [
     random_bytes, changed_lines, cut_lines, long_lines, deep_lines, odd_lines, control_characters, half_characters, odd_fields,
-    equal_fields, odd_signers, nested_programs, long_programs, odd_words, odd_folders, odd_files, odd_streams, slow_streams,
-    closed_streams, little_memory, two_runs, cut_stores, changed_stores, odd_stores,
+    equal_fields, odd_signers, nested_programs, long_programs, odd_words, odd_folders, few_files, odd_files, odd_streams,
+    slow_streams, closed_streams, little_memory, two_runs, cut_stores, changed_stores, odd_stores,
 ]  # fmt: skip
 
 
