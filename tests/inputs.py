@@ -268,48 +268,52 @@ def nested_programs(tries):
         tries.run(f"{form[0]}, not closed", code_line(form[2] + head * 200), "done", rejected("parse", 0))
 
 
+MANY = 1_000_000
+SUM = "access(all) fun main(): Int { return 7 }"
+HEAD = "access(all) fun main() { "
+LONG_CODE = (
+    ("a long name", f"access(all) fun {'n' * MANY}() {{}}", bad(29)),
+    ("a long comment", f"/*{'c' * MANY}*/{SUM}", result(7)),
+    ("a long comment to the end", f"{SUM}//{'c' * MANY}", result(7)),
+    ("a long comment that isn't closed", f"/*{'c' * MANY}", rejected("lex", 0)),
+    ("comments in comments", "/*" * (MANY // 4) + "*/" * (MANY // 4) + SUM, result(7)),
+    ("comments in comments that aren't closed", "/*" * (MANY // 2), rejected("lex", 0)),
+    ("a long text", f'{HEAD}let x = "{"t" * MANY}" }}', bad(29)),
+    ("a long text that isn't closed", f'{HEAD}let x = "{"t" * MANY}', rejected("lex", len(HEAD) + 8)),
+    ("a long gap", SUM.replace("7", " " * MANY + "7"), result(7)),
+    ("many line feeds", "\n" * (MANY // 2) + SUM, result(7)),
+    ("many digits", SUM.replace("7", "9" * MANY), rejected("lex", 37)),
+    ("many noughts", SUM.replace("7", "0" * MANY + "7"), result(7)),
+    ("many underscores", SUM.replace("7", "7" + "_0" * 3 + "_" * MANY), rejected("parse", 0)),
+    ("many digits of a fraction", SUM.replace("7", "0." + "0" * MANY), rejected("parse", 0)),
+    ("many imports", "import A from 0x1\n" * (MANY // 20), bad(29)),
+    ("an import of many names", f"import A{', A' * (MANY // 3)} from 0x1", bad(29)),
+    ("an import that doesn't end", f"import A{', A' * (MANY // 3)}", rejected("parse", 0)),
+    ("many functions", "access(all) fun f() {}" * (MANY // 22), bad(29)),
+    ("many statements", f"{HEAD}{'a;' * (MANY // 2)} }}", bad(29)),
+    ("many semicolons", f"{HEAD}{';' * MANY} }}", rejected("parse", 0)),
+    ("many parameters", f"access(all) fun f({'a: A, ' * (MANY // 6)}) {{}}", bad(29)),
+    ("many arguments", f"{HEAD}f({'1,' * (MANY // 2)}) }}", bad(29)),
+    ("many elements", f"{HEAD}let x = [{'1,' * (MANY // 2)}] }}", bad(29)),
+    ("many parts of a name", f"{HEAD}let x: A{'.A' * (MANY // 2)} = 1 }}", bad(29)),
+    ("many entitlements", f"access(A{', A' * (MANY // 3)}) fun f() {{}}", bad(29)),
+    ("many members of an intersection", f"{HEAD}let x: {{A{', A' * (MANY // 3)}}} = 1 }}", bad(29)),
+    ("many cases", f"{HEAD}switch a {{ {'case 1: ' * (MANY // 8)} }} }}", bad(29)),
+    ("many comparisons", f"{HEAD}let x = [{'a<b,' * 10_000}] }}", bad(29)),
+    ("a program and noise behind it", SUM * (MANY // 50) + "#", rejected("lex", len(SUM) * (MANY // 50))),
+    ("programs and no program behind them", f"{SUM * (MANY // 50)} x", rejected("parse", len(SUM) * (MANY // 50) + 1)),
+)
+
+
 def long_programs(tries):
-    many, sum_ = 1_000_000, "access(all) fun main(): Int { return 7 }"
-    head = "access(all) fun main() { "
-    for name, code, reply in (
-        ("a long name", f"access(all) fun {'n' * many}() {{}}", bad(29)),
-        ("a long comment", f"/*{'c' * many}*/{sum_}", result(7)),
-        ("a long comment to the end", f"{sum_}//{'c' * many}", result(7)),
-        ("a long comment that isn't closed", f"/*{'c' * many}", rejected("lex", 0)),
-        ("comments in comments", "/*" * (many // 4) + "*/" * (many // 4) + sum_, result(7)),
-        ("comments in comments that aren't closed", "/*" * (many // 2), rejected("lex", 0)),
-        ("a long text", f'{head}let x = "{"t" * many}" }}', bad(29)),
-        ("a long text that isn't closed", f'{head}let x = "{"t" * many}', rejected("lex", len(head) + 8)),
-        ("a long gap", sum_.replace("7", " " * many + "7"), result(7)),
-        ("many line feeds", "\n" * (many // 2) + sum_, result(7)),
-        ("many digits", sum_.replace("7", "9" * many), rejected("lex", 37)),
-        ("many noughts", sum_.replace("7", "0" * many + "7"), result(7)),
-        ("many underscores", sum_.replace("7", "7" + "_0" * 3 + "_" * many), rejected("parse", 0)),
-        ("many digits of a fraction", sum_.replace("7", "0." + "0" * many), rejected("parse", 0)),
-        ("many imports", "import A from 0x1\n" * (many // 20), bad(29)),
-        ("an import of many names", f"import A{', A' * (many // 3)} from 0x1", bad(29)),
-        ("an import that doesn't end", f"import A{', A' * (many // 3)}", rejected("parse", 0)),
-        ("many functions", "access(all) fun f() {}" * (many // 22), bad(29)),
-        ("many statements", f"{head}{'a;' * (many // 2)} }}", bad(29)),
-        ("many semicolons", f"{head}{';' * many} }}", rejected("parse", 0)),
-        ("many parameters", f"access(all) fun f({'a: A, ' * (many // 6)}) {{}}", bad(29)),
-        ("many arguments", f"{head}f({'1,' * (many // 2)}) }}", bad(29)),
-        ("many elements", f"{head}let x = [{'1,' * (many // 2)}] }}", bad(29)),
-        ("many parts of a name", f"{head}let x: A{'.A' * (many // 2)} = 1 }}", bad(29)),
-        ("many entitlements", f"access(A{', A' * (many // 3)}) fun f() {{}}", bad(29)),
-        ("many members of an intersection", f"{head}let x: {{A{', A' * (many // 3)}}} = 1 }}", bad(29)),
-        ("many cases", f"{head}switch a {{ {'case 1: ' * (many // 8)} }} }}", bad(29)),
-        ("many comparisons", f"{head}let x = [{'a<b,' * 10_000}] }}", bad(29)),
-        ("a program and noise behind it", sum_ * (many // 50) + "#", rejected("lex", len(sum_) * (many // 50))),
-        ("programs and no program behind them", f"{sum_ * (many // 50)} x", rejected("parse", len(sum_) * (many // 50) + 1)),
-    ):
+    for name, code, reply in LONG_CODE:
         tries.run(name, code_line(code) + SCRIPT, "done", reply + result(7))
     folder = tries.folder()
-    commands = [("account",), ("save", 1, None, [[1]], "n" * many), ("save", 1, "n" * many, [[2]], "m" * 500_000)]
+    commands = [("account",), ("save", 1, None, [[1]], "n" * MANY), ("save", 1, "n" * MANY, [[2]], "m" * 500_000)]
     replies, states = model.replies_to(commands, model.Accounts())
     tries.run("a long path", b"".join(map(model.line_of, commands)), "done", b"".join(replies[:2]) + bad(27), folder)
     hold(model.accounts_in(folder) == states[2], "a long path: the accounts are others")
-    tries.run("a long path again", model.line_of(("save", 1, None, [[1]], "n" * many)), "done", model.failed(111), folder)
+    tries.run("a long path again", model.line_of(("save", 1, None, [[1]], "n" * MANY)), "done", model.failed(111), folder)
 
 
 def odd_words(tries):
@@ -340,6 +344,14 @@ def odd_folders(tries):
     for name in ("a", "b", "pick"):
         (files / name).chmod(0o444)
     tries.run("tapes that can't be written", ACCOUNT, "disk", b"", files, **user)
+
+
+def few_files(tries):
+    """Limits on how many files may be open, from what the system needs to start the program on."""
+    for most in range(4, 13):
+        status = "done" if 9 <= most else "disk"
+        limit = lambda: resource.setrlimit(resource.RLIMIT_NOFILE, (most, most))
+        tries.run(f"at most {most} open files", ACCOUNT, status, FIRST if status == "done" else b"", preexec_fn=limit)
 
 
 def odd_files(tries):
@@ -564,8 +576,8 @@ def odd_stores(tries):
 
 KINDS = [
     random_bytes, changed_lines, cut_lines, long_lines, deep_lines, odd_lines, control_characters, half_characters, odd_fields,
-    equal_fields, odd_signers, nested_programs, long_programs, odd_words, odd_folders, odd_files, odd_streams, slow_streams,
-    closed_streams, little_memory, two_runs, cut_stores, changed_stores, odd_stores,
+    equal_fields, odd_signers, nested_programs, long_programs, odd_words, odd_folders, few_files, odd_files, odd_streams,
+    slow_streams, closed_streams, little_memory, two_runs, cut_stores, changed_stores, odd_stores,
 ]  # fmt: skip
 
 
