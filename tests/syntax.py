@@ -213,9 +213,9 @@ def casts(made, layout, long):
         yield front + cast + cast_type + mark + " " + tail + back
 
 
-def wrapped(pieces):
+def wrapped(pieces, core="a"):
     """Pieces of two parts, one inside the other."""
-    return "".join(opening for opening, _ in pieces) + "a" + "".join(closing for _, closing in reversed(pieces))
+    return "".join(opening for opening, _ in pieces) + core + "".join(closing for _, closing in reversed(pieces))
 
 
 IN_EXPRESSIONS = [
@@ -250,12 +250,17 @@ PLACES = BODIES | {
 def deep(made, layout, long):
     """Nestings about the greatest number that may be open: the shortest list of pieces that is refused, and its neighbours."""
     for kind, (pieces, places) in DEEP.items():
-        for turn in range(300 if long else 25):
+        for turn in range(300 if long else len(pieces) + 15):
             some = pieces if turn % 3 == 0 else made.chance.sample(pieces, made.chance.randint(1, 3))
-            chosen = made.chance.choices(some, k=140)
+            chosen = pieces[turn : turn + 1] * 140 or made.chance.choices(some, k=140)  # each piece alone, then together
             front, back = PLACES[made.chance.choice(places)]
             texts = [front + wrapped(chosen[:count]) + back for count in range(140)]
             yield from around(texts)
+    for core in ("create A()", "(a)", "[a]", "{a: b}", "a()", "a[b]", "a<T>()", "a as [T]", "a(b)(c)", "/public/a", "a(b.c, d.e.f)"):
+        for suffix in (" + 1", "!", " as T", " ? b : c"):
+            yield from around([BODIES["a return"][0] + wrapped([("", suffix)] * count, core) + FUNCTION[1] for count in range(140)])
+    for chain in ("if a {}" + " else if b {}" * 126, "if a {}" + " else if b {}" * 125 + " else {}"):
+        yield from (FUNCTION[0] + chain + "\n" + more + FUNCTION[1] for more in ("if a {} else if b {}", chain, "a + b", "return (a)"))
     else_ifs = [FUNCTION[0] + "if a {}" + " else if b {}" * count + more + FUNCTION[1] for more in ("", " else { a }") for count in range(132)]
     yield from else_ifs
 
