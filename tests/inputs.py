@@ -574,10 +574,19 @@ def odd_stores(tries):
         store_run(tries, "tapes of noise", b"\1" + tries.chance.randbytes(tries.chance.randint(0, 300)))
 
 
+def most_accounts(tries):
+    """A store of as many accounts as there may be: no other is made, and the tapes stay as they were."""
+    folder, tape = tries.folder(), model.record_of(model.Accounts(model.MOST_ACCOUNTS).registers()) + b"\0"
+    (folder / "a").write_bytes(tape)
+    (folder / "pick").write_bytes(b"\1")
+    tries.run("one account too many", ACCOUNT + ACCOUNT + SCRIPT, "done", model.failed(127) * 2 + result(7), folder)
+    hold((folder / "a").read_bytes() == tape, "one account too many changes the tapes")
+
+
 KINDS = [
     random_bytes, changed_lines, cut_lines, long_lines, deep_lines, odd_lines, control_characters, half_characters, odd_fields,
     equal_fields, odd_signers, nested_programs, long_programs, odd_words, odd_folders, few_files, odd_files, odd_streams,
-    slow_streams, closed_streams, little_memory, two_runs, cut_stores, changed_stores, odd_stores,
+    slow_streams, closed_streams, little_memory, two_runs, cut_stores, changed_stores, odd_stores, most_accounts,
 ]  # fmt: skip
 
 

@@ -6,9 +6,8 @@ ghost use Rattle.cad_accounts.specs.Accounts.{IsInt};
 ghost use Rattle.cad_accounts.specs.Worlds.{AreSound, HasAccount};
 
 use super::*;
-use cad_syntax::{Address, Items, Kind, Name, Num, Text};
+use cad_syntax::{Address, Kind, Name, Num, Text};
 use cad_values::Value;
-use cad_wire::Key;
 use std::alloc::{AllocError, Global};
 use std::test::*;
 
@@ -159,56 +158,6 @@ fn no_change(rt: HostRuntime) -> Result<(), Fail> {
     let x = name_of(rt.alloc(), "x")?;
     let seven = world.load_value(Address(1), &x)?.ok_or("7 is stored")?;
     world.save_value(Address(1), &x, seven)?;
-    assert!(rt; world.changes().is_empty());
-    Ok(())
-}
-
-// The number of accounts where there are as many as there may be, and the next identity.
-const ALL: [u8; 16] = [0, 0, 0, 0, 0, 15, 66, 64, 0, 0, 0, 0, 0, 0, 0, 1];
-
-fn set(
-    alloc: Global,
-    registers: &mut MapRegisters,
-    key: &[u8],
-    value: &[u8],
-) -> Result<(), AllocError> {
-    let key = Key(Items::from_slice(alloc, key)?);
-    let value = Items::from_slice(alloc, value)?;
-    registers.set(key, value)
-}
-
-// The registers of as many accounts as there may be.
-fn all_accounts(alloc: Global) -> Result<MapRegisters, AllocError> {
-    let mut registers = MapRegisters::new(alloc);
-    set(alloc, &mut registers, &[0], &ALL)?;
-    for address in 1..=1_000_000u64 {
-        let mut key = [1; 9];
-        key[1..].copy_from_slice(&address.to_be_bytes());
-        set(alloc, &mut registers, &key, &ONE)?;
-    }
-    Ok(registers)
-}
-
-// A world over registers, where they are those of sound accounts.
-fn over_sound<'a>(
-    alloc: Global,
-    registers: &'a MapRegisters,
-) -> Result<Option<World<'a, MapRegisters>>, AllocError>
-    ensures { IfOk result (λ o. IfSome o (λ world. AreSound (current world))) }
-{
-    let sound = is_sound(alloc, registers)?;
-    if !sound {
-        return Ok(None);
-    }
-    Ok(Some(World::over(alloc, registers)))
-}
-
-#[test]
-fn no_account_behind_the_last(rt: HostRuntime) -> Result<(), Fail> {
-    let registers = all_accounts(rt.alloc())?;
-    let mut world = over_sound(rt.alloc(), &registers)?.ok_or("sound registers")?;
-    assert_eq!(rt; world.accounts()?, 1_000_000);
-    assert!(rt; world.create_account() == Err(AccountStop::Spent));
     assert!(rt; world.changes().is_empty());
     Ok(())
 }
