@@ -64,6 +64,15 @@ fn identifiers_are_written_and_read(rt: HostRuntime) -> Result<(), Fail> {
     assert_eq!(rt; text.as_str(), "A.0000000000000001.Token.Vault");
     let read = TypeId::from_text(rt.alloc(), text.as_str())?;
     assert!(rt; read == Some(id.clone()?));
+    let names = Names::new(rt.alloc());
+    let nameless = TypeId {
+        address: Address(1),
+        names,
+    };
+    let text = nameless.to_text(rt.alloc())?;
+    assert_eq!(rt; text.as_str(), "A.0000000000000001");
+    let read = TypeId::from_text(rt.alloc(), text.as_str())?;
+    assert!(rt; read == Some(nameless));
     Ok(())
 }
 
@@ -84,7 +93,6 @@ fn identifiers_of_other_forms_are_refused(rt: HostRuntime) -> Result<(), Fail> {
     for text in rows {
         assert!(rt; TypeId::from_text(rt.alloc(), text)?.is_none(), "{text}");
     }
-    assert!(rt; TypeId::from_text(rt.alloc(), "A.0000000000000001")?.is_some());
     Ok(())
 }
 
