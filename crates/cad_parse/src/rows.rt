@@ -213,6 +213,23 @@ ok ⇒ access(all) fun f() { emit↵-a; destroy↵a; switch a { case -1: b case�
 ok ⇒ access(all) fun f() { return a ? b ? c : d : e }
 ok ⇒ access(all) fun f() { return a ? (b as T) : (c < d) ? e : f }"#;
 
+// Two programs, and whether they are one tree.
+pub const TREES: &str = r#"other ⇒ access(all) fun f() { pre {} } ⇔ access(all) fun f() {}
+other ⇒ access(all) fun f() { post {} } ⇔ access(all) fun f() {}
+other ⇒ transaction() {} ⇔ transaction {}
+other ⇒ access(all) fun f(): Void {} ⇔ access(all) fun f() {}
+other ⇒ access(all) fun f(a a: T) {} ⇔ access(all) fun f(a: T) {}
+other ⇒ access(all) fun f() { g(a: b) } ⇔ access(all) fun f() { g(b) }
+other ⇒ access(all) fun f() { return (a + b) * c } ⇔ access(all) fun f() { return a + b * c }
+other ⇒ access(all) fun f() { return 0x10 } ⇔ access(all) fun f() { return 16 }
+same ⇒ access(all) fun f() { return (a + b) } ⇔ access(all) fun f() { return a + b }
+same ⇒ access(all) fun f() { return a + b + c } ⇔ access(all) fun f() { return (a + b) + c }
+same ⇒ access(all) fun f() { return a ?? b ?? c } ⇔ access(all) fun f() { return a ?? (b ?? c) }
+same ⇒ access(all) fun f() { a; b; } ⇔ access(all) fun f() { a↵b }
+same ⇒ access(all) fun f() { return [a, b,] } ⇔ access(all) fun f() { return [a, b] }
+same ⇒ access(all) fun f() { return 0b11 + 0o17 + 1_000 } ⇔ access(all) fun f() { return 3 + 15 + 1000 }
+same ⇒ access(all) fun f() { /* a */ return 1.50 // b↵} ⇔ access(all) fun f() { return 1.5 }"#;
+
 // A contract of a token.
 pub const TOKEN: &str = r#"access(all) contract Token {
   access(all) entitlement Withdraw

@@ -1,5 +1,5 @@
 // What parsing texts comes to.
-use crate::rows::{BLOCKS, EXAMPLES, MEMBERS, PROGRAMS, PUBLISH, SETUP, TOKEN, TRANSFER};
+use crate::rows::{BLOCKS, EXAMPLES, MEMBERS, PROGRAMS, PUBLISH, SETUP, TOKEN, TRANSFER, TREES};
 use crate::{ParseStop, parse_program};
 use cad_grammar::Phase;
 use std::alloc::{AllocError, Global};
@@ -41,6 +41,42 @@ fn programs_are_parsed(rt: HostRuntime) -> Result<(), Fail> {
     for code in [TOKEN, SETUP, PUBLISH, TRANSFER] {
         assert_eq!(rt; told(alloc, code)?.as_str(), "ok");
     }
+    Ok(())
+}
+
+// Whether two texts are programs of one tree.
+fn compared(alloc: Global, one: &str, other: &str) -> &'static str {
+    let Ok(first) = parse_program(alloc, one.as_bytes()) else {
+        return "no program";
+    };
+    let Ok(second) = parse_program(alloc, other.as_bytes()) else {
+        return "no program";
+    };
+    if first == second { "same" } else { "other" }
+}
+
+// The pairs that compare otherwise than they say.
+fn misjudged(alloc: Global, rows: &str) -> Result<String, AllocError> {
+    let mut out = String::new(alloc);
+    for row in rows.split('\n') {
+        let row = row.replace(alloc, "↵", "\n")?;
+        let Some((want, pair)) = row.as_str().split_once(" ⇒ ") else {
+            continue;
+        };
+        let Some((one, other)) = pair.split_once(" ⇔ ") else {
+            continue;
+        };
+        let told = compared(alloc, one, other);
+        if told != want {
+            write!(out, "{told} {row}\n")?;
+        }
+    }
+    Ok(out)
+}
+
+#[test]
+fn trees_are_told_apart(rt: HostRuntime) -> Result<(), Fail> {
+    assert_eq!(rt; misjudged(rt.alloc(), TREES)?.as_str(), "");
     Ok(())
 }
 

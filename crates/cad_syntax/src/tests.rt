@@ -1,5 +1,5 @@
 // Worked examples.
-use crate::address::Address;
+use crate::address::{Address, Domain, Path};
 use crate::items::{Items, Names};
 use crate::kind::Kind;
 use crate::names::is_name;
@@ -54,6 +54,16 @@ fn addresses_are_written(rt: HostRuntime) -> Result<(), Fail> {
     for (number, text) in rows {
         assert_eq!(rt; Address(number).to_hex(rt.alloc())?.as_str(), text);
     }
+    Ok(())
+}
+
+#[test]
+fn paths_are_copied(rt: HostRuntime) -> Result<(), Fail> {
+    let path = Path {
+        domain: Domain::Public,
+        identifier: name(rt.alloc(), "x")?,
+    };
+    assert!(rt; path.clone()? == path);
     Ok(())
 }
 
