@@ -67,6 +67,7 @@ wrote_stopped_then w u v xs ys o p q h k = record {
 }
 
 stopped_more : (w : Accounts) (rest ys : List (List ℕ)) (o p : List Event) → Stopped w o p rest → Stopped w o p (rest ++ ys)
+stopped_more w [] ys o p stopped = elim stopped [ ]
 stopped_more w (next ∷ rest) ys o p (writing answers is_w is_v leads some broken) = writing answers is_w is_v leads some broken
 
 pub wrote_stopped_more : (w v : Accounts) (xs ys : List (List ℕ)) (o p : List Event) → WroteStopped w xs o p v → WroteStopped w (xs ++ ys) o p v
