@@ -153,7 +153,10 @@ fn nestings_are_bounded(rt: HostRuntime) -> Result<(), Fail> {
         ),
     ] {
         assert_eq!(rt; nested(alloc, pieces, most)?.as_str(), "ok");
-        assert_eq!(rt; nested(alloc, pieces, most.wrapping_add(1))?.as_str(), "parse 0");
+        assert_eq!(rt;
+            nested(alloc, pieces, most.wrapping_add(1))?.as_str(),
+            "parse 0"
+        );
     }
     Ok(())
 }
