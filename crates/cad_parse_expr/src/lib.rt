@@ -9,8 +9,3 @@ mod word;
 
 pub use cursor::{Cursor, MAX_NESTING, ParseStop, one_tree, parse_expr, parse_type};
 pub use reader::{expression, expression_at};
-
-#[cfg(test)]
-mod rows;
-#[cfg(test)]
-mod tests;

@@ -4,8 +4,6 @@
 mod parts;
 mod reader;
 mod simple;
-#[cfg(test)]
-mod tests;
 mod words;
 
 pub use parts::maybe_annotated;

@@ -11,6 +11,3 @@ pub use marks::{question, questions};
 pub use names::{dotted, dotted_list, entitled};
 pub use reader::{annotation, annotation_at, arguments_at, type_at};
 pub use spot::Spot;
-
-#[cfg(test)]
-mod tests;
