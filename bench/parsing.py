@@ -3,7 +3,8 @@
 
 A line asks for a script whose code is one contract of a token with its vault, again and again under other names. Such code is a
 program and none that runs, so the reply is bad 29; with a `#` at its end the lexer stops there. For each line the program reads
-the JSON twice and lexes the code twice, so the figures are lower bounds. The least processor time of five runs counts.
+the JSON twice and lexes the code twice, so the figures are lower bounds. The least processor time of five runs counts. So are the
+lists of comparisons, at each of whose `<` the reader looks ahead for type arguments.
 
 usage: bench/parsing.py [PROGRAM]
 """
@@ -38,10 +39,17 @@ CONTRACT = """access(all) contract Token%d {
   }
 }
 """
-LINES = 20
+COMPARED = "access(all) fun main(): [Bool] { return [%s] }"
+# What is read, the code of so many parts, their number, the lines of a run, and what each reply has in it.
+ROWS = [
+    ("lexing", lambda count: "".join(CONTRACT % i for i in range(count)) + "#", 800, 20, b'"phase":"lex"'),
+    ("the whole", lambda count: "".join(CONTRACT % i for i in range(count)), 800, 20, b'"29"'),
+    ("comparisons that no > ends", lambda count: COMPARED % ",".join(["a<b"] * count), 200_000, 2, b'"29"'),
+    ("comparisons that a > and a ( end", lambda count: COMPARED % ",".join(["a<" * 60 + "b" + ">(c)" * 60] * count), 2_000, 2, b'"29"'),
+]
 
 
-def seconds_of(program, code, reply):
+def seconds_of(program, code, lines, reply):
     """The least time of one line with this code, whose reply has these bytes in it."""
     line = json.dumps({"code": code, "kind": "script"}).encode() + b"\n"
     assert len(line) <= 1 << 20, len(line)
@@ -49,18 +57,18 @@ def seconds_of(program, code, reply):
     for _ in range(5):
         with tempfile.TemporaryDirectory() as folder:
             start = resource.getrusage(resource.RUSAGE_CHILDREN).ru_utime
-            out = subprocess.run([program, "run", folder], input=line * LINES, check=True, capture_output=True).stdout
+            out = subprocess.run([program, "run", folder], input=line * lines, check=True, capture_output=True).stdout
             seconds = resource.getrusage(resource.RUSAGE_CHILDREN).ru_utime - start
-        assert out.count(reply) == LINES, out[:200]
+        assert out.count(reply) == lines, out[:200]
         best = seconds if best is None else min(best, seconds)
-    return best / LINES
+    return best / lines
 
 
 def main():
     program = sys.argv[1] if len(sys.argv) > 1 else str(ROOT / "crates/cadence/out/cadence")
-    for what, end, reply in (("lexing", "#", b'"phase":"lex"'), ("the whole", "", b'"29"')):
-        half, whole = ["".join(CONTRACT % i for i in range(count)) + end for count in (400, 800)]
-        one, two = seconds_of(program, half, reply), seconds_of(program, whole, reply)
+    for what, code, count, lines, reply in ROWS:
+        half, whole = code(count // 2), code(count)
+        one, two = seconds_of(program, half, lines, reply), seconds_of(program, whole, lines, reply)
         print(f"{what}: {len(whole) / two / 1e6:.1f} MB a second on {len(whole)} bytes, {two / one:.2f} times the time of half as many")
 
 

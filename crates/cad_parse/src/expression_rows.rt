@@ -18,6 +18,16 @@ a as [T].b ⇒ Cast(Static, Name('a'), TypeAnnotation { is_resource: false, writ
 a as T < b ⇒ Name('a') 4
 f<T>(a) ⇒ Call { function: Name('f'), type_arguments: [TypeAnnotation { is_resource: false, written: Type['T'] }], arguments: [Argument { label: None, value: Name('a') }] } 0
 f<T>↵(a) ⇒ Name('f') 6
+f<A<B>>(x) ⇒ Call { function: Name('f'), type_arguments: [TypeAnnotation { is_resource: false, written: Type['A'] }, arguments: [TypeAnnotation { is_resource: false, written: Type['B'] }] } }], arguments: [Argument { label: None, value: Name('x') }] } 0
+f<auth(E) &T>(x) ⇒ Call { function: Name('f'), type_arguments: [TypeAnnotation { is_resource: false, written: Reference { authorization: Some(All(Items { items: [Items { items: ['E'] }] })), target: Type['T'] } }], arguments: [Argument { label: None, value: Name('x') }] } 0
+f<auth(E | F) &T>(x) ⇒ Call { function: Name('f'), type_arguments: [TypeAnnotation { is_resource: false, written: Reference { authorization: Some(Any(Items { items: [Items { items: ['E'] }, Items { items: ['F'] }] })), target: Type['T'] } }], arguments: [Argument { label: None, value: Name('x') }] } 0
+f<{A, B}>(x) ⇒ Call { function: Name('f'), type_arguments: [TypeAnnotation { is_resource: false, written: Intersection(Items { items: [Items { items: ['A'] }, Items { items: ['B'] }] }) }], arguments: [Argument { label: None, value: Name('x') }] } 0
+f<{K: V}>(x) ⇒ Call { function: Name('f'), type_arguments: [TypeAnnotation { is_resource: false, written: Dictionary(Type['K'], Type['V']) }], arguments: [Argument { label: None, value: Name('x') }] } 0
+f<[A?]>(x) ⇒ Call { function: Name('f'), type_arguments: [TypeAnnotation { is_resource: false, written: Array(Optional(Type['A'])) }], arguments: [Argument { label: None, value: Name('x') }] } 0
+f<A??>(x) ⇒ Call { function: Name('f'), type_arguments: [TypeAnnotation { is_resource: false, written: Optional(Optional(Type['A'])) }], arguments: [Argument { label: None, value: Name('x') }] } 0
+f<@R, (A.B)>(x) ⇒ Call { function: Name('f'), type_arguments: [TypeAnnotation { is_resource: true, written: Type['R'] }, TypeAnnotation { is_resource: false, written: Type['A', 'B'] }], arguments: [Argument { label: None, value: Name('x') }] } 0
+a<b<c>(d) ⇒ Binary(Less, Name('a'), Call { function: Name('b'), type_arguments: [TypeAnnotation { is_resource: false, written: Type['c'] }], arguments: [Argument { label: None, value: Name('d') }] }) 0
+[a<b,a<b] ⇒ Array([Binary(Less, Name('a'), Name('b')), Binary(Less, Name('a'), Name('b'))]) 0
 a < b ⇒ Binary(Less, Name('a'), Name('b')) 0
 a.b < c > d ⇒ Binary(Greater, Binary(Less, Member(Name('a'), 'b'), Name('c')), Name('d')) 0
 (a)<b>(c) ⇒ Binary(Greater, Binary(Less, Name('a'), Name('b')), Name('c')) 0

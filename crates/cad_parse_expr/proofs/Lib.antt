@@ -1,5 +1,6 @@
 pub mod ExpressionLaws
 mod Sound
+mod Closed
 mod Strength
 mod Facts
 mod Steps

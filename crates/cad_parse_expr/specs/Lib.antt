@@ -1,3 +1,4 @@
+pub mod Closing
 pub mod Cursor
 pub mod Reading
 pub mod Views

@@ -1,6 +1,7 @@
 //! Reading of expressions.
 #![tactic(auto)]
 
+mod closing;
 mod cursor;
 mod leaf;
 mod reader;

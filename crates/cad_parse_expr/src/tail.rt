@@ -6,6 +6,7 @@ ghost use Rattle.cad_parse_expr.specs.Reading as spec;
 ghost use Rattle.cad_parse_expr.specs.Views.{tail_of};
 ghost use Rattle.cad_parse_type.specs.Views.{seen, seen_with, annotations_in};
 
+use crate::closing::closes;
 use crate::word::cast_word;
 use cad_grammar::{
     Argument, BinaryOperator, CastKind, Expr, TypeAnnotation, TypeExpr, TypePosition,
@@ -61,6 +62,9 @@ pub fn type_arguments(
     let Some(inside) = spot.opening(Sign::Less) else {
         return Ok(None);
     };
+    if !closes(inside) {
+        return Ok(None);
+    }
     let Some((all, rest)) = arguments_at(alloc, inside)? else {
         return Ok(None);
     };
