@@ -1,6 +1,6 @@
 // A test over the tokens alone, before type arguments are read: in `[a<b, a<b, ..` each `<` would be read as their begin, over
 // as many nestings as are left, and nothing would come of it.
-ghost use Rattle.std.specs.Prelude.{◌≡◌, false};
+ghost use Rattle.std.specs.Prelude.{◌≡◌};
 ghost use Rattle.cad_parse_expr.specs.Closing as spec;
 ghost use Rattle.cad_parse_type.specs.Views.{seen};
 
