@@ -1,0 +1,20 @@
+//! The declared types of programs with their members, and the elaborated trees of their bodies: types, and definitions in
+//! specs/.
+#![tactic(auto)]
+
+mod body;
+mod member;
+mod program;
+mod statement;
+mod tables;
+mod term;
+
+pub use body::{
+    Bodies, DestroyedEvent, TypedBefore, TypedBody, TypedCondition, TypedFunction, TypedMember,
+    TypedTransaction, TypedType,
+};
+pub use member::{Member, MemberAccess, MemberKind, Parameter, Signature};
+pub use program::{Checked, Deployed, Installed};
+pub use statement::{TypedBlock, TypedCase, TypedStatement, Variable};
+pub use tables::{MappingDeclaration, Tables, TypeDeclaration};
+pub use term::{Argument, Place, Term, TermEntry, Use};
