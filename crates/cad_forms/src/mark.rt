@@ -3,7 +3,7 @@ ghost use Rattle.std.specs.Prelude.{◌≡◌, ◌↔◌, ◌∷◌, ◌++◌, L
 ghost use Rattle.cad_syntax.specs.declared.token.Token.{Token};
 ghost use Rattle.cad_syntax.specs.declared.token.TokenKind.{TokenKind};
 ghost use Rattle.cad_forms.specs.Sums.{kinds_of, name};
-ghost use Rattle.cad_forms.specs.Marks.{kinds_asked, kind_asked};
+ghost use Rattle.cad_forms.specs.Code.Marks.{kinds_asked, kind_asked};
 
 use cad_syntax::{Keyword, Name, Sign, Token, TokenKind};
 use std::alloc::{AllocError, Global};

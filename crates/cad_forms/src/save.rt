@@ -4,7 +4,7 @@ ghost use Rattle.cad_syntax.specs.declared.token.TokenKind.{TokenKind};
 ghost use Rattle.cad_forms.specs.Sums.{kinds_of};
 ghost use Rattle.cad_forms.specs.Saves.{save_tail_kinds, load_kinds, IsSave, IsSaveCode};
 ghost use Rattle.cad_forms.specs.Saves as spec;
-ghost use Rattle.cad_forms.specs.Parts.{Begins};
+ghost use Rattle.cad_forms.specs.Code.Parts.{Begins};
 ghost use Rattle.cad_forms.specs.Views.{save_of};
 
 use crate::mark::{Mark, behind, name_between};

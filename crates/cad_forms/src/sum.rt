@@ -7,7 +7,7 @@ ghost use Rattle.cad_syntax.specs.declared.token.Sign.TheVariants as sign;
 ghost use Rattle.cad_num.specs.Numbers.{value_of, valued};
 ghost use Rattle.cad_forms.specs.Sums.{kinds_of, literal, greatest, IsProduct, times, plus, sum_value};
 ghost use Rattle.cad_forms.specs.Saves.{saved_value};
-ghost use Rattle.cad_forms.specs.Parts.{Lacks, Multiplies, Adds};
+ghost use Rattle.cad_forms.specs.Code.Parts.{Lacks, Multiplies, Adds};
 ghost use Rattle.cad_forms.specs.Views.{products_of};
 
 use crate::mark::{Mark, is_asked};

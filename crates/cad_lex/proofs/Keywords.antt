@@ -4,7 +4,7 @@ use Rattle.std.proofs.lemmas.Slice.Eq.{bytes_eq-Decides}
 use Rattle.cad_syntax.specs.declared.token.Keyword.{Keyword}
 use Rattle.cad_syntax.specs.declared.token.Keyword.TheVariants as k
 use Rattle.cad_syntax.specs.Keywords.{keyword_spelling}
-use Rattle.cad_lex.specs.Reading.{keyword, of_two, of_three, of_four, of_five, of_six, of_seven, of_eight, longer}
+use Rattle.cad_lex.specs.Code.Reading.{keyword, of_two, of_three, of_four, of_five, of_six, of_seven, of_eight, longer}
 
 -- no keyword, or the one that is spelled so
 abbrev Spells : List ℕ → Option Keyword → Type 0

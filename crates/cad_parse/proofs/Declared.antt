@@ -13,7 +13,7 @@ use Rattle.cad_parse_type.proofs.TypeLaws.{TypeLaws}
 use Rattle.cad_parse_type.proofs.Heads.{keyword_head}
 use Rattle.cad_parse_type.proofs.Climbs.{Shrinks, then_is, then_not, either_is, either_not, IfFound, then_found, either_found, found_is}
 use Rattle.cad_parse_statement.proofs.StatementLaws.{StatementLaws}
-use Rattle.cad_parse.specs.Reading as r
+use Rattle.cad_parse.specs.Code.Reading as r
 use Rattle.cad_parse.proofs.MemberLaws.{MemberLaws, FunctionRead}
 use Rattle.cad_parse.proofs.Firsts.{not_keyword, viewed_is, view_no_keyword}
 use Rattle.cad_parse.proofs.Programs.{DeclarationLaws}

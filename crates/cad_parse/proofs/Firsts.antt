@@ -10,7 +10,7 @@ use Rattle.cad_syntax.proofs.Same.{lists_tell, numbers_tell}
 use Rattle.cad_grammar.specs.declared.statement.VariableKind.{VariableKind}
 use Rattle.cad_grammar.specs.declared.declaration.CompositeKind.{CompositeKind}
 use Rattle.cad_grammar.specs.Spots.{Spot, then, either, is_word, after, keyword, word, read}
-use Rattle.cad_grammar.specs.Levels.{kind_strength, token_strength}
+use Rattle.cad_parse_type.specs.Code.Levels.{kind_strength, token_strength}
 use Rattle.cad_grammar.specs.StatementGrammar.{variable_word, variable_kind_of}
 use Rattle.cad_grammar.specs.ProgramGrammar.{viewed, composite_kind_of}
 use Rattle.cad_parse_type.proofs.Heads.{none_of, some_same, then_some, head, head_of, next_taken, head_strength, read_head, read_not, keyword_head, after_head}

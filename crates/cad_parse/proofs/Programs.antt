@@ -11,7 +11,7 @@ use Rattle.cad_grammar.specs.ProgramGrammar.{Chain, ReadsImport, ReadsDecl, Read
 use Rattle.cad_grammar.specs.ProgramGrammar as g
 use Rattle.cad_parse_type.proofs.Climbs.{then_is, Shrinks}
 use Rattle.cad_parse.specs.Program.{Parses, EndsAt, Refuses}
-use Rattle.cad_parse.specs.Reading.{chain, import, declaration, imports, declarations, program}
+use Rattle.cad_parse.specs.Code.Reading.{chain, import, declaration, imports, declarations, program}
 use Rattle.cad_parse.proofs.Chains.{chain_extends, chain_exact, chain_sound, chain_gives}
 
 -- what stands between the readers of imports and declarations and the grammar

@@ -14,12 +14,13 @@ use Rattle.cad_grammar.specs.declared.expression.UnaryOperator.{UnaryOperator}
 use Rattle.cad_grammar.specs.declared.expression.CastKind.{CastKind}
 use Rattle.cad_grammar.specs.Trees.{Annotation, ExprTree}
 use Rattle.cad_grammar.specs.Spots.{Spot, after, joined, keyword, opening}
-use Rattle.cad_grammar.specs.Levels.{level_number, operator_of, operator, cast_of, cast_word, unary_of, unary_word, dot_of, dot, literal_of, literal, sign_strength, kind_strength, token_strength, sign_start, keyword_start, kind_start, start_of, start}
+use Rattle.cad_grammar.specs.Levels.{operator_of, operator, cast_of, cast_word, unary_of, unary_word, dot_of, dot, literal_of, literal, sign_start, keyword_start, kind_start}
+use Rattle.cad_parse_type.specs.Code.Levels.{level_number, sign_strength, kind_strength, token_strength, start_of, start}
 use Rattle.cad_grammar.specs.ExpressionGrammar.{TypeArguments, HasNoTypeArguments}
 use Rattle.cad_grammar.specs.ExpressionGrammar as gr
 use Rattle.cad_parse_type.proofs.Heads.{none_of, some_same, head_of, head, after_head, joined_head, joined_strength, keyword_head, read_head, opening_head, head_strength, head_start}
 use Rattle.cad_parse_type.proofs.Climbs.{found_is}
-use Rattle.cad_parse_expr.specs.Reading.{type_arguments, strength_by, strength}
+use Rattle.cad_parse_expr.specs.Code.Reading.{type_arguments, strength_by, strength}
 use Rattle.cad_parse_expr.proofs.Sound.{ArgumentsAs, type_arguments_sound, type_arguments_exact, finds_no_type_arguments}
 
 -- ---- tables

@@ -7,11 +7,11 @@ use Rattle.cad_grammar.specs.declared.level.Level.TheVariants as level
 use Rattle.cad_grammar.specs.declared.level.TypePosition.TheVariants as position
 use Rattle.cad_grammar.specs.Trees.{TypeTree, ExprTree}
 use Rattle.cad_grammar.specs.Spots.{Spot, back}
-use Rattle.cad_grammar.specs.Levels.{strength_of, token_strength, start}
+use Rattle.cad_parse_type.specs.Code.Levels.{strength_of, token_strength, start}
 use Rattle.cad_grammar.specs.TypeGrammar.{ReadsType}
 use Rattle.cad_grammar.specs.ExpressionGrammar.{Reads, Expression}
 use Rattle.cad_grammar.specs.ExpressionGrammar as gr
-use Rattle.cad_parse_type.specs.Reading.{Found, type_at}
+use Rattle.cad_parse_type.specs.Code.Reading.{Found, type_at}
 use Rattle.cad_parse_type.proofs.Heads.{some_same, Ends}
 use Rattle.cad_parse_type.proofs.Climbs.{then_is, then_found, found_is}
 use Rattle.cad_parse_type.proofs.Over.{over_weak}
@@ -19,8 +19,8 @@ use Rattle.cad_parse_type.proofs.TypeLaws as t
 use Rattle.cad_parse_type.proofs.TypeLaws.{Extends}
 use Rattle.cad_parse_type.proofs.Whole.{type_laws as types}
 use Rattle.cad_parse_expr.specs.Cursor.{before, SpellsExpr, SpellsType}
-use Rattle.cad_parse_expr.specs.Reading.{strength}
-use Rattle.cad_parse_expr.specs.Reading as r
+use Rattle.cad_parse_expr.specs.Code.Reading.{strength}
+use Rattle.cad_parse_expr.specs.Code.Reading as r
 use Rattle.cad_parse_expr.proofs.Sound.{ReadAs, read_sound}
 use Rattle.cad_parse_expr.proofs.Strength.{nothing_follows, start_twelve}
 use Rattle.cad_parse_expr.proofs.Facts.{reads_shorter, reads_start, reads_ends}

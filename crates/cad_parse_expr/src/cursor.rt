@@ -4,7 +4,7 @@ ghost use Rattle.cad_syntax.specs.declared.token.Token.{Token};
 ghost use Rattle.cad_grammar.specs.declared.phase.Phase.{Phase};
 ghost use Rattle.cad_grammar.specs.Trees.{ExprTree, TypeTree};
 ghost use Rattle.cad_grammar.specs.Views.{expr_of, type_of};
-ghost use Rattle.cad_parse_type.specs.Views.{seen};
+ghost use Rattle.cad_parse_type.specs.Code.Views.{seen};
 ghost use Rattle.cad_parse_expr.specs.Cursor.{ahead, before, place, last_end, SpellsExpr, SpellsType};
 ghost use Rattle.cad_parse_expr.specs.declared.cursor.ParseStop.TheVariants.{Memory};
 
@@ -69,7 +69,7 @@ fn place_of(tokens: &[Token], rest: &[Token]) -> usize
 }
 
 // The spot before these tokens.
-#[tactic(auto, unfolding(cad_parse_type::specs::Views::seen))]
+#[tactic(auto, unfolding(cad_parse_type::specs::Code::Views::seen))]
 fn before_tokens(left: u32, tokens: &[Token]) -> Spot<'_>
     ensures { seen result ≡ before left tokens.now }
 {

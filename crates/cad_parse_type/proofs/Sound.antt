@@ -14,8 +14,8 @@ use Rattle.cad_grammar.specs.Lists.{Listed, Maybe}
 use Rattle.cad_grammar.specs.Lists as l
 use Rattle.cad_grammar.specs.TypeGrammar.{Dotted, Authorized, Intersected, ReadsType, ReadsCore, ReadsAnnotation, AnnotationList, Annotated}
 use Rattle.cad_grammar.specs.TypeGrammar as g
-use Rattle.cad_parse_type.specs.Reading.{Found, Reader, filled, marked, dotted, dotted_list}
-use Rattle.cad_parse_type.specs.Reading as r
+use Rattle.cad_parse_type.specs.Code.Reading.{Found, Reader, filled, marked, dotted, dotted_list}
+use Rattle.cad_parse_type.specs.Code.Reading as r
 use Rattle.cad_parse_type.proofs.Heads.{then_some}
 use Rattle.cad_parse_type.proofs.Climbs.{then_is, IfFound, then_found, either_found, found_is, climb_keeps}
 use Rattle.cad_parse_type.proofs.ListLaws.{IsSound, listed_sound}

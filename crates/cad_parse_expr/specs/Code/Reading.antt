@@ -10,9 +10,10 @@ use Rattle.cad_grammar.specs.declared.expression.UnaryOperator.{UnaryOperator}
 use Rattle.cad_grammar.specs.Trees.{TypeTree, Annotation, ExprTree, ArgumentTree, EntryTree, exprs_of, arguments_of, entries_of}
 use Rattle.cad_grammar.specs.Trees as tree
 use Rattle.cad_grammar.specs.Spots.{Spot, back, named, then, ◌>>=◌, either, only_if, after, joined, keyword, name, opened, opening, resumed}
-use Rattle.cad_grammar.specs.Levels.{operator, cast_word, unary_word, dot, literal, domain_name, question, questions, token_strength}
+use Rattle.cad_grammar.specs.Levels.{operator, cast_word, unary_word, dot, literal, domain_name, question, questions}
+use Rattle.cad_parse_type.specs.Code.Levels.{token_strength}
 use Rattle.cad_grammar.specs.ExpressionGrammar.{Tail, operated, cast_to, member, indexed_by, called_with, forced, extend, label}
-use Rattle.cad_parse_type.specs.Reading.{Found, Reader, climb, listed, dotted, type_at, annotation_at, arguments_at}
+use Rattle.cad_parse_type.specs.Code.Reading.{Found, Reader, climb, listed, dotted, type_at, annotation_at, arguments_at}
 
 -- where nothing was found
 abbrev pub unless : {A B : Type 0} → Option A → Option B → Option B

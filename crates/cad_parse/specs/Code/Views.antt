@@ -16,7 +16,7 @@ use Rattle.cad_grammar.specs.declared.declaration.TransactionField.{TransactionF
 use Rattle.cad_grammar.specs.declared.declaration.Prepare.{Prepare}
 use Rattle.cad_grammar.specs.declared.declaration.Decl.{Decl}
 use Rattle.cad_grammar.specs.declared.statement.Stmt.{Stmt}
-use Rattle.cad_parse_statement.specs.Views.{stmts_in}
+use Rattle.cad_parse_statement.specs.Code.Views.{stmts_in}
 
 abbrev pub same : {A : Type 0} → A → A
 same a = a

@@ -1,26 +1,11 @@
 -- Where a key stands, or belongs, in a list that is in byte order of its keys.
-use Rattle.std.specs.Prelude.{◌≡◌, ◌⊎◌, ℕ, ◌<◌, ◌≤◌, Bool, true, ◌&&◌, List, [], ◌∷◌, length, take, drop, Result, Ok, Err}
+use Rattle.std.specs.Prelude.{◌≡◌, ◌⊎◌, ℕ, ◌<◌, ◌≤◌, true, List, [], ◌∷◌, length, take, drop, Result, Ok, Err}
 use Rattle.std.specs.List.{HoldsAt}
-use Rattle.std.specs.Ordering.{nat_cmp, is_lt}
-use Rattle.std.specs.Cmp.Lexicographic.{slice_cmp}
 use Rattle.cad_wire.specs.declared.entry.Entry.{Entry}
-use Rattle.cad_accounts.specs.declared.row.Row.{Row}
-
-abbrev pub row_key : Row → List ℕ
-row_key row = row.key.0
+use Rattle.cad_accounts.specs.KeyOrder.{before}
 
 abbrev pub entry_key : Entry → List ℕ
 entry_key e = e.key.0
-
--- the one key stands before the other
-abbrev pub before : List ℕ → List ℕ → Bool
-before a b = is_lt (slice_cmp nat_cmp a b)
-
--- in byte order of the keys, each key once
-abbrev pub rise : {X : Type 0} → (X → List ℕ) → List X → Bool
-rise name [] = true
-rise name (x ∷ []) = true
-rise name (x ∷ y ∷ xs) = before (name x) (name y) && rise name (y ∷ xs)
 
 -- all keys stand before this one, or behind it
 abbrev pub AllBefore : {X : Type 0} → (X → List ℕ) → List X → List ℕ → Type 0

@@ -8,7 +8,7 @@ use Rattle.cad_grammar.specs.declared.expression.Entry.{Entry}
 use Rattle.cad_grammar.specs.Trees.{ExprTree, ArgumentTree, EntryTree}
 use Rattle.cad_grammar.specs.Views.{annotation_of, expr_of, argument_of, entry_of}
 use Rattle.cad_grammar.specs.ExpressionGrammar as grammar
-use Rattle.cad_parse_type.specs.Views.{annotations_in}
+use Rattle.cad_parse_type.specs.Code.Views.{annotations_in}
 use Rattle.cad_parse_expr.specs.declared.tail.Tail.{Tail}
 use Rattle.cad_parse_expr.specs.declared.tail.Tail.TheVariants as tail
 

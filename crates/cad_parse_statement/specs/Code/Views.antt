@@ -9,7 +9,7 @@ use Rattle.cad_grammar.specs.declared.statement.Transfer.{Transfer}
 use Rattle.cad_grammar.specs.declared.statement.Stmt.{Stmt}
 use Rattle.cad_grammar.specs.declared.statement.Case.{Case}
 use Rattle.cad_grammar.specs.declared.statement.Otherwise.{Otherwise}
-use Rattle.cad_parse_statement.specs.Reading.{NamedValue}
+use Rattle.cad_parse_statement.specs.Code.Reading.{NamedValue}
 use Rattle.cad_parse_statement.specs.declared.parts.NamedValue as code
 
 abbrev pub stmts_in : Vec Stmt Global → List StmtTree

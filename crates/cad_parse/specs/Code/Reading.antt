@@ -1,5 +1,5 @@
 -- Reading declarations and programs as a function of the spot.
-use Rattle.std.specs.Prelude.{◌≡◌, ℕ, zero, suc, Bool, true, false, if◌then◌else◌, List, [], ◌∷◌, ◌++◌, length, codes, Option, Some, None}
+use Rattle.std.specs.Prelude.{ℕ, zero, suc, Bool, true, false, if◌then◌else◌, List, [], ◌∷◌, ◌++◌, length, codes, Option, Some, None}
 use Rattle.cad_syntax.specs.declared.token.Sign.{Sign}
 use Rattle.cad_syntax.specs.declared.token.Sign.TheVariants as s
 use Rattle.cad_syntax.specs.declared.token.Keyword.{Keyword}
@@ -15,15 +15,15 @@ use Rattle.cad_grammar.specs.declared.declaration.MappingItem.{MappingItem}
 use Rattle.cad_grammar.specs.declared.declaration.MappingItem.TheVariants as mapping_item
 use Rattle.cad_grammar.specs.declared.declaration.Import.{Import}
 use Rattle.cad_grammar.specs.Trees as tree
-use Rattle.cad_grammar.specs.Trees.{Annotation, ExprTree, StmtTree, ParameterTree, ConditionTree, FunctionBlockTree, FunctionTree, InitTree, FieldTree, EventParameterTree, EventTree}
+use Rattle.cad_grammar.specs.Trees.{StmtTree, ParameterTree, ConditionTree, FunctionBlockTree, FunctionTree, InitTree, FieldTree, EventParameterTree, EventTree}
 use Rattle.cad_grammar.specs.Trees.{CompositeMemberTree, CompositeTree, InterfaceMemberTree, InterfaceTree, EnumTree, MappingTree, ContractMemberTree, ContractTree}
 use Rattle.cad_grammar.specs.Trees.{TransactionFieldTree, PrepareTree, TransactionTree, DeclTree, ProgramTree}
 use Rattle.cad_grammar.specs.Spots.{Spot, back, read, then, ◌>>=◌, either, after, keyword, word, name, opened, opening}
 use Rattle.cad_grammar.specs.StatementGrammar.{variable_word, begins_plainly, parted}
 use Rattle.cad_grammar.specs.ProgramGrammar.{plain_access_of, is_plain_access, viewed, is_destruction, composite_kind_of, mapping_head, origin}
-use Rattle.cad_parse_type.specs.Reading.{Found, Reader, listed, maybe, dotted, dotted_list, entitled, annotation}
-use Rattle.cad_parse_expr.specs.Reading.{expression}
-use Rattle.cad_parse_statement.specs.Reading.{maybe_annotated, statements_in, block_in}
+use Rattle.cad_parse_type.specs.Code.Reading.{Reader, listed, maybe, dotted, dotted_list, entitled, annotation}
+use Rattle.cad_parse_expr.specs.Code.Reading.{expression}
+use Rattle.cad_parse_statement.specs.Code.Reading.{maybe_annotated, statements_in, block_in}
 
 -- ---- items one after another, behind those that were found; the number bounds the turns
 

@@ -9,8 +9,8 @@ use Rattle.cad_grammar.specs.Trees.{Annotation, ExprTree, TestTree, SecondTree, 
 use Rattle.cad_grammar.specs.Trees as tree
 use Rattle.cad_grammar.specs.Spots.{Spot, back, ◌>>=◌, either, after, keyword, name, opened, opening}
 use Rattle.cad_grammar.specs.StatementGrammar.{variable_word, transfer, begins_plainly, ends, parted, value_follows}
-use Rattle.cad_parse_type.specs.Reading.{Reader, maybe, annotation}
-use Rattle.cad_parse_expr.specs.Reading.{expression}
+use Rattle.cad_parse_type.specs.Code.Reading.{Reader, maybe, annotation}
+use Rattle.cad_parse_expr.specs.Code.Reading.{expression}
 
 -- ":" TypeAnnotation, or nothing
 unfoldable pub maybe_annotated : Reader (Option Annotation)
