@@ -164,8 +164,7 @@ class Reader:
         for path in sorted((folder / "specs").rglob("*.antt")):
             name = ".".join(path.relative_to(folder / "specs").with_suffix("").parts)
             self.modules[crate, name] = read_specs(crate, path, name)
-        roots = [p for p in (folder / "src/lib.rt", folder / "src/main.rt") if p.exists()]
-        root = roots[0].read_text()
+        root = next(p for p in (folder / "src/lib.rt", folder / "src/main.rt") if p.exists()).read_text()
         tests = set(re.findall(r"#\[cfg\(test\)\]\s*mod (\w+);", root))
         for path in sorted((folder / "src").rglob("*.rt")):
             name = "src/" + "/".join(path.relative_to(folder / "src").with_suffix("").parts)
@@ -174,9 +173,7 @@ class Reader:
         above = set()
         for part in re.findall(re.escape(FOR_ABOVE) + r"[^\n]*\n((?:pub use [^;]*;\n)+)", root):
             above |= set(re.findall(r"(\w+)(?=\s*[,};])", part))
-        shown = set()
-        for part in re.findall(r"^pub use [^;]*;", root, re.M):
-            shown |= set(re.findall(r"(\w+)(?=\s*[,};])", part))
+        shown = {n for part in re.findall(r"^pub use [^;]*;", root, re.M) for n in re.findall(r"(\w+)(?=\s*[,};])", part)}
         whole = {"src/" + m for m in re.findall(r"^pub mod (\w+);", root, re.M)}
         if crate == ENTRY[0]:
             shown |= {ENTRY[2]}
