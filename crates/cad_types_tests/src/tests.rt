@@ -1,10 +1,10 @@
 // Worked examples.
-use crate::classes::{is_exportable, is_importable, is_storable};
-use crate::declared::{DEEPEST, Declared, Sort, all_nest, is_closed};
-use crate::kinds::Kinds;
-use crate::subtype::{is_resource, is_subtype};
 use cad_syntax::{
     Address, Authorization, Basic, CadType, Kind, Name, Names, Text, TypeId, TypeIds, Types,
+};
+use cad_types::{
+    DEEPEST, Declared, Kinds, Sort, all_nest, is_closed, is_exportable, is_importable, is_resource,
+    is_storable, is_subtype,
 };
 use std::alloc::{AllocError, Global};
 use std::test::Fail;

@@ -1,7 +1,7 @@
 // What readers tell of texts, and the rows of tests that they tell otherwise.
-use crate::{ParseStop, parse_program};
 use cad_grammar::{Phase, TypePosition};
 use cad_lex::lex;
+use cad_parse::{ParseStop, parse_program};
 use cad_parse_expr::{Cursor, MAX_NESTING, parse_expr};
 use cad_parse_statement::statements;
 use cad_parse_type::{Spot, annotation_at};

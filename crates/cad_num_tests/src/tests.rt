@@ -1,7 +1,7 @@
 // Worked examples. The expected values are those of Python's integers and decimals.
 ghost use Rattle.std.specs.Prelude.{◌≡◌};
 
-use super::*;
+use cad_num::*;
 use cad_syntax::{Kind, Num, Text};
 use std::alloc::Global;
 use std::cmp::Ordering;

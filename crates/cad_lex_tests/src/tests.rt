@@ -1,6 +1,6 @@
 // Texts with their tokens.
-use super::*;
 use crate::rows::{GAPS, NUMBERS, QUOTATIONS, SIGNS, WORDS};
+use cad_lex::*;
 use cad_syntax::{Token, TokenKind};
 use std::alloc::{AllocError, Global};
 use std::test::Fail;
