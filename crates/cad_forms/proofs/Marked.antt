@@ -2,8 +2,8 @@
 use Rattle.std.proofs.Common.{◌≡◌, ℕ, zero, suc, ◌<◌, ◌≤◌, ◌-◌, List, [], ◌∷◌, ◌++◌, length, get_or, take, drop, refl, sym, ◌∙◌, ap, arith}
 use Rattle.std.proofs.lemmas.List.{length-map, map-append, take_rest}
 use Rattle.std.proofs.Math.ListN.{get_or-map, get_or-append}
-use Rattle.cad_syntax.specs.declared.token.Token.{Token}
-use Rattle.cad_syntax.specs.declared.token.TokenKind.{TokenKind}
+use Rattle.cad_grammar.specs.declared.token.Token.{Token}
+use Rattle.cad_grammar.specs.declared.token.TokenKind.{TokenKind}
 use Rattle.cad_forms.specs.declared.mark.Mark.{Mark}
 use Rattle.cad_forms.specs.Sums.{kinds_of}
 use Rattle.cad_forms.specs.Code.Marks.{kind_asked, kinds_asked}

@@ -1,6 +1,6 @@
 // Gaps: white space and comments.
 ghost use Rattle.std.specs.Prelude.{◌≡◌, ◌&&◌, ◌||◌, ◌==◌, false, option_map};
-ghost use Rattle.cad_syntax.specs.Lexes.{is_white_space, is_in_line};
+ghost use Rattle.cad_grammar.specs.Lexes.{is_white_space, is_in_line};
 ghost use Rattle.cad_lex.specs.Code.Reading as spec;
 
 fn is_white_space(byte: u8) -> bool

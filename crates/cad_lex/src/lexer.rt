@@ -1,8 +1,8 @@
 // The lexer.
 ghost use Rattle.std.specs.Prelude.{◌≡◌, ◌||◌, List, option_map, IfOk, IsUtf8, Some, ℕ};
-ghost use Rattle.cad_syntax.specs.declared.token.Token.{Token};
+ghost use Rattle.cad_grammar.specs.declared.token.Token.{Token};
 ghost use Rattle.cad_syntax.specs.Names.{is_part_of_name};
-ghost use Rattle.cad_syntax.specs.Lexes.{opens_block, opens_line, Lexes, Stops};
+ghost use Rattle.cad_grammar.specs.Lexes.{opens_block, opens_line, Lexes, Stops};
 ghost use Rattle.cad_lex.specs.Code.Reading as spec;
 
 use crate::gap::gap;
@@ -11,7 +11,8 @@ use crate::number::is_digit;
 use crate::quotation::quotation;
 use crate::sign::sign;
 use crate::word::{is_first_of_name, split_word, word_kind};
-use cad_syntax::{Items, Keyword, Sign, Token, TokenKind, Tokens};
+use cad_grammar::{Sign, Token, TokenKind, Tokens};
+use cad_syntax::{Items, Keyword};
 use std::alloc::{AllocError, AllocFailed, Global};
 
 /// Why a text has no tokens.

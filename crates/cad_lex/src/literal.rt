@@ -1,10 +1,10 @@
 // Whole and fixed literals.
 ghost use Rattle.std.specs.Prelude.{◌≡◌, ◌≤◌, Some, option_map};
-ghost use Rattle.cad_syntax.specs.Lexes.{begins_with_letter, radix_of};
+ghost use Rattle.cad_grammar.specs.Lexes.{begins_with_letter, radix_of};
 ghost use Rattle.cad_lex.specs.Code.Reading as spec;
 
 use crate::number::{Numeral, is_digit, read_numeral};
-use cad_syntax::TokenKind;
+use cad_grammar::TokenKind;
 
 fn begins_with_letter(bytes: &[u8]) -> bool
     ensures { result ≡ begins_with_letter bytes.now }

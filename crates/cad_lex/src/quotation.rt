@@ -1,6 +1,6 @@
 // Texts in quotes.
 ghost use Rattle.std.specs.Prelude.{◌≡◌, length, option_map, IfOk, IsUtf8, Some};
-ghost use Rattle.cad_syntax.specs.Lexes.{is_hexadecimal, is_plain, escaped};
+ghost use Rattle.cad_grammar.specs.Lexes.{is_hexadecimal, is_plain, escaped};
 ghost use Rattle.cad_lex.specs.Code.Reading as spec;
 
 use crate::number::{add_digit, is_digit};

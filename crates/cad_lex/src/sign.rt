@@ -2,7 +2,7 @@
 ghost use Rattle.std.specs.Prelude.{◌≡◌, option_map};
 ghost use Rattle.cad_lex.specs.Code.Reading as spec;
 
-use cad_syntax::Sign;
+use cad_grammar::Sign;
 
 // The first sign where this byte comes next, else the second; and the bytes behind it.
 #[tactic(auto, unfolding(crate::specs::Code::Reading::longer_by))]

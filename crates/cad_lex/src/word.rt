@@ -3,7 +3,8 @@ ghost use Rattle.std.specs.Prelude.{◌≡◌, IfOk, IsUtf8};
 ghost use Rattle.cad_syntax.specs.Names.{is_first_of_name, is_part_of_name};
 ghost use Rattle.cad_lex.specs.Code.Reading as spec;
 
-use cad_syntax::{Keyword, Name, Text, TokenKind};
+use cad_grammar::TokenKind;
+use cad_syntax::{Keyword, Name, Text};
 use std::alloc::{AllocError, Global};
 
 /// Whether a name may begin with this byte: an ASCII letter or `_`.

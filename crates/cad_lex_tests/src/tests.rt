@@ -1,7 +1,7 @@
 // Texts with their tokens.
 use crate::rows::{GAPS, NUMBERS, QUOTATIONS, SIGNS, WORDS};
+use cad_grammar::{Token, TokenKind};
 use cad_lex::*;
-use cad_syntax::{Token, TokenKind};
 use std::alloc::{AllocError, Global};
 use std::test::Fail;
 

@@ -1,10 +1,10 @@
 -- The first token of a declaration and of a member.
 use Rattle.std.proofs.Common.{◌≡◌, ◌⊎◌, inl, inr, ℕ, Bool, true, false, ◌==◌, List, codes, Option, Some, None, refl, sym, ap, ◌∙◌}
-use Rattle.cad_syntax.specs.declared.token.Sign.{Sign}
-use Rattle.cad_syntax.specs.declared.token.Keyword.{Keyword}
-use Rattle.cad_syntax.specs.declared.token.Keyword.TheVariants as k
-use Rattle.cad_syntax.specs.declared.token.TokenKind.{TokenKind}
-use Rattle.cad_syntax.specs.declared.token.TokenKind.TheVariants as kind
+use Rattle.cad_grammar.specs.declared.token.Sign.{Sign}
+use Rattle.cad_syntax.specs.declared.keyword.Keyword.{Keyword}
+use Rattle.cad_syntax.specs.declared.keyword.Keyword.TheVariants as k
+use Rattle.cad_grammar.specs.declared.token.TokenKind.{TokenKind}
+use Rattle.cad_grammar.specs.declared.token.TokenKind.TheVariants as kind
 use Rattle.cad_syntax.specs.declared.text.Name.{Name}
 use Rattle.cad_syntax.proofs.Same.{lists_tell, numbers_tell}
 use Rattle.cad_grammar.specs.declared.statement.VariableKind.{VariableKind}

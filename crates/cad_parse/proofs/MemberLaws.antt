@@ -1,6 +1,6 @@
 -- What is read of members is spelled, and what is spelled of them is read.
 use Rattle.std.proofs.Common.{◌≡◌, ◌⊎◌, ℕ, ◌<◌, ◌≤◌, Bool, List, length, Option, Some}
-use Rattle.cad_syntax.specs.declared.token.Keyword.TheVariants as k
+use Rattle.cad_syntax.specs.declared.keyword.Keyword.TheVariants as k
 use Rattle.cad_grammar.specs.declared.statement.VariableKind.{VariableKind}
 use Rattle.cad_grammar.specs.declared.declaration.Access.{Access}
 use Rattle.cad_grammar.specs.Trees.{ParameterTree, ConditionTree, FunctionTree, InitTree, FieldTree, EventTree, InterfaceMemberTree}

@@ -1,7 +1,7 @@
 -- The longest program, and that there is one at most.
 use Rattle.std.proofs.Common.{◌≡◌, ◌⊎◌, inl, inr, ℕ, ◌<◌, ◌≤◌, List, [], ◌∷◌, length, Some, None, refl, sym, ap, ◌∙◌, subst, arith}
-use Rattle.cad_syntax.specs.declared.token.Token.{Token}
-use Rattle.cad_syntax.specs.Lexes.{Lexes, Stops}
+use Rattle.cad_grammar.specs.declared.token.Token.{Token}
+use Rattle.cad_grammar.specs.Lexes.{Lexes, Stops}
 use Rattle.cad_grammar.specs.declared.phase.Phase.{Phase}
 use Rattle.cad_grammar.specs.declared.phase.Phase.TheVariants.{Lex, Parse}
 use Rattle.cad_grammar.specs.declared.declaration.Import.{Import}

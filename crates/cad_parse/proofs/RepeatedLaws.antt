@@ -1,6 +1,6 @@
 -- Items one after another up to a closing sign: what is read is spelled, and what is spelled is read.
 use Rattle.std.proofs.Common.{◌≡◌, ℕ, zero, suc, ◌<◌, ◌≤◌, Bool, List, [], ◌∷◌, ◌++◌, length, Some, None, sym, ap, ◌∙◌, subst, arith, append-nil, append_assoc}
-use Rattle.cad_syntax.specs.declared.token.Sign.{Sign}
+use Rattle.cad_grammar.specs.declared.token.Sign.{Sign}
 use Rattle.cad_grammar.specs.Spots.{Spot, after}
 use Rattle.cad_grammar.specs.Lists.{Repeated}
 use Rattle.cad_grammar.specs.Lists as l

@@ -6,9 +6,9 @@ ghost use Rattle.cad_parse.specs.Code.Reading as spec;
 ghost use Rattle.cad_parse.specs.Code.Views.{same};
 ghost use Rattle.cad_parse_type.specs.Code.Views.{seen, seen_with};
 
-use cad_grammar::{Access, Entitlements};
+use cad_grammar::{Access, Entitlements, Sign, TokenKind};
 use cad_parse_type::{Spot, dotted, entitled};
-use cad_syntax::{Keyword, Name, Sign, TokenKind};
+use cad_syntax::{Keyword, Name};
 use std::alloc::{AllocError, Global};
 
 fn plain_access_named(name: &Name) -> Option<Access>

@@ -1,6 +1,6 @@
 // Composites, interfaces, enums, entitlements and mappings, each behind its access and its first words.
 ghost use Rattle.std.specs.Prelude.{◌≡◌, [], length, IfOk, option_map};
-ghost use Rattle.cad_syntax.specs.declared.token.Sign.TheVariants as s;
+ghost use Rattle.cad_grammar.specs.declared.token.Sign.TheVariants as s;
 ghost use Rattle.cad_grammar.specs.Spots.{read};
 ghost use Rattle.cad_grammar.specs.ProgramGrammar as grammar;
 ghost use Rattle.cad_grammar.specs.Views.{composite_of, interface_of, enum_of, mapping_of};
@@ -13,10 +13,10 @@ use crate::function::labelled;
 use crate::member::{composite_members, interface_members};
 use cad_grammar::{
     Access, Composite, CompositeKind, Dotted, Entitlement, Enum, EnumCase, Interface, Mapping,
-    MappingItem,
+    MappingItem, Sign, TokenKind,
 };
 use cad_parse_type::{Spot, dotted, dotted_list};
-use cad_syntax::{Items, Keyword, Name, Sign, TokenKind};
+use cad_syntax::{Items, Keyword, Name};
 use std::alloc::{AllocError, Global};
 
 fn composite_kind_of(kind: &TokenKind) -> Option<CompositeKind>

@@ -1,6 +1,6 @@
 // Contracts and their members.
 ghost use Rattle.std.specs.Prelude.{◌≡◌, [], length, IfOk, option_map};
-ghost use Rattle.cad_syntax.specs.declared.token.Sign.TheVariants as s;
+ghost use Rattle.cad_grammar.specs.declared.token.Sign.TheVariants as s;
 ghost use Rattle.cad_grammar.specs.Views.{contract_of, contract_member_of};
 ghost use Rattle.cad_parse.specs.Code.Reading as spec;
 ghost use Rattle.cad_parse.specs.Code.Views.{contract_members_in};
@@ -12,10 +12,10 @@ use crate::composite::{
 };
 use crate::function::{function, initializer, viewed};
 use crate::member::{destruction, event, field};
-use cad_grammar::{Access, CompositeKind, Contract, ContractMember};
+use cad_grammar::{Access, CompositeKind, Contract, ContractMember, Sign};
 use cad_parse_statement::variable_word;
 use cad_parse_type::Spot;
-use cad_syntax::{Keyword, Sign};
+use cad_syntax::Keyword;
 use std::alloc::{AllocError, Global};
 
 #[tactic(auto, unfolding(crate::specs::Code::Reading::entitling))]

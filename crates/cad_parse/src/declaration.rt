@@ -11,9 +11,9 @@ use crate::access::accessed;
 use crate::contract::contract;
 use crate::function::function;
 use crate::transaction::transaction;
-use cad_grammar::{Access, Decl, Import, Program};
+use cad_grammar::{Access, Decl, Import, Program, Sign, TokenKind};
 use cad_parse_type::Spot;
-use cad_syntax::{Items, Keyword, Names, Sign, TokenKind};
+use cad_syntax::{Items, Keyword, Names};
 use std::alloc::{AllocError, Global};
 
 fn hexadecimal_of(kind: &TokenKind) -> Option<u128>

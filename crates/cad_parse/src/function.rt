@@ -1,6 +1,6 @@
 // Parameters, conditions, blocks, functions and initializers.
 ghost use Rattle.std.specs.Prelude.{◌≡◌, [], length, IfOk, option_map};
-ghost use Rattle.cad_syntax.specs.declared.token.Sign.TheVariants as s;
+ghost use Rattle.cad_grammar.specs.declared.token.Sign.TheVariants as s;
 ghost use Rattle.cad_grammar.specs.Spots as spots;
 ghost use Rattle.cad_grammar.specs.ProgramGrammar as grammar;
 ghost use Rattle.cad_grammar.specs.Views.{parameter_of, condition_of, block_of, function_of, init_of};
@@ -10,11 +10,13 @@ ghost use Rattle.cad_parse_expr.specs.Code.Reading as expressions;
 ghost use Rattle.cad_parse_type.specs.Code.Reading as types;
 ghost use Rattle.cad_parse_type.specs.Code.Views.{seen, seen_with, seen_name};
 
-use cad_grammar::{Access, Condition, Conditions, Expr, Function, FunctionBlock, Init, Parameter};
+use cad_grammar::{
+    Access, Condition, Conditions, Expr, Function, FunctionBlock, Init, Parameter, Sign,
+};
 use cad_parse_expr::expression;
 use cad_parse_statement::{begins_plainly, maybe_annotated, parted, statements};
 use cad_parse_type::{Spot, annotation};
-use cad_syntax::{Keyword, Name, Sign};
+use cad_syntax::{Keyword, Name};
 use std::alloc::{AllocError, Global};
 
 /// The name before a `:` that come next, and the spot behind the `:`.

@@ -1,6 +1,6 @@
 // Fields, events, and the members of composites and interfaces.
 ghost use Rattle.std.specs.Prelude.{◌≡◌, [], length, IfOk, option_map};
-ghost use Rattle.cad_syntax.specs.declared.token.Sign.TheVariants as s;
+ghost use Rattle.cad_grammar.specs.declared.token.Sign.TheVariants as s;
 ghost use Rattle.cad_grammar.specs.ProgramGrammar as grammar;
 ghost use Rattle.cad_grammar.specs.Views.{field_of, event_of, event_parameter_of, composite_member_of, interface_member_of};
 ghost use Rattle.cad_parse.specs.Code.Reading as spec;
@@ -11,12 +11,12 @@ ghost use Rattle.cad_parse_type.specs.Code.Views.{seen, seen_with};
 use crate::access::accessed;
 use crate::function::{function, initializer, labelled, parameter, viewed};
 use cad_grammar::{
-    Access, CompositeMember, Event, EventParameter, Field, InterfaceMember, VariableKind,
+    Access, CompositeMember, Event, EventParameter, Field, InterfaceMember, Sign, VariableKind,
 };
 use cad_parse_expr::expression;
 use cad_parse_statement::variable_word;
 use cad_parse_type::{Spot, annotation};
-use cad_syntax::{Keyword, Name, Sign};
+use cad_syntax::{Keyword, Name};
 use std::alloc::{AllocError, Global};
 
 /// The field that begins behind its access and its `let` or `var`, and the spot behind its type; None where none begins.

@@ -6,10 +6,10 @@ ghost use Rattle.cad_parse.specs.Code.Views.{fields_in, maybe_parameters_in, may
 ghost use Rattle.cad_parse_type.specs.Code.Views.{seen, seen_with};
 
 use crate::function::{conditions_behind, labelled, parameters};
-use cad_grammar::{Parameter, Prepare, Stmt, Transaction, TransactionField, VariableKind};
+use cad_grammar::{Parameter, Prepare, Sign, Stmt, Transaction, TransactionField, VariableKind};
 use cad_parse_statement::{block, variable_word};
 use cad_parse_type::{Spot, annotation};
-use cad_syntax::{Keyword, Sign};
+use cad_syntax::Keyword;
 use std::alloc::{AllocError, Global};
 
 #[tactic(auto, unfolding(crate::specs::Code::Reading::transaction_field))]

@@ -1,9 +1,9 @@
 -- The readers, a step at a time, over any reader of what stands one nesting deeper.
 use Rattle.std.proofs.Common.{◌≡◌, ◌<◌, Bool, List, [], length, Option, Some, None, refl, sym, ap, ◌∙◌}
-use Rattle.cad_syntax.specs.declared.token.Sign.{Sign}
-use Rattle.cad_syntax.specs.declared.token.Sign.TheVariants as s
-use Rattle.cad_syntax.specs.declared.token.Keyword.TheVariants as k
-use Rattle.cad_syntax.specs.declared.token.TokenKind.TheVariants as kind
+use Rattle.cad_grammar.specs.declared.token.Sign.{Sign}
+use Rattle.cad_grammar.specs.declared.token.Sign.TheVariants as s
+use Rattle.cad_syntax.specs.declared.keyword.Keyword.TheVariants as k
+use Rattle.cad_grammar.specs.declared.token.TokenKind.TheVariants as kind
 use Rattle.cad_syntax.specs.declared.text.Name.{Name}
 use Rattle.cad_syntax.specs.declared.address.Domain.{Domain}
 use Rattle.cad_grammar.specs.declared.level.Level.{Level}

@@ -2,7 +2,7 @@
 use Rattle.std.proofs.Common.{◌≡◌, ℕ, suc, ◌-◌, ◌<◌, ◌≤◌, List, [], ◌++◌, length, take, drop, Some, None, refl, sym, ap, ◌∙◌, subst, ◌⊎◌, inl, inr, arith, append_assoc, length-append}
 use Rattle.std.proofs.lemmas.List.{take-append-drop}
 use Rattle.std.proofs.Math.Seq.{drop-append_seam}
-use Rattle.cad_syntax.specs.declared.token.Token.{Token}
+use Rattle.cad_grammar.specs.declared.token.Token.{Token}
 use Rattle.cad_grammar.specs.declared.level.Level.TheVariants as level
 use Rattle.cad_grammar.specs.declared.level.TypePosition.TheVariants as position
 use Rattle.cad_grammar.specs.Trees.{TypeTree, ExprTree}

@@ -4,8 +4,9 @@ ghost use Rattle.std.specs.Prelude.{◌≡◌};
 ghost use Rattle.cad_parse_expr.specs.Code.Closing as spec;
 ghost use Rattle.cad_parse_type.specs.Code.Views.{seen};
 
+use cad_grammar::{Sign, Token, TokenKind};
 use cad_parse_type::Spot;
-use cad_syntax::{Keyword, Sign, Token, TokenKind};
+use cad_syntax::Keyword;
 
 /// What a token may be in type arguments.
 #[derive(Clone, Copy, Debug)]

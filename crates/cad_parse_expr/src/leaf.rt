@@ -6,9 +6,9 @@ ghost use Rattle.cad_parse_expr.specs.Code.Reading as spec;
 ghost use Rattle.cad_parse_type.specs.Code.Views.{seen, seen_with};
 
 use crate::word::domain_name;
-use cad_grammar::Expr;
+use cad_grammar::{Expr, Sign, TokenKind};
 use cad_parse_type::Spot;
-use cad_syntax::{Keyword, Path, Sign, TokenKind};
+use cad_syntax::{Keyword, Path};
 use std::alloc::AllocError;
 
 fn literal_of(kind: &TokenKind) -> Result<Option<Expr>, AllocError>

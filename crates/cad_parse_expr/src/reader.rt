@@ -11,9 +11,11 @@ ghost use Rattle.cad_parse_type.specs.Code.Views.{seen, seen_with, annotations_i
 use crate::leaf::{literal, name_expr, path_tail};
 use crate::tail::{Tail, as_type, cast_tail, extend, force_tail, member_tail, type_arguments};
 use crate::word::{dot, label, operator, tighter, unary_word};
-use cad_grammar::{Argument, BinaryOperator, Entry, Expr, Level, TypeAnnotation, UnaryOperator};
+use cad_grammar::{
+    Argument, BinaryOperator, Entry, Expr, Level, Sign, TypeAnnotation, UnaryOperator,
+};
 use cad_parse_type::{Spot, dotted};
-use cad_syntax::{Keyword, Sign};
+use cad_syntax::Keyword;
 use std::alloc::{AllocError, Global};
 
 #[cycle(read)]

@@ -9,10 +9,10 @@ ghost use Rattle.cad_parse_type.specs.Code.Views.{seen, seen_with, annotations_i
 use crate::closing::closes;
 use crate::word::cast_word;
 use cad_grammar::{
-    Argument, BinaryOperator, CastKind, Expr, TypeAnnotation, TypeExpr, TypePosition,
+    Argument, BinaryOperator, CastKind, Expr, Sign, TypeAnnotation, TypeExpr, TypePosition,
 };
 use cad_parse_type::{Spot, annotation_at, arguments_at, question, questions, type_at};
-use cad_syntax::{Keyword, Name, Sign};
+use cad_syntax::{Keyword, Name};
 use std::alloc::{AllocError, Global};
 
 #[derive(Debug, Drop)]

@@ -4,9 +4,9 @@ ghost use Rattle.cad_grammar.specs.Levels as levels;
 ghost use Rattle.cad_grammar.specs.ExpressionGrammar as grammar;
 ghost use Rattle.cad_parse_type.specs.Code.Views.{seen, seen_with, seen_name};
 
-use cad_grammar::{BinaryOperator, CastKind, Level, UnaryOperator};
+use cad_grammar::{BinaryOperator, CastKind, Level, Sign, TokenKind, UnaryOperator};
 use cad_parse_type::Spot;
-use cad_syntax::{Domain, Keyword, Name, Sign, TokenKind};
+use cad_syntax::{Domain, Keyword, Name};
 
 /// The next tighter level.
 pub fn tighter(level: Level) -> Level

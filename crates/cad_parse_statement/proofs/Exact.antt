@@ -1,7 +1,7 @@
 -- What is spelled is read.
 use Rattle.std.proofs.Common.{◌≡◌, ℕ, zero, suc, ◌<◌, ◌≤◌, List, [], ◌∷◌, ◌++◌, length, Some, None, refl, sym, ap, ◌∙◌, arith, append-nil, append_assoc}
-use Rattle.cad_syntax.specs.declared.token.Sign.TheVariants as s
-use Rattle.cad_syntax.specs.declared.token.Keyword.TheVariants as k
+use Rattle.cad_grammar.specs.declared.token.Sign.TheVariants as s
+use Rattle.cad_syntax.specs.declared.keyword.Keyword.TheVariants as k
 use Rattle.cad_grammar.specs.Trees.{StmtTree, OtherwiseTree, CaseTree, Default}
 use Rattle.cad_grammar.specs.Spots.{Spot, after, keyword, opening}
 use Rattle.cad_parse_type.specs.Code.Levels.{token_strength}

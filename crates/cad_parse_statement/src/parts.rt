@@ -6,10 +6,10 @@ ghost use Rattle.cad_parse_statement.specs.Code.Views.{named_value_of, second_in
 ghost use Rattle.cad_parse_type.specs.Code.Views.{seen, seen_with};
 
 use crate::words::{transfer, variable_word};
-use cad_grammar::{Expr, Test, Transfer, TypeAnnotation, VariableKind};
+use cad_grammar::{Expr, Sign, Test, Transfer, TypeAnnotation, VariableKind};
 use cad_parse_expr::expression;
 use cad_parse_type::{Spot, annotation};
-use cad_syntax::{Keyword, Name, Sign};
+use cad_syntax::{Keyword, Name};
 use std::alloc::{AllocError, Global};
 
 /// A name with its value, as it stands behind `let` or `var`.

@@ -8,10 +8,10 @@ ghost use Rattle.cad_parse_type.specs.Code.Views.{seen, seen_with};
 use crate::parts::{loops, tested};
 use crate::simple::{unnested, variable};
 use crate::words::{ends, parted, variable_word};
-use cad_grammar::{Case, Otherwise, Stmt};
+use cad_grammar::{Case, Otherwise, Sign, Stmt};
 use cad_parse_expr::expression;
 use cad_parse_type::Spot;
-use cad_syntax::{Keyword, Sign};
+use cad_syntax::Keyword;
 use std::alloc::{AllocError, Global};
 
 #[cycle(read)]

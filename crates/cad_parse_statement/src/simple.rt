@@ -6,10 +6,10 @@ ghost use Rattle.cad_parse_type.specs.Code.Views.{seen, seen_with};
 
 use crate::parts::{named_value, seconded};
 use crate::words::{begins_plainly, transfer, value_follows};
-use cad_grammar::{Stmt, VariableKind};
+use cad_grammar::{Sign, Stmt, VariableKind};
 use cad_parse_expr::expression;
 use cad_parse_type::Spot;
-use cad_syntax::{Keyword, Sign};
+use cad_syntax::Keyword;
 use std::alloc::{AllocError, Global};
 
 /// A variable behind its `let` or `var`, and the spot behind it; None where none stands there.

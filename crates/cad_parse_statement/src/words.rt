@@ -4,9 +4,9 @@ ghost use Rattle.cad_grammar.specs.StatementGrammar as spec;
 ghost use Rattle.cad_grammar.specs.Levels as levels;
 ghost use Rattle.cad_parse_type.specs.Code.Views.{seen, seen_with};
 
-use cad_grammar::{Transfer, VariableKind};
+use cad_grammar::{Sign, TokenKind, Transfer, VariableKind};
 use cad_parse_type::Spot;
-use cad_syntax::{Keyword, Sign, TokenKind};
+use cad_syntax::Keyword;
 
 fn variable_kind_of(kind: &TokenKind) -> Option<VariableKind>
     ensures { result ≡ spec.variable_kind_of kind.now }

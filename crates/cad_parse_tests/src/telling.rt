@@ -1,11 +1,10 @@
 // What readers tell of texts, and the rows of tests that they tell otherwise.
-use cad_grammar::{Phase, TypePosition};
+use cad_grammar::{Phase, Tokens, TypePosition};
 use cad_lex::lex;
 use cad_parse::{ParseStop, parse_program};
 use cad_parse_expr::{Cursor, MAX_NESTING, parse_expr};
 use cad_parse_statement::statements;
 use cad_parse_type::{Spot, annotation_at};
-use cad_syntax::Tokens;
 use std::alloc::{AllocError, Global};
 
 /// What is read of a text: a program, or two programs that are compared, or what the text begins with.

@@ -1,7 +1,7 @@
 -- Lists and options of any production: what is read is spelled, and what is spelled is read.
 use Rattle.std.proofs.Common.{◌≡◌, ℕ, zero, suc, ◌<◌, ◌≤◌, List, [], ◌∷◌, ◌++◌, length, Option, Some, refl, sym, ap, ◌∙◌, subst, arith, append-nil, append_assoc}
-use Rattle.cad_syntax.specs.declared.token.Sign.{Sign}
-use Rattle.cad_syntax.specs.declared.token.Sign.TheVariants as s
+use Rattle.cad_grammar.specs.declared.token.Sign.{Sign}
+use Rattle.cad_grammar.specs.declared.token.Sign.TheVariants as s
 use Rattle.cad_grammar.specs.Spots.{Spot, after, resumed}
 use Rattle.cad_grammar.specs.Lists.{Listed, Maybe}
 use Rattle.cad_grammar.specs.Lists as l

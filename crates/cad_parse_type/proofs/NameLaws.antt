@@ -1,8 +1,8 @@
 -- Dotted names, lists of them and entitlements.
 use Rattle.std.proofs.Common.{◌≡◌, ℕ, zero, suc, ◌<◌, ◌≤◌, List, [], ◌∷◌, ◌++◌, length, Some, None, refl, sym, ap, ◌∙◌, subst, arith, append_assoc, ◌⊎◌, inl, inr}
-use Rattle.cad_syntax.specs.declared.token.Sign.{Sign}
-use Rattle.cad_syntax.specs.declared.token.Sign.TheVariants as s
-use Rattle.cad_syntax.specs.declared.token.TokenKind.TheVariants as kind
+use Rattle.cad_grammar.specs.declared.token.Sign.{Sign}
+use Rattle.cad_grammar.specs.declared.token.Sign.TheVariants as s
+use Rattle.cad_grammar.specs.declared.token.TokenKind.TheVariants as kind
 use Rattle.cad_syntax.specs.declared.text.Name.{Name}
 use Rattle.cad_grammar.specs.declared.type_expr.Entitlements.{Entitlements}
 use Rattle.cad_grammar.specs.declared.type_expr.Entitlements.TheVariants as entitlements

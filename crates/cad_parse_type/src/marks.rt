@@ -1,13 +1,13 @@
 // The `?` behind a type.
 ghost use Rattle.std.specs.Prelude.{◌≡◌, option_map};
-ghost use Rattle.cad_syntax.specs.declared.token.TokenKind.TheVariants as kind;
+ghost use Rattle.cad_grammar.specs.declared.token.TokenKind.TheVariants as kind;
 ghost use Rattle.cad_grammar.specs.Levels as levels;
 ghost use Rattle.cad_parse_type.specs.Code.Reading as spec;
 ghost use Rattle.cad_parse_type.specs.Code.Views.{seen, seen_with};
 
 use crate::spot::Spot;
-use cad_grammar::TypePosition;
-use cad_syntax::{Keyword, Sign, Token, TokenKind};
+use cad_grammar::{Sign, Token, TokenKind, TypePosition};
+use cad_syntax::Keyword;
 
 fn sign_begins(sign: Sign) -> bool
     ensures { result ≡ levels.begins_expression (kind.Sign sign) }

@@ -5,8 +5,8 @@ ghost use Rattle.cad_parse_type.specs.Code.Reading as spec;
 ghost use Rattle.cad_parse_type.specs.Code.Views.{seen, seen_with, seen_name};
 
 use crate::spot::Spot;
-use cad_grammar::{Dotted, Entitlements};
-use cad_syntax::{Items, Name, Sign};
+use cad_grammar::{Dotted, Entitlements, Sign};
+use cad_syntax::{Items, Name};
 use std::alloc::{AllocError, Global};
 
 // The name behind a `.`, and the spot behind it; None where none stands there.

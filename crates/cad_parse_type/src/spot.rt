@@ -4,7 +4,8 @@ ghost use Rattle.std.specs.Cmp.Lexicographic.{pointwise};
 ghost use Rattle.cad_grammar.specs.Spots as spec;
 ghost use Rattle.cad_parse_type.specs.Code.Views.{seen, seen_with, seen_name};
 
-use cad_syntax::{Keyword, Name, Sign, Token, TokenKind};
+use cad_grammar::{Sign, Token, TokenKind};
+use cad_syntax::{Keyword, Name};
 
 /// Where reading stands: how many nestings may still be opened, whether the name of an expression or of a member was read
 /// last, and the tokens that are left.

@@ -1,6 +1,6 @@
 // Types, by how deep the reader may call itself.
 ghost use Rattle.std.specs.Prelude.{◌≡◌, [], length, map, IfOk, Some, option_map};
-ghost use Rattle.cad_syntax.specs.declared.token.Sign.TheVariants as s;
+ghost use Rattle.cad_grammar.specs.declared.token.Sign.TheVariants as s;
 ghost use Rattle.cad_grammar.specs.Views.{type_of, annotation_of};
 ghost use Rattle.cad_grammar.specs.declared.level.TypePosition.TheVariants as position;
 ghost use Rattle.cad_parse_type.specs.Code.Reading as spec;
@@ -9,8 +9,8 @@ ghost use Rattle.cad_parse_type.specs.Code.Views.{seen, seen_with, annotations_i
 use crate::marks::type_tail;
 use crate::names::{authorized, dotted, dotted_list};
 use crate::spot::Spot;
-use cad_grammar::{Dotted, Entitlements, TypeAnnotation, TypeExpr, TypePosition};
-use cad_syntax::{Keyword, Sign};
+use cad_grammar::{Dotted, Entitlements, Sign, TypeAnnotation, TypeExpr, TypePosition};
+use cad_syntax::Keyword;
 use std::alloc::{AllocError, Global};
 
 fn marked(alloc: Global, written: TypeExpr, twice: bool) -> Result<TypeExpr, AllocError>

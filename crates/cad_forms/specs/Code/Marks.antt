@@ -1,7 +1,7 @@
 -- The tokens that a form of code asks for.
 use Rattle.std.specs.Prelude.{List, map}
-use Rattle.cad_syntax.specs.declared.token.TokenKind.{TokenKind}
-use Rattle.cad_syntax.specs.declared.token.TokenKind.TheVariants as kind
+use Rattle.cad_grammar.specs.declared.token.TokenKind.{TokenKind}
+use Rattle.cad_grammar.specs.declared.token.TokenKind.TheVariants as kind
 use Rattle.cad_forms.specs.declared.mark.Mark.{Mark}
 use Rattle.cad_forms.specs.declared.mark.Mark.TheVariants as mark
 use Rattle.cad_forms.specs.Sums.{name}

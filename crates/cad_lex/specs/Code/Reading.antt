@@ -3,14 +3,14 @@ use Rattle.std.specs.Prelude.{ℕ, zero, suc, ◌&&◌, ◌||◌, ◌+◌, ◌-�
 use Rattle.std.specs.Char.{is_digit, digit_value}
 use Rattle.std.specs.Borrow.{Bor}
 use Rattle.std.specs.Str.{bytes_eq}
-use Rattle.cad_syntax.specs.declared.token.Keyword.{Keyword}
-use Rattle.cad_syntax.specs.declared.token.Keyword.TheVariants as k
-use Rattle.cad_syntax.specs.declared.token.Sign.{Sign}
-use Rattle.cad_syntax.specs.declared.token.Sign.TheVariants as s
-use Rattle.cad_syntax.specs.declared.token.TokenKind.{TokenKind}
-use Rattle.cad_syntax.specs.declared.token.TokenKind.TheVariants as kind
+use Rattle.cad_syntax.specs.declared.keyword.Keyword.{Keyword}
+use Rattle.cad_syntax.specs.declared.keyword.Keyword.TheVariants as k
+use Rattle.cad_grammar.specs.declared.token.Sign.{Sign}
+use Rattle.cad_grammar.specs.declared.token.Sign.TheVariants as s
+use Rattle.cad_grammar.specs.declared.token.TokenKind.{TokenKind}
+use Rattle.cad_grammar.specs.declared.token.TokenKind.TheVariants as kind
 use Rattle.cad_syntax.specs.Names.{is_first_of_name, is_part_of_name}
-use Rattle.cad_syntax.specs.Lexes.{is_white_space, is_in_line, is_underscore, is_hexadecimal, is_plain, escaped, radix_of, begins_with_letter, opens_line, opens_block, Shape, Word, Whole, Fixed, Quotation, Mark}
+use Rattle.cad_grammar.specs.Lexes.{is_white_space, is_in_line, is_underscore, is_hexadecimal, is_plain, escaped, radix_of, begins_with_letter, opens_line, opens_block, Shape, Word, Whole, Fixed, Quotation, Mark}
 
 -- the bytes at the front that pass
 unfoldable pub front : (ℕ → Bool) → List ℕ → List ℕ

@@ -1,9 +1,9 @@
 -- Reading declarations and programs as a function of the spot.
 use Rattle.std.specs.Prelude.{ℕ, zero, suc, Bool, true, false, if◌then◌else◌, List, [], ◌∷◌, ◌++◌, length, codes, Option, Some, None}
-use Rattle.cad_syntax.specs.declared.token.Sign.{Sign}
-use Rattle.cad_syntax.specs.declared.token.Sign.TheVariants as s
-use Rattle.cad_syntax.specs.declared.token.Keyword.{Keyword}
-use Rattle.cad_syntax.specs.declared.token.Keyword.TheVariants as k
+use Rattle.cad_grammar.specs.declared.token.Sign.{Sign}
+use Rattle.cad_grammar.specs.declared.token.Sign.TheVariants as s
+use Rattle.cad_syntax.specs.declared.keyword.Keyword.{Keyword}
+use Rattle.cad_syntax.specs.declared.keyword.Keyword.TheVariants as k
 use Rattle.cad_syntax.specs.declared.text.Name.{Name}
 use Rattle.cad_grammar.specs.declared.statement.VariableKind.{VariableKind}
 use Rattle.cad_grammar.specs.declared.declaration.Access.{Access}

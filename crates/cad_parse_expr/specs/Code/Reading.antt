@@ -1,7 +1,7 @@
 -- Reading expressions as a function of the spot.
 use Rattle.std.specs.Prelude.{ℕ, zero, suc, Bool, List, [], length, Option, Some, None}
-use Rattle.cad_syntax.specs.declared.token.Sign.TheVariants as s
-use Rattle.cad_syntax.specs.declared.token.Keyword.TheVariants as k
+use Rattle.cad_grammar.specs.declared.token.Sign.TheVariants as s
+use Rattle.cad_syntax.specs.declared.keyword.Keyword.TheVariants as k
 use Rattle.cad_grammar.specs.declared.level.Level.{Level}
 use Rattle.cad_grammar.specs.declared.level.Level.TheVariants as level
 use Rattle.cad_grammar.specs.declared.level.TypePosition.TheVariants as position

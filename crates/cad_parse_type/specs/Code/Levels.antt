@@ -1,12 +1,12 @@
 -- Levels of tokens, by which the readers' laws say what may come next.
 use Rattle.std.specs.Prelude.{ℕ, Bool, if◌then◌else◌, List, [], ◌∷◌}
-use Rattle.cad_syntax.specs.declared.token.Sign.{Sign}
-use Rattle.cad_syntax.specs.declared.token.Sign.TheVariants as s
-use Rattle.cad_syntax.specs.declared.token.Keyword.{Keyword}
-use Rattle.cad_syntax.specs.declared.token.Keyword.TheVariants as k
-use Rattle.cad_syntax.specs.declared.token.TokenKind.{TokenKind}
-use Rattle.cad_syntax.specs.declared.token.TokenKind.TheVariants as kind
-use Rattle.cad_syntax.specs.declared.token.Token.{Token}
+use Rattle.cad_grammar.specs.declared.token.Sign.{Sign}
+use Rattle.cad_grammar.specs.declared.token.Sign.TheVariants as s
+use Rattle.cad_syntax.specs.declared.keyword.Keyword.{Keyword}
+use Rattle.cad_syntax.specs.declared.keyword.Keyword.TheVariants as k
+use Rattle.cad_grammar.specs.declared.token.TokenKind.{TokenKind}
+use Rattle.cad_grammar.specs.declared.token.TokenKind.TheVariants as kind
+use Rattle.cad_grammar.specs.declared.token.Token.{Token}
 use Rattle.cad_grammar.specs.declared.level.Level.{Level}
 use Rattle.cad_grammar.specs.declared.level.Level.TheVariants as level
 use Rattle.cad_grammar.specs.Spots.{Spot}

@@ -1,6 +1,6 @@
 use Rattle.std.proofs.Common.{◌≡◌, ap, arith, rules}
 use Rattle.std.proofs.lemmas.Grind.{common_steps}
-use Rattle.cad_syntax.specs.declared.token.Sign.TheVariants as s
+use Rattle.cad_grammar.specs.declared.token.Sign.TheVariants as s
 use Rattle.cad_parse_type.specs.Code.Reading.{listed}
 use Rattle.cad_parse.specs.Code.Reading as spec
 use Rattle.cad_parse.specs.Code.Views.{event_parameters_in}

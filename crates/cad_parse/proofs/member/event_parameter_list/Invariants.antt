@@ -1,5 +1,5 @@
 use Rattle.std.proofs.Common.{◌≡◌, [], length, ◌-◌}
-use Rattle.cad_syntax.specs.declared.token.Sign.TheVariants as s
+use Rattle.cad_grammar.specs.declared.token.Sign.TheVariants as s
 use Rattle.cad_parse_type.specs.Code.Reading.{listed}
 use Rattle.cad_parse.specs.Code.Reading as spec
 use Rattle.cad_parse.specs.Code.Views.{event_parameters_in}

@@ -1,5 +1,5 @@
 use Rattle.std.proofs.Common.{◌≡◌, [], length, ◌+◌, ◌-◌, ◌*◌}
-use Rattle.cad_syntax.specs.declared.token.Sign.TheVariants as s
+use Rattle.cad_grammar.specs.declared.token.Sign.TheVariants as s
 use Rattle.cad_grammar.specs.declared.level.Level.TheVariants as level
 use Rattle.cad_grammar.specs.Levels.{tighter}
 use Rattle.cad_grammar.specs.ExpressionGrammar.{extend}

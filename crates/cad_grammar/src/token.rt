@@ -1,47 +1,5 @@
 // Tokens.
-use crate::text::{Name, Text};
-
-/// A word that is no name.
-#[derive(Clone, Copy, Debug, PartialEq, Eq)]
-pub enum Keyword {
-    Access,
-    As,
-    Auth,
-    Break,
-    Case,
-    Continue,
-    Contract,
-    Create,
-    Default,
-    Destroy,
-    Else,
-    Emit,
-    Enum,
-    Event,
-    Execute,
-    False,
-    For,
-    Fun,
-    If,
-    Import,
-    In,
-    Init,
-    Interface,
-    Let,
-    Nil,
-    Post,
-    Pre,
-    Prepare,
-    Resource,
-    Return,
-    Self_,
-    Struct,
-    Switch,
-    Transaction,
-    True,
-    Var,
-    While,
-}
+use cad_syntax::{Items, Keyword, Name, Text};
 
 /// A sign.
 #[derive(Clone, Copy, Debug, PartialEq, Eq)]
@@ -144,3 +102,5 @@ pub struct Token {
     pub end: usize,
     pub after_break: bool,
 }
+
+pub type Tokens = Items<Token>;
