@@ -9,7 +9,8 @@ use Rattle.cad_wire.specs.Body.{are_ascending}
 use Rattle.cad_accounts.specs.Registers.{Map, same_key, changed, applied, Leads}
 use Rattle.cad_accounts.proofs.Maps.{some_key, other_key, changed_kept, applied_after}
 use Rattle.cad_accounts.proofs.Keys.{itself, same_is}
-use Rattle.cad_accounts.specs.Places.{entry_key, rise, AllBehind}
+use Rattle.cad_accounts.specs.Code.Places.{entry_key, AllBehind}
+use Rattle.cad_accounts.specs.KeyOrder.{rise}
 use Rattle.cad_accounts.proofs.Order.{tail_rises, first_before, join}
 use Rattle.cad_accounts.proofs.EntryPlaces.{free_behind, rising, ascending}
 

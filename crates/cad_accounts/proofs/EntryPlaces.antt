@@ -6,7 +6,8 @@ use Rattle.std.proofs.lemmas.List.{take-append-drop, set_split}
 use Rattle.cad_wire.specs.declared.entry.Entry.{Entry}
 use Rattle.cad_wire.specs.Body.{are_ascending}
 use Rattle.cad_accounts.specs.Registers.{Map, changed, applied}
-use Rattle.cad_accounts.specs.Places.{entry_key, before, rise, AllBefore, AllBehind, StandsAt, BelongsAt}
+use Rattle.cad_accounts.specs.Code.Places.{entry_key, AllBefore, AllBehind, StandsAt, BelongsAt}
+use Rattle.cad_accounts.specs.KeyOrder.{before, rise}
 use Rattle.cad_accounts.proofs.Keys.{before_differs, behind_differs}
 use Rattle.cad_accounts.proofs.Maps.{changed_there, changed_twice, Free, applied_after}
 use Rattle.cad_accounts.proofs.OneByOne.{applied_append}

@@ -6,7 +6,8 @@ use Rattle.std.specs.Cmp.Lexicographic.{slice_cmp}
 use Rattle.cad_wire.specs.declared.entry.Entry.{Entry}
 use Rattle.cad_accounts.specs.declared.row.Row.{Row}
 use Rattle.cad_accounts.specs.Registers.{same_key, at, are_rising, changed, applied}
-use Rattle.cad_accounts.specs.Places.{row_key, before, AllBefore, AllBehind}
+use Rattle.cad_accounts.specs.Code.Places.{AllBefore, AllBehind}
+use Rattle.cad_accounts.specs.KeyOrder.{row_key, before}
 use Rattle.cad_accounts.proofs.Keys.{same_is, equal_is, greater_is}
 use Rattle.cad_accounts.proofs.Order.{tail_rises, first_before, behind_all, rises_with, rises_without, before_of, behind_of}
 use Rattle.cad_accounts.proofs.RowLaws.{none_at, at_with}

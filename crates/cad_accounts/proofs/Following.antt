@@ -6,7 +6,7 @@ use Rattle.std.specs.declared.alloc.AllocError.{AllocError}
 use Rattle.cad_wire.specs.declared.entry.Key.{Key}
 use Rattle.cad_wire.proofs.FieldLaws.{some_is}
 use Rattle.cad_accounts.specs.declared.row.Row.{Row}
-use Rattle.cad_accounts.specs.InOrder.{IsHead, Steps, Follow, InOrder}
+use Rattle.cad_accounts.specs.Code.InOrder.{IsHead, Steps, Follow, InOrder}
 use Rattle.cad_accounts.proofs.Spelled.{same_number, fronts_same}
 
 abbrev pub pair_of : Row → List ℕ × List ℕ

@@ -11,7 +11,7 @@ use Rattle.cad_accounts.specs.Registers.{same_key, at}
 use Rattle.cad_accounts.specs.Accounts.{Account, Accounts, IsInt, IsSound, IsSoundAccount, IsKey, AreRegisters, head_key, controller_key, stored_key, no_accounts, most_accounts}
 use Rattle.cad_accounts.specs.Accounts.IsKey.{head, controller, stored}
 use Rattle.cad_accounts.specs.Worlds.{AreSound}
-use Rattle.cad_accounts.specs.InOrder.{IsHead, Steps, Follow, InOrder}
+use Rattle.cad_accounts.specs.Code.InOrder.{IsHead, Steps, Follow, InOrder}
 use Rattle.cad_accounts.proofs.Keys.{same_is, is_same, not_same, before_differs, behind_differs}
 use Rattle.cad_accounts.proofs.KeyOrder.{head_first, head_before_stored, controller_before_stored, same_controller, same_address, same_identifier}
 

@@ -6,7 +6,7 @@ use Rattle.std.specs.Cmp.Lexicographic.{slice_cmp}
 use Rattle.std.specs.Int.{bytes_high_first}
 use Rattle.std.proofs.lemmas.Bool.{cases_lt, lt-ltb, le-ltb, eq-eqb}
 use Rattle.cad_accounts.specs.Accounts.{head_key, controller_key, stored_key}
-use Rattle.cad_accounts.specs.Places.{before}
+use Rattle.cad_accounts.specs.KeyOrder.{before}
 use Rattle.cad_accounts.proofs.Spelled.{same_number, fronts_same, rests_same}
 
 pub head_first : (address : ℕ) → before head_key (controller_key address) ≡ true

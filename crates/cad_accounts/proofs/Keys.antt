@@ -6,7 +6,7 @@ use Rattle.std.specs.Cmp.Lexicographic.{slice_cmp, bytes_decides, lists_ties}
 use Rattle.std.specs.Cmp.{unsigned_ties}
 use Rattle.std.proofs.lemmas.Cmp.{nat_list_cmp_total, tied_itself}
 use Rattle.cad_accounts.specs.Registers.{same_key}
-use Rattle.cad_accounts.specs.Places.{before}
+use Rattle.cad_accounts.specs.KeyOrder.{before}
 
 pub same_is : (a b : List ℕ) → same_key a b ≡ true → a ≡ b
 same_is a b e = (bytes_decides a b).0 e

@@ -5,7 +5,8 @@ use Rattle.std.proofs.Math.Seq.{take-length, drop-length}
 use Rattle.cad_wire.specs.declared.entry.Entry.{Entry}
 use Rattle.cad_wire.specs.Body.{are_ascending}
 use Rattle.cad_accounts.specs.Registers.{Map, same_key, changed, applied}
-use Rattle.cad_accounts.specs.Places.{entry_key, before, rise, AllBefore, AllBehind, StandsAt, BelongsAt, IsLate, AreLate}
+use Rattle.cad_accounts.specs.Code.Places.{entry_key, AllBefore, AllBehind, StandsAt, BelongsAt, IsLate, AreLate}
+use Rattle.cad_accounts.specs.KeyOrder.{before, rise}
 use Rattle.cad_accounts.proofs.Keys.{passes, before_differs, behind_differs}
 use Rattle.cad_accounts.proofs.Order.{tail_rises, first_before, behind_there}
 use Rattle.cad_accounts.proofs.Maps.{Free, applied_after}

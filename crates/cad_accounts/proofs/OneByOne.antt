@@ -8,7 +8,7 @@ use Rattle.std.specs.Cmp.Lexicographic.{slice_cmp}
 use Rattle.std.proofs.lemmas.Bool.{cases_Bool, false≢true, false_from_ne_true}
 use Rattle.cad_wire.specs.declared.entry.Entry.{Entry}
 use Rattle.cad_accounts.specs.Registers.{Map, same_key, applied, changed, folded, no_registers}
-use Rattle.cad_accounts.specs.Places.{before}
+use Rattle.cad_accounts.specs.KeyOrder.{before}
 use Rattle.cad_accounts.proofs.Keys.{same_is, not_itself}
 
 pub applied_append : (xs ys : List Entry) (m : Map) → applied (xs ++ ys) m ≡ applied ys (applied xs m)

@@ -7,7 +7,8 @@ use Rattle.std.specs.declared.cmp.Ordering.TheVariants.{Less, Equal, Greater}
 use Rattle.cad_accounts.specs.declared.row.Row.{Row}
 use Rattle.cad_accounts.specs.Registers.{same_key, at, are_rising, size_of}
 use Rattle.cad_accounts.specs.Accounts.{Accounts, HasSize}
-use Rattle.cad_accounts.specs.Places.{row_key, AllBehind}
+use Rattle.cad_accounts.specs.Code.Places.{AllBehind}
+use Rattle.cad_accounts.specs.KeyOrder.{row_key}
 use Rattle.cad_accounts.proofs.Keys.{itself, same_is, equal_is, greater_is}
 use Rattle.cad_accounts.proofs.Order.{behind_all, first_before, tail_rises}
 use Rattle.cad_accounts.proofs.RowLaws.{none_behind}

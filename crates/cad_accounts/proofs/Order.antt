@@ -11,7 +11,8 @@ use Rattle.std.proofs.lemmas.List.Sorted.{searchable_from_sorted}
 use Rattle.std.proofs.lemmas.List.{take-append-drop, set_split, get_or_default}
 use Rattle.std.proofs.Math.Seq.{drop-cons, take-length, drop-length}
 use Rattle.std.proofs.Math.ListN.{set}
-use Rattle.cad_accounts.specs.Places.{before, rise, AllBefore, AllBehind, StandsAt, BelongsAt, IsPlace}
+use Rattle.cad_accounts.specs.Code.Places.{AllBefore, AllBehind, StandsAt, BelongsAt, IsPlace}
+use Rattle.cad_accounts.specs.KeyOrder.{before, rise}
 use Rattle.cad_accounts.proofs.Keys.{passes, not_back, equal_is, greater_is}
 
 pub both_left : (a b : Bool) → (a && b) ≡ true → a ≡ true

@@ -12,8 +12,9 @@ use Rattle.cad_wire.specs.Fields.{length_field, bytes_field}
 use Rattle.cad_wire.specs.Body.{entry_field}
 use Rattle.cad_accounts.specs.declared.row.Row.{Row}
 use Rattle.cad_accounts.specs.Registers.{same_key, at, are_rising, changed, entry_of, size_of}
-use Rattle.cad_accounts.specs.Rows.{row_size, is_short, are_short}
-use Rattle.cad_accounts.specs.Places.{row_key, StandsAt, BelongsAt}
+use Rattle.cad_accounts.specs.Code.Rows.{row_size, is_short, are_short}
+use Rattle.cad_accounts.specs.Code.Places.{StandsAt, BelongsAt}
+use Rattle.cad_accounts.specs.KeyOrder.{row_key}
 use Rattle.cad_accounts.proofs.Keys.{same_is, is_same}
 use Rattle.cad_accounts.proofs.Order.{both_left, both_right, parted, parted_rises, before_of, behind_of, in_front_of, insert_rises, remove_rises, set_rises}
 use Rattle.cad_accounts.proofs.RowLaws.{none_at, at_with, short_with, short_without}

@@ -2,8 +2,9 @@
 use Rattle.std.proofs.Common.{◌≡◌, ℕ, Bool, true, false, cond, List, [], ◌∷◌, ◌++◌, Some, None, refl, sym, ap, ◌∙◌}
 use Rattle.cad_accounts.specs.declared.row.Row.{Row}
 use Rattle.cad_accounts.specs.Registers.{same_key, at}
-use Rattle.cad_accounts.specs.Rows.{is_short, are_short}
-use Rattle.cad_accounts.specs.Places.{row_key, AllBefore, AllBehind}
+use Rattle.cad_accounts.specs.Code.Rows.{is_short, are_short}
+use Rattle.cad_accounts.specs.Code.Places.{AllBefore, AllBehind}
+use Rattle.cad_accounts.specs.KeyOrder.{row_key}
 use Rattle.cad_accounts.proofs.Keys.{same_is, is_same, before_differs, behind_differs}
 use Rattle.cad_accounts.proofs.Order.{both_left, both_right, both}
 

@@ -3,7 +3,7 @@ use Rattle.std.proofs.Common.{◌≡◌, ◌↔◌, true, List}
 use Rattle.cad_accounts.specs.declared.row.Row.{Row}
 use Rattle.cad_accounts.specs.Registers.{at, are_rising}
 use Rattle.cad_accounts.specs.Worlds.{AreSound}
-use Rattle.cad_accounts.specs.InOrder.{InOrder}
+use Rattle.cad_accounts.specs.Code.InOrder.{InOrder}
 use Rattle.cad_accounts.proofs.FromRows.{from_rows}
 use Rattle.cad_accounts.proofs.ToRows.{to_rows}
 

@@ -12,7 +12,7 @@ use Rattle.cad_wire.specs.Fields.{number_field, AreBytes}
 use Rattle.cad_wire.specs.Reading.{Gives}
 use Rattle.cad_codec.specs.Spelling.{value_bytes, HasBytes}
 use Rattle.cad_accounts.specs.Accounts.{IsInt}
-use Rattle.cad_accounts.specs.InOrder.{IsHead, SpellsInt}
+use Rattle.cad_accounts.specs.Code.InOrder.{IsHead, SpellsInt}
 
 pub same_number : (a b : ℕ) → a < 2 ^ 64 → b < 2 ^ 64 → number_field a ≡ number_field b → a ≡ b
 same_number a b fits_a fits_b e = sym (from_be_bytes-to_be_bytes_8 a fits_a) ∙ ap (from_be_bytes w64) e ∙ from_be_bytes-to_be_bytes_8 b fits_b

@@ -10,9 +10,10 @@ use Rattle.cad_accounts.specs.declared.row.Row.{Row}
 use Rattle.cad_accounts.specs.Registers.{Map, same_key, at, are_rising}
 use Rattle.cad_accounts.specs.Accounts.{Account, Accounts, IsInt, IsSoundAccount, Has, IsKey, StandsFor, head_key, controller_key, stored_key}
 use Rattle.cad_accounts.specs.Accounts.IsKey.{head, controller, stored}
-use Rattle.cad_accounts.specs.Places.{row_key, before, AllBehind}
+use Rattle.cad_accounts.specs.Code.Places.{AllBehind}
+use Rattle.cad_accounts.specs.KeyOrder.{row_key, before}
 use Rattle.cad_accounts.specs.Worlds.{AreSound}
-use Rattle.cad_accounts.specs.InOrder.{IsController, IsStored, Follow, InOrder}
+use Rattle.cad_accounts.specs.Code.InOrder.{IsController, IsStored, Follow, InOrder}
 use Rattle.cad_accounts.proofs.Keys.{same_is, itself, not_same, not_itself, passes, behind_differs}
 use Rattle.cad_accounts.proofs.Order.{tail_rises, first_before}
 use Rattle.cad_accounts.proofs.RowLaws.{none_behind}

@@ -1,8 +1,7 @@
-pub mod Registers
-pub mod Places
-pub mod Layers
 pub mod Accounts
-pub mod Worlds
-pub mod Rows
+pub mod Code
+pub mod KeyOrder
+pub mod Layers
 pub mod Memory
-pub mod InOrder
+pub mod Registers
+pub mod Worlds

@@ -4,7 +4,7 @@ use Rattle.std.specs.Cmp.Lexicographic.{pointwise}
 use Rattle.cad_wire.specs.declared.entry.Entry.{Entry}
 use Rattle.cad_wire.specs.Body.{are_ascending, body_bytes}
 use Rattle.cad_accounts.specs.declared.row.Row.{Row}
-use Rattle.cad_accounts.specs.Places.{row_key, rise}
+use Rattle.cad_accounts.specs.KeyOrder.{row_key, rise}
 
 -- the bytes of each register that is there
 abbrev pub Map : Type 0

@@ -2,7 +2,7 @@
 ghost use Rattle.std.specs.Prelude.{◌≡◌, ◌+◌, ◌<◌, ◌≤◌, true, MatchOption, vec_len, vec_capacity};
 ghost use Rattle.cad_wire.specs.Body.{are_ascending};
 ghost use Rattle.cad_accounts.specs.Registers.{Map, applied, changed};
-ghost use Rattle.cad_accounts.specs.Places.{IsPlace, entry_key};
+ghost use Rattle.cad_accounts.specs.Code.Places.{IsPlace, entry_key};
 
 use cad_syntax::Bytes;
 use cad_wire::{Entry, Key};

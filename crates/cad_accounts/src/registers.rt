@@ -3,8 +3,9 @@ ghost use Rattle.std.specs.Prelude.{◌≡◌, ◌+◌, ◌<◌, ◌≤◌, ◌^
 ghost use Rattle.cad_wire.specs.Body.{Fits};
 ghost use Rattle.cad_accounts.specs.declared.row.Row.{Row};
 ghost use Rattle.cad_accounts.specs.Registers.{at, are_rising, changed, size_of};
-ghost use Rattle.cad_accounts.specs.Rows.{row_size, are_short, is_short};
-ghost use Rattle.cad_accounts.specs.Places.{IsPlace, row_key};
+ghost use Rattle.cad_accounts.specs.Code.Rows.{row_size, are_short, is_short};
+ghost use Rattle.cad_accounts.specs.Code.Places.{IsPlace};
+ghost use Rattle.cad_accounts.specs.KeyOrder.{row_key};
 
 use crate::row::Row;
 use cad_syntax::{Bytes, Items};
@@ -118,7 +119,7 @@ impl MapRegisters {
     ghost use Rattle.std.specs.Prelude.{slice_index_or, slice_set};
     ghost use Rattle.std.specs.List.{insert, remove};
     ghost use Rattle.cad_accounts.specs.Memory.{rows_of, room};
-    ghost use Rattle.cad_accounts.specs.Places.{BelongsAt, StandsAt};
+    ghost use Rattle.cad_accounts.specs.Code.Places.{BelongsAt, StandsAt};
 
     fn remove_at(&mut self, i: usize)
         requires { i < length (rows_of self.old) }

@@ -26,7 +26,7 @@ impl Model for Sifted {
     ghost use Rattle.std.specs.Prelude.{◌≡◌, ◌++◌, List, true};
     ghost use Rattle.cad_wire.specs.declared.entry.Entry.{Entry};
     ghost use Rattle.cad_wire.specs.Body.{are_ascending};
-    ghost use Rattle.cad_accounts.specs.Places.{AreLate};
+    ghost use Rattle.cad_accounts.specs.Code.Places.{AreLate};
 
     ghost Value = { List Entry };
 

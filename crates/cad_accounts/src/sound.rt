@@ -5,7 +5,7 @@ ghost use Rattle.cad_wire.specs.Fields.{number_field};
 ghost use Rattle.cad_accounts.specs.Registers.{at};
 ghost use Rattle.cad_accounts.specs.Accounts.{most_accounts};
 ghost use Rattle.cad_accounts.specs.Worlds.{AreSound};
-ghost use Rattle.cad_accounts.specs.InOrder.{IsHead, IsController, IsStored, SpellsInt, Steps, Follow, InOrder};
+ghost use Rattle.cad_accounts.specs.Code.InOrder.{IsHead, IsController, IsStored, SpellsInt, Steps, Follow, InOrder};
 
 use crate::registers::Registers;
 use cad_codec::{DecodeError, decode};

@@ -7,7 +7,8 @@ use Rattle.cad_syntax.specs.declared.types.Authorization.TheVariants.{Unauthoriz
 use Rattle.cad_syntax.proofs.Members.{contains_nothing, contains_first, some_passes, passes_some, each_passes, passes_each, contains_map, map_contains, contains_cases}
 use Rattle.cad_syntax.proofs.Same.{has_tells}
 use Rattle.cad_auth.specs.Grants.{single, sets, Includes, Covers, Grants}
-use Rattle.cad_auth.specs.Tests.{includes, is_enough, grants}
+use Rattle.cad_auth.specs.Code.Tests.{is_enough, grants}
+use Rattle.cad_auth.specs.Images.{includes}
 
 pub has_to : (set : List TypeId) (e : TypeId) → has set e ≡ true → Contains set e
 has_to set e h = (has_tells (has set e) set e refl).0 h

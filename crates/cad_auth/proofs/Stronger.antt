@@ -10,7 +10,7 @@ use Rattle.cad_syntax.specs.declared.types.Authorization.TheVariants.{Unauthoriz
 use Rattle.cad_syntax.proofs.Members.{contains_nothing, contains_first, contains_later, contains_cases, some_passes, passes_some, each_passes, contains_map, map_contains, and_both}
 use Rattle.cad_auth.specs.declared.mapping.Mapping.{Mapping}
 use Rattle.cad_auth.specs.Grants.{single, sets, Includes, Covers, Grants}
-use Rattle.cad_auth.specs.Tests.{includes}
+use Rattle.cad_auth.specs.Images.{includes}
 use Rattle.cad_auth.specs.Images.{targets_of, with_once, replaced, same_set, with_set, distinct, is_least, least, targets, members, is_named, among, conjunction, read, image}
 use Rattle.cad_auth.proofs.Covers.{has_to, to_has, includes_to, to_includes, covers_on, only_one, only_first}
 

@@ -1,13 +1,12 @@
 -- The image of an authorization under a mapping of entitlements.
-use Rattle.std.specs.Prelude.{◌≡◌, Bool, true, false, ◌&&◌, ◌||◌, ◌==◌, not, if◌then◌else◌, Option, Some, None, List, [], ◌∷◌, ◌++◌, length, map, filter, fold}
+use Rattle.std.specs.Prelude.{◌≡◌, Bool, ◌&&◌, ◌||◌, ◌==◌, not, if◌then◌else◌, Option, Some, None, List, [], ◌∷◌, ◌++◌, length, map, filter, fold}
 use Rattle.std.specs.List.{flat_map, list_all, list_any}
 use Rattle.cad_syntax.specs.TypeIds.{same_id, has}
 use Rattle.cad_syntax.specs.declared.type_id.TypeId.{TypeId}
 use Rattle.cad_syntax.specs.declared.types.Authorization.{Authorization}
 use Rattle.cad_syntax.specs.declared.types.Authorization.TheVariants.{Unauthorized, All, Any}
 use Rattle.cad_auth.specs.declared.mapping.Mapping.{Mapping}
-use Rattle.cad_auth.specs.Grants.{single, sets, Grants}
-use Rattle.cad_auth.specs.Tests.{includes}
+use Rattle.cad_auth.specs.Grants.{sets, Grants}
 
 -- the targets of an entitlement: itself where the mapping includes the identity, and then those of its pairs in their order
 abbrev pub targets_of : Mapping → TypeId → List TypeId
@@ -27,9 +26,9 @@ each_once entitlements = fold with_once [] entitlements
 abbrev pub replaced : Mapping → List TypeId → List TypeId
 replaced mapping set = each_once (flat_map (targets_of mapping) set)
 
--- the targets of one entitlement
-abbrev pub alone : Mapping → TypeId → List TypeId
-alone mapping entitlement = replaced mapping (single entitlement)
+-- each entitlement of part is one of set
+abbrev pub includes : List TypeId → List TypeId → Bool
+includes set part = list_all (has set) part
 
 abbrev pub same_set : List TypeId → List TypeId → Bool
 same_set a b = includes a b && includes b a
@@ -81,13 +80,6 @@ read these order =
 -- the image, in the order of the authorization's members, for each first itself and then its pairs
 abbrev pub image : Mapping → Authorization → Option Authorization
 image mapping a = read (targets mapping a) (replaced mapping (members a))
-
--- there is more than one set, or may be
-abbrev pub is_choice : Authorization → Bool
-is_choice Unauthorized = false
-is_choice (All entitlements) = false
-is_choice (Any []) = false
-is_choice (Any (first ∷ others)) = true
 
 -- Law: the image of a stronger authorization is stronger.
 abbrev pub ImageStronger : Type 0

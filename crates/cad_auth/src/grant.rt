@@ -3,7 +3,8 @@ ghost use Rattle.std.specs.Prelude.{◌≡◌, ◌↔◌, IsTrue};
 ghost use Rattle.std.specs.List.{list_all, list_any};
 ghost use Rattle.cad_syntax.specs.TypeIds.{has};
 ghost use Rattle.cad_auth.specs.Grants.{Grants, single};
-ghost use Rattle.cad_auth.specs.Tests as spec;
+ghost use Rattle.cad_auth.specs.Images as images;
+ghost use Rattle.cad_auth.specs.Code.Tests as spec;
 
 use cad_syntax::{Authorization, TypeId, contains};
 use std::slice;
@@ -61,7 +62,7 @@ fn is_enough(set: &[TypeId], need: &Authorization) -> bool
 
 /// Whether each entitlement of `part` is one of `set`.
 pub(crate) fn includes(set: &[TypeId], part: &[TypeId]) -> bool
-    ensures { result ≡ spec.includes set.now part.now }
+    ensures { result ≡ images.includes set.now part.now }
 {
     part.iter().all(|entitlement| contains(set, entitlement))
 }

@@ -3,6 +3,7 @@ ghost use Rattle.std.specs.Prelude.{◌≡◌, ◌&&◌, ◌==◌, IfOk, OnOk, l
 ghost use Rattle.std.specs.List.{list_all, list_any, flat_map};
 ghost use Rattle.cad_auth.specs.Grants.{sets};
 ghost use Rattle.cad_auth.specs.Images as spec;
+ghost use Rattle.cad_auth.specs.Code.Tests as tests;
 
 use crate::grant::includes;
 use cad_syntax::{Authorization, Pairs, TypeId, TypeIds, contains};
@@ -104,7 +105,7 @@ fn sets_alone(
     map: &Mapping,
     entitlements: &[TypeId],
 ) -> Result<Vec<TypeIds>, AllocError>
-    ensures { IfOk result (λ kept. kept.items ≡ spec.distinct (mapped (spec.alone map.now) entitlements.now)) }
+    ensures { IfOk result (λ kept. kept.items ≡ spec.distinct (mapped (tests.alone map.now) entitlements.now)) }
 {
     let mut kept = Vec::new(alloc);
     for entitlement in entitlements {
@@ -116,7 +117,7 @@ fn sets_alone(
 
 /// Whether the holder may have any one of several sets.
 fn is_choice(a: &Authorization) -> bool
-    ensures { result ≡ spec.is_choice a.now }
+    ensures { result ≡ tests.is_choice a.now }
 {
     match a {
         Authorization::Any(entitlements) => !entitlements.is_empty(),

@@ -11,7 +11,7 @@ use Rattle.cad_wire.specs.Fields.{number_field, ◌>>=◌, byte_at, number_at, A
 use Rattle.cad_wire.specs.Reading.{Gives, Reads}
 use Rattle.cad_wire.proofs.FieldLaws.{bind_some, some_is, byte_takes, number_takes, number_again}
 use Rattle.cad_codec.specs.Spelling.{kind_byte, sign_byte, number_bytes, value_bytes, HasBytes}
-use Rattle.cad_codec.specs.Parts.{HasParts, parts_at}
+use Rattle.cad_codec.specs.Code.Parts.{HasParts, parts_at}
 use Rattle.cad_codec.proofs.Numbers.{magnitude_below, same_number}
 
 parts_again : (k s u l : ℕ) (rest : List ℕ) → u < 2 ^ 64 → l < 2 ^ 64 → parts_at (k ∷ s ∷ (number_field u ++ (number_field l ++ rest))) ≡ Some ((k, s, u, l), rest)

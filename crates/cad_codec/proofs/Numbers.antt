@@ -8,7 +8,7 @@ use Rattle.cad_syntax.specs.declared.kind.Kind.TheVariants.{Int, Int8, Int16, In
 use Rattle.cad_syntax.specs.declared.num.Num.{Num}
 use Rattle.cad_syntax.specs.Kinds.{greatest, depth, is_kept}
 use Rattle.cad_codec.specs.Spelling.{kind_byte, sign_byte}
-use Rattle.cad_codec.specs.Parts.{HasParts}
+use Rattle.cad_codec.specs.Code.Parts.{HasParts}
 
 -- ---- kinds and signs
 

@@ -5,7 +5,7 @@ ghost use Rattle.cad_values.specs.declared.value.Value.{Value};
 ghost use Rattle.cad_wire.specs.Fields.{AreBytes};
 ghost use Rattle.cad_wire.specs.Reading.{Gives, Reads};
 ghost use Rattle.cad_codec.specs.Spelling.{value_bytes, HasBytes};
-ghost use Rattle.cad_codec.specs.Parts.{HasParts, parts_at};
+ghost use Rattle.cad_codec.specs.Code.Parts.{HasParts, parts_at};
 
 use crate::kind::kind_of;
 use cad_syntax::Num;
@@ -30,7 +30,7 @@ fn number_of(kind: u8, sign: u8, upper: u64, lower: u64) -> Option<Num>
     Num::new(kind, negative, magnitude)
 }
 
-#[tactic(auto, unfolding(crate::specs::Parts::parts_at))]
+#[tactic(auto, unfolding(crate::specs::Code::Parts::parts_at))]
 fn parts_of(reader: &mut Reader<'_>) -> Result<(u8, u8, u64, u64), Short>
     ensures ok { IfOk result (λ p. parts_at reader.old ≡ Some ((p.0, p.1, p.2, p.3), reader.new)) }
     ensures short { OnErr result (parts_at reader.old ≡ None) }

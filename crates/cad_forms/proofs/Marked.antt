@@ -2,11 +2,11 @@
 use Rattle.std.proofs.Common.{◌≡◌, ℕ, zero, suc, ◌<◌, ◌≤◌, ◌-◌, List, [], ◌∷◌, ◌++◌, length, get_or, take, drop, refl, sym, ◌∙◌, ap, arith}
 use Rattle.std.proofs.lemmas.List.{length-map, map-append, take_rest}
 use Rattle.std.proofs.Math.ListN.{get_or-map, get_or-append}
-use Rattle.cad_syntax.specs.declared.token.Token.{Token}
-use Rattle.cad_syntax.specs.declared.token.TokenKind.{TokenKind}
+use Rattle.cad_grammar.specs.declared.token.Token.{Token}
+use Rattle.cad_grammar.specs.declared.token.TokenKind.{TokenKind}
 use Rattle.cad_forms.specs.declared.mark.Mark.{Mark}
 use Rattle.cad_forms.specs.Sums.{kinds_of}
-use Rattle.cad_forms.specs.Marks.{kind_asked, kinds_asked}
+use Rattle.cad_forms.specs.Code.Marks.{kind_asked, kinds_asked}
 
 as_long : (marks : List Mark) (head : List Token) → kinds_of head ≡ kinds_asked marks → length head ≡ length marks
 as_long marks head same = omega (arith, ap length same, length-map head (λ (t : Token). t.kind), length-map marks kind_asked)

@@ -1,13 +1,13 @@
 -- Factors and terms are read whole, and in one way.
 use Rattle.std.proofs.Common.{◌≡◌, ◌≢◌, ℕ, ◌≤◌, List, [], ◌∷◌, ◌++◌, refl, sym, ◌∙◌, ap, subst, append_assoc}
 use Rattle.std.specs.List.{AllByRecursion}
-use Rattle.cad_syntax.specs.declared.token.Sign.TheVariants as sign
-use Rattle.cad_syntax.specs.declared.token.TokenKind.{TokenKind}
-use Rattle.cad_syntax.specs.declared.token.TokenKind.TheVariants as kind
-use Rattle.cad_syntax.specs.declared.token.Token.{Token}
+use Rattle.cad_grammar.specs.declared.token.Sign.TheVariants as sign
+use Rattle.cad_grammar.specs.declared.token.TokenKind.{TokenKind}
+use Rattle.cad_grammar.specs.declared.token.TokenKind.TheVariants as kind
+use Rattle.cad_grammar.specs.declared.token.Token.{Token}
 use Rattle.cad_forms.specs.Sums.{kinds_of, literal, greatest, sum_kinds, tail_kinds, IsProduct, IsSum}
 use Rattle.cad_forms.specs.Saves.{factor_kinds, term_kinds}
-use Rattle.cad_forms.specs.Parts.{Lacks, Multiplies, Adds}
+use Rattle.cad_forms.specs.Code.Parts.{Lacks, Multiplies, Adds}
 
 abbrev pub AreLiterals : List ℕ → Type 0
 AreLiterals = AllByRecursion (λ n. n ≤ greatest)

@@ -1,14 +1,14 @@
 -- Transactions that save a sum are read exactly.
 use Rattle.std.proofs.Common.{◌≡◌, ◌≢◌, ℕ, ◌≤◌, List, [], ◌∷◌, ◌++◌, Option, Some, None, Result, Ok, Err, IfOk, MatchOption, codes, refl, sym, ◌∙◌, ap, subst, append_assoc}
 use Rattle.std.specs.List.{AllByRecursion}
-use Rattle.cad_syntax.specs.declared.token.Sign.TheVariants as sign
-use Rattle.cad_syntax.specs.declared.token.TokenKind.{TokenKind}
-use Rattle.cad_syntax.specs.declared.token.TokenKind.TheVariants as kind
-use Rattle.cad_syntax.specs.declared.token.Token.{Token}
-use Rattle.cad_syntax.specs.Lexes.{Lexes}
+use Rattle.cad_grammar.specs.declared.token.Sign.TheVariants as sign
+use Rattle.cad_grammar.specs.declared.token.TokenKind.{TokenKind}
+use Rattle.cad_grammar.specs.declared.token.TokenKind.TheVariants as kind
+use Rattle.cad_grammar.specs.declared.token.Token.{Token}
+use Rattle.cad_grammar.specs.Lexes.{Lexes}
 use Rattle.cad_forms.specs.Sums.{kinds_of, name, literal, greatest, product_kinds, IsProduct}
 use Rattle.cad_forms.specs.Saves.{Save, save_head_kinds, load_kinds, save_tail_kinds, factor_kinds, term_kinds, first_kinds, IsSave, IsSaveCode}
-use Rattle.cad_forms.specs.Parts.{Lacks, Multiplies, Adds, Begins, number, loaded}
+use Rattle.cad_forms.specs.Code.Parts.{Lacks, Multiplies, Adds, Begins, number, loaded}
 use Rattle.cad_forms.proofs.Marked.{cancel, front_is, front_rest}
 use Rattle.cad_forms.proofs.Parts.{AreLiterals, Ends, same_literal, same_factors, same_terms, lacks_behind_terms}
 

@@ -1,8 +1,8 @@
 -- Scripts are read exactly.
 use Rattle.std.proofs.Common.{◌≡◌, ℕ, List, ◌++◌, length, drop, Option, Some, None, Result, Ok, Err, IfOk, MatchOption, refl, sym, ◌∙◌, ap, subst, arith}
 use Rattle.std.proofs.lemmas.List.{length-map, drop_at}
-use Rattle.cad_syntax.specs.declared.token.Token.{Token}
-use Rattle.cad_syntax.specs.Lexes.{Lexes}
+use Rattle.cad_grammar.specs.declared.token.Token.{Token}
+use Rattle.cad_grammar.specs.Lexes.{Lexes}
 use Rattle.cad_forms.specs.Sums.{kinds_of, head_kinds, IsJoined, IsSum, IsScript, IsSumScript}
 
 pub same_rest : (tokens head rest head2 rest2 : List Token) → tokens ≡ head ++ rest → tokens ≡ head2 ++ rest2 → kinds_of head ≡ head_kinds → kinds_of head2 ≡ head_kinds → rest2 ≡ rest

@@ -1,8 +1,8 @@
 -- A line asks for one thing at most.
 use Rattle.std.proofs.Common.{◌≡◌, ℕ, List, length, Some, codes, refl, sym, ◌∙◌, ap, subst, arith}
 use Rattle.serde_json.specs.Data.{Data}
-use Rattle.cad_syntax.specs.declared.token.Token.{Token}
-use Rattle.cad_syntax.specs.Lexes.{Lexes}
+use Rattle.cad_grammar.specs.declared.token.Token.{Token}
+use Rattle.cad_grammar.specs.Lexes.{Lexes}
 use Rattle.cad_forms.specs.Sums.{IsSum, IsScript, IsSumScript, kinds_of, tail_kinds}
 use Rattle.cad_forms.specs.Saves.{Save, IsSave, IsSaveCode}
 use Rattle.cad_forms.specs.Request.{text_at, Request, script, account, save, IsFor, Asks}

@@ -1,7 +1,6 @@
-pub mod Sums
-pub mod Saves
-pub mod Marks
-pub mod Parts
-pub mod Request
+pub mod Code
 pub mod Programs
+pub mod Request
+pub mod Saves
+pub mod Sums
 pub mod Views

@@ -1,12 +1,12 @@
 -- Transactions that save a sum: the tokens that spell them, and the value of the sum.
 use Rattle.std.specs.Prelude.{◌≡◌, ◌≢◌, ℕ, ◌≤◌, ℤ, List, [], ◌∷◌, ◌++◌, codes, Option, Some, None, Result}
 use Rattle.std.specs.List.{flat_map, AllByRecursion}
-use Rattle.cad_syntax.specs.declared.token.Keyword.TheVariants as keyword
-use Rattle.cad_syntax.specs.declared.token.Sign.TheVariants as sign
-use Rattle.cad_syntax.specs.declared.token.TokenKind.{TokenKind}
-use Rattle.cad_syntax.specs.declared.token.TokenKind.TheVariants as kind
-use Rattle.cad_syntax.specs.declared.token.Token.{Token}
-use Rattle.cad_syntax.specs.Lexes.{Lexes}
+use Rattle.cad_syntax.specs.declared.keyword.Keyword.TheVariants as keyword
+use Rattle.cad_grammar.specs.declared.token.Sign.TheVariants as sign
+use Rattle.cad_grammar.specs.declared.token.TokenKind.{TokenKind}
+use Rattle.cad_grammar.specs.declared.token.TokenKind.TheVariants as kind
+use Rattle.cad_grammar.specs.declared.token.Token.{Token}
+use Rattle.cad_grammar.specs.Lexes.{Lexes}
 use Rattle.cad_num.specs.declared.error.NumError.{NumError}
 use Rattle.cad_forms.specs.Sums.{name, literal, product_kinds, kinds_of, greatest, IsProduct, times, plus, ◌>>=◌}
 

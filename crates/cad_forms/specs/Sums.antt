@@ -2,12 +2,12 @@
 use Rattle.std.specs.Prelude.{◌≡◌, ◌≢◌, ℕ, ◌-◌, ◌≤◌, ◌^◌, false, ℤ, pos, ◌+ℤ◌, ◌*ℤ◌, List, [], ◌∷◌, ◌++◌, map, codes, Result, Ok, Err}
 use Rattle.std.specs.List.{join_by, AllByRecursion}
 use Rattle.cad_syntax.specs.declared.kind.Kind.TheVariants.{Int}
-use Rattle.cad_syntax.specs.declared.token.Keyword.TheVariants as keyword
-use Rattle.cad_syntax.specs.declared.token.Sign.TheVariants as sign
-use Rattle.cad_syntax.specs.declared.token.TokenKind.{TokenKind}
-use Rattle.cad_syntax.specs.declared.token.TokenKind.TheVariants as kind
-use Rattle.cad_syntax.specs.declared.token.Token.{Token}
-use Rattle.cad_syntax.specs.Lexes.{Lexes}
+use Rattle.cad_syntax.specs.declared.keyword.Keyword.TheVariants as keyword
+use Rattle.cad_grammar.specs.declared.token.Sign.TheVariants as sign
+use Rattle.cad_grammar.specs.declared.token.TokenKind.{TokenKind}
+use Rattle.cad_grammar.specs.declared.token.TokenKind.TheVariants as kind
+use Rattle.cad_grammar.specs.declared.token.Token.{Token}
+use Rattle.cad_grammar.specs.Lexes.{Lexes}
 use Rattle.cad_num.specs.Numbers.{outcome}
 use Rattle.cad_num.specs.declared.error.NumError.{NumError}
 

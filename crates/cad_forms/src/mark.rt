@@ -1,11 +1,12 @@
 // Tokens that a form of code asks for one after another.
 ghost use Rattle.std.specs.Prelude.{◌≡◌, ◌↔◌, ◌∷◌, ◌++◌, List, ℕ, IfOk, MatchOption, IsTrue};
-ghost use Rattle.cad_syntax.specs.declared.token.Token.{Token};
-ghost use Rattle.cad_syntax.specs.declared.token.TokenKind.{TokenKind};
+ghost use Rattle.cad_grammar.specs.declared.token.Token.{Token};
+ghost use Rattle.cad_grammar.specs.declared.token.TokenKind.{TokenKind};
 ghost use Rattle.cad_forms.specs.Sums.{kinds_of, name};
-ghost use Rattle.cad_forms.specs.Marks.{kinds_asked, kind_asked};
+ghost use Rattle.cad_forms.specs.Code.Marks.{kinds_asked, kind_asked};
 
-use cad_syntax::{Keyword, Name, Sign, Token, TokenKind};
+use cad_grammar::{Sign, Token, TokenKind};
+use cad_syntax::{Keyword, Name};
 use std::alloc::{AllocError, Global};
 
 /// A token that a form of code asks for.

@@ -1,16 +1,17 @@
 // Transactions that save a sum.
 ghost use Rattle.std.specs.Prelude.{◌≡◌, ◌++◌, [], List, ℕ, Option, IfOk, MatchOption, option_map};
-ghost use Rattle.cad_syntax.specs.declared.token.TokenKind.{TokenKind};
+ghost use Rattle.cad_grammar.specs.declared.token.TokenKind.{TokenKind};
 ghost use Rattle.cad_forms.specs.Sums.{kinds_of};
 ghost use Rattle.cad_forms.specs.Saves.{save_tail_kinds, load_kinds, IsSave, IsSaveCode};
 ghost use Rattle.cad_forms.specs.Saves as spec;
-ghost use Rattle.cad_forms.specs.Parts.{Begins};
+ghost use Rattle.cad_forms.specs.Code.Parts.{Begins};
 ghost use Rattle.cad_forms.specs.Views.{save_of};
 
 use crate::mark::{Mark, behind, name_between};
 use crate::sum::{begun, factors, literal_of, terms};
+use cad_grammar::{Sign, Token};
 use cad_lex::{LexStop, lex, one_lexing};
-use cad_syntax::{Keyword, Name, Sign, Token};
+use cad_syntax::{Keyword, Name};
 use std::alloc::{AllocError, Global};
 
 /// What a transaction saves: a sum of products, and where.

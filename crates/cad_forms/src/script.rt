@@ -1,13 +1,14 @@
 // Scripts of sums.
 ghost use Rattle.std.specs.Prelude.{◌≡◌, List, ℕ, IfOk, MatchOption, IsTrue, ◌↔◌};
-ghost use Rattle.cad_syntax.specs.declared.token.Token.{Token};
+ghost use Rattle.cad_grammar.specs.declared.token.Token.{Token};
 ghost use Rattle.cad_forms.specs.Sums.{kinds_of, tail_kinds, IsJoined, IsSum, IsScript, IsSumScript};
 ghost use Rattle.cad_forms.specs.Views.{products_of};
 
 use crate::mark::{Mark, behind, is_asked};
 use crate::sum::{begun, factors, literal_of, terms};
+use cad_grammar::{Sign, Token};
 use cad_lex::{LexStop, lex, one_lexing};
-use cad_syntax::{Keyword, Sign, Token};
+use cad_syntax::Keyword;
 use std::alloc::{AllocError, Global};
 
 // Whether no line break stands before the first token.

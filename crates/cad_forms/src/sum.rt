@@ -1,18 +1,19 @@
 // Sums of products of literals: their tokens and their values.
 ghost use Rattle.std.specs.Prelude.{◌≡◌, ◌≤◌, ◌∷◌, [], ℕ, pos, IfOk, MatchOption};
 ghost use Rattle.std.specs.List.{AllByRecursion};
-ghost use Rattle.cad_syntax.specs.declared.token.TokenKind.{TokenKind};
-ghost use Rattle.cad_syntax.specs.declared.token.TokenKind.TheVariants as kind;
-ghost use Rattle.cad_syntax.specs.declared.token.Sign.TheVariants as sign;
+ghost use Rattle.cad_grammar.specs.declared.token.TokenKind.{TokenKind};
+ghost use Rattle.cad_grammar.specs.declared.token.TokenKind.TheVariants as kind;
+ghost use Rattle.cad_grammar.specs.declared.token.Sign.TheVariants as sign;
 ghost use Rattle.cad_num.specs.Numbers.{value_of, valued};
 ghost use Rattle.cad_forms.specs.Sums.{kinds_of, literal, greatest, IsProduct, times, plus, sum_value};
 ghost use Rattle.cad_forms.specs.Saves.{saved_value};
-ghost use Rattle.cad_forms.specs.Parts.{Lacks, Multiplies, Adds};
+ghost use Rattle.cad_forms.specs.Code.Parts.{Lacks, Multiplies, Adds};
 ghost use Rattle.cad_forms.specs.Views.{products_of};
 
 use crate::mark::{Mark, is_asked};
+use cad_grammar::{Sign, Token, TokenKind};
 use cad_num::{NumError, add, mul};
-use cad_syntax::{Kind, Num, Sign, Token, TokenKind};
+use cad_syntax::{Kind, Num};
 use std::alloc::{AllocError, Global};
 
 /// The literal that a token is: decimal, and in the range of Int.

@@ -1,13 +1,13 @@
 -- Tables of the signs and words of expressions.
-use Rattle.std.specs.Prelude.{ℕ, Bool, true, false, ◌||◌, ◌==◌, not, ◌&&◌, if◌then◌else◌, codes, List, [], ◌∷◌, Option, Some, None}
+use Rattle.std.specs.Prelude.{ℕ, Bool, true, false, ◌||◌, ◌==◌, not, if◌then◌else◌, codes, List, [], ◌∷◌, Option, Some, None}
 use Rattle.std.specs.Cmp.Lexicographic.{pointwise}
-use Rattle.cad_syntax.specs.declared.token.Sign.{Sign}
-use Rattle.cad_syntax.specs.declared.token.Sign.TheVariants as s
-use Rattle.cad_syntax.specs.declared.token.Keyword.{Keyword}
-use Rattle.cad_syntax.specs.declared.token.Keyword.TheVariants as k
-use Rattle.cad_syntax.specs.declared.token.TokenKind.{TokenKind}
-use Rattle.cad_syntax.specs.declared.token.TokenKind.TheVariants as kind
-use Rattle.cad_syntax.specs.declared.token.Token.{Token}
+use Rattle.cad_grammar.specs.declared.token.Sign.{Sign}
+use Rattle.cad_grammar.specs.declared.token.Sign.TheVariants as s
+use Rattle.cad_syntax.specs.declared.keyword.Keyword.{Keyword}
+use Rattle.cad_syntax.specs.declared.keyword.Keyword.TheVariants as k
+use Rattle.cad_grammar.specs.declared.token.TokenKind.{TokenKind}
+use Rattle.cad_grammar.specs.declared.token.TokenKind.TheVariants as kind
+use Rattle.cad_grammar.specs.declared.token.Token.{Token}
 use Rattle.cad_syntax.specs.declared.address.Domain.{Domain}
 use Rattle.cad_syntax.specs.declared.address.Domain.TheVariants as domain
 use Rattle.cad_syntax.specs.declared.text.Name.{Name}
@@ -23,7 +23,7 @@ use Rattle.cad_grammar.specs.declared.expression.CastKind.{CastKind}
 use Rattle.cad_grammar.specs.declared.expression.CastKind.TheVariants as cast
 use Rattle.cad_grammar.specs.Trees.{ExprTree}
 use Rattle.cad_grammar.specs.Trees as tree
-use Rattle.cad_grammar.specs.Spots.{Spot, next, read, holds, after}
+use Rattle.cad_grammar.specs.Spots.{Spot, read, after}
 
 -- the next tighter level
 abbrev pub tighter : Level → Level
@@ -41,23 +41,6 @@ tighter level.Cast = level.Prefix
 tighter level.Prefix = level.Postfix
 tighter level.Postfix = level.Primary
 tighter level.Primary = level.Primary
-
--- the numbers of the levels, from the loosest on
-abbrev pub level_number : Level → ℕ
-level_number level.Conditional = 1
-level_number level.Or = 2
-level_number level.And = 3
-level_number level.Comparison = 4
-level_number level.Coalesce = 5
-level_number level.BitOr = 6
-level_number level.BitXor = 7
-level_number level.BitAnd = 8
-level_number level.Sum = 9
-level_number level.Product = 10
-level_number level.Cast = 11
-level_number level.Prefix = 12
-level_number level.Postfix = 13
-level_number level.Primary = 14
 
 -- the operators that group to the left at each level
 abbrev pub operator_of : Level → TokenKind → Option BinaryOperator
@@ -139,48 +122,6 @@ domain_of _ = None
 abbrev pub domain_name : Spot → Option (Domain × Spot)
 domain_name = read domain_of
 
--- The level at which a sign goes on after an expression, or 0. Some do so only with no line break before them.
-abbrev pub sign_strength : Bool → Sign → ℕ
-sign_strength broken s.Question = 1
-sign_strength broken s.Or = 2
-sign_strength broken s.And = 3
-sign_strength broken s.Less = 4
-sign_strength broken s.LessOrEqual = 4
-sign_strength broken s.Greater = 4
-sign_strength broken s.GreaterOrEqual = 4
-sign_strength broken s.Equal = 4
-sign_strength broken s.NotEqual = 4
-sign_strength broken s.Coalesce = 5
-sign_strength broken s.Bar = 6
-sign_strength broken s.Caret = 7
-sign_strength broken s.Ampersand = 8
-sign_strength broken s.Plus = 9
-sign_strength broken s.Minus = 9
-sign_strength broken s.Star = 10
-sign_strength broken s.Slash = 10
-sign_strength broken s.Percent = 10
-sign_strength broken s.AsOptional = 11
-sign_strength broken s.AsForce = 11
-sign_strength broken s.Dot = 13
-sign_strength broken s.OptionalDot = 13
-sign_strength broken s.OpenBracket = if broken then 0 else 13
-sign_strength broken s.OpenParenthesis = if broken then 0 else 13
-sign_strength broken s.Bang = if broken then 0 else 13
-sign_strength broken _ = 0
-
-abbrev pub kind_strength : Bool → TokenKind → ℕ
-kind_strength broken (kind.Sign sign) = sign_strength broken sign
-kind_strength broken (kind.Keyword k.As) = 11
-kind_strength broken _ = 0
-
-abbrev pub strength_of : List Token → ℕ
-strength_of [] = 0
-strength_of (t ∷ ts) = kind_strength t.after_break t.kind
-
--- that of the next token
-abbrev pub token_strength : Spot → ℕ
-token_strength p = strength_of p.tokens
-
 -- The tightest level of an expression that a token may begin, or 0.
 abbrev pub sign_start : Sign → ℕ
 sign_start s.Minus = 12
@@ -210,13 +151,6 @@ kind_start _ = 14
 
 abbrev pub begins_expression : TokenKind → Bool
 begins_expression found = not (kind_start found == 0)
-
-abbrev pub start_of : List Token → ℕ
-start_of [] = 0
-start_of (t ∷ ts) = kind_start t.kind
-
-abbrev pub start : Spot → ℕ
-start p = start_of p.tokens
 
 -- Whether a `?` belongs to the type before it, by what stands behind it. Behind an `as` form it does where a line break, a `{`
 -- or nothing that begins an expression follows.

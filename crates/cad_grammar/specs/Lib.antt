@@ -1,9 +1,10 @@
-pub mod Trees
-pub mod Views
-pub mod Spots
-pub mod Lists
-pub mod Levels
-pub mod TypeGrammar
 pub mod ExpressionGrammar
-pub mod StatementGrammar
+pub mod Levels
+pub mod Lexes
+pub mod Lists
 pub mod ProgramGrammar
+pub mod Spots
+pub mod StatementGrammar
+pub mod Trees
+pub mod TypeGrammar
+pub mod Views

@@ -1,7 +1,7 @@
 -- Lists and options of any production, by the relation of what stands in them.
 use Rattle.std.specs.Prelude.{◌≡◌, List, [], ◌∷◌, Option, Some, None}
-use Rattle.cad_syntax.specs.declared.token.Sign.{Sign}
-use Rattle.cad_syntax.specs.declared.token.Sign.TheVariants as s
+use Rattle.cad_grammar.specs.declared.token.Sign.{Sign}
+use Rattle.cad_grammar.specs.declared.token.Sign.TheVariants as s
 use Rattle.cad_grammar.specs.Spots.{Spot, after, resumed}
 
 -- items with commas between them, up to the closing sign; one more comma may stand before it

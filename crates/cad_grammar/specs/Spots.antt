@@ -2,15 +2,15 @@
 use Rattle.std.specs.Prelude.{ℕ, zero, suc, Bool, true, false, ◌&&◌, ◌||◌, ◌==◌, not, List, [], ◌∷◌, codes, Option, Some, None}
 use Rattle.std.specs.Cmp.Lexicographic.{pointwise}
 use denote.Enum.Bare.{sameb}
-use Rattle.cad_syntax.specs.contracts.token.Sign.{the_type as sign_type}
-use Rattle.cad_syntax.specs.contracts.token.Keyword.{the_type as keyword_type}
-use Rattle.cad_syntax.specs.declared.token.Sign.{Sign}
-use Rattle.cad_syntax.specs.declared.token.Sign.TheVariants as s
-use Rattle.cad_syntax.specs.declared.token.Keyword.{Keyword}
-use Rattle.cad_syntax.specs.declared.token.Keyword.TheVariants as k
-use Rattle.cad_syntax.specs.declared.token.TokenKind.{TokenKind}
-use Rattle.cad_syntax.specs.declared.token.TokenKind.TheVariants as kind
-use Rattle.cad_syntax.specs.declared.token.Token.{Token}
+use Rattle.cad_grammar.specs.contracts.token.Sign.{the_type as sign_type}
+use Rattle.cad_syntax.specs.contracts.keyword.Keyword.{the_type as keyword_type}
+use Rattle.cad_grammar.specs.declared.token.Sign.{Sign}
+use Rattle.cad_grammar.specs.declared.token.Sign.TheVariants as s
+use Rattle.cad_syntax.specs.declared.keyword.Keyword.{Keyword}
+use Rattle.cad_syntax.specs.declared.keyword.Keyword.TheVariants as k
+use Rattle.cad_grammar.specs.declared.token.TokenKind.{TokenKind}
+use Rattle.cad_grammar.specs.declared.token.TokenKind.TheVariants as kind
+use Rattle.cad_grammar.specs.declared.token.Token.{Token}
 use Rattle.cad_syntax.specs.declared.text.Name.{Name}
 
 -- How many nestings may still be opened, whether the name of an expression or of a member was read last, and the tokens

@@ -1,4 +1,4 @@
-//! The trees of programs, and which tokens spell which tree.
+//! Tokens and the trees of programs: which text has which tokens, and which tokens spell which tree.
 #![tactic(auto)]
 
 mod declaration;
@@ -6,6 +6,7 @@ mod expression;
 mod level;
 mod phase;
 mod statement;
+mod token;
 mod type_expr;
 
 pub use declaration::{
@@ -18,4 +19,5 @@ pub use expression::{Argument, BinaryOperator, CastKind, Entry, Expr, UnaryOpera
 pub use level::{Level, TypePosition};
 pub use phase::Phase;
 pub use statement::{Case, Otherwise, Stmt, Test, Transfer, VariableKind};
+pub use token::{Sign, Token, TokenKind, Tokens};
 pub use type_expr::{Dotted, Entitlements, TypeAnnotation, TypeExpr};

@@ -4,9 +4,9 @@ use Rattle.std.proofs.lemmas.List.{append_cancel_right}
 use Rattle.std.proofs.lemmas.Bool.{false≢true}
 use Rattle.std.proofs.lemmas.Bool.Decides.{nat_tests}
 use Rattle.std.proofs.lemmas.Str.{IsUtf8-nil}
-use Rattle.cad_syntax.specs.Lexes.{is_white_space, is_in_line, has_line_feed, opens_block, closes_block, opens_line, ends_line, Front, Inside, Gap}
-use Rattle.cad_syntax.specs.Lexes as l
-use Rattle.cad_lex.specs.Reading.{front, behind, block, comment, gap}
+use Rattle.cad_grammar.specs.Lexes.{is_white_space, is_in_line, has_line_feed, opens_block, closes_block, opens_line, ends_line, Front, Inside, Gap}
+use Rattle.cad_grammar.specs.Lexes as l
+use Rattle.cad_lex.specs.Code.Reading.{front, behind, block, comment, gap}
 use Rattle.cad_lex.proofs.Runs.{front_of, front_exact, front_stops, behind_stops, ends_empty, behind_fails}
 use Rattle.cad_lex.proofs.Seams.{Seam, seam_first, seam_later, behind_seam, utf8_from}
 

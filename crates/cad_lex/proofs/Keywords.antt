@@ -1,10 +1,10 @@
 -- What `keyword` finds is the keyword that is spelled so.
 use Rattle.std.proofs.Common.{◌≡◌, ℕ, Bool, true, false, if◌then◌else◌, List, Option, Some, IfSome, bytes_eq, length, ◌==◌, refl, sym}
 use Rattle.std.proofs.lemmas.Slice.Eq.{bytes_eq-Decides}
-use Rattle.cad_syntax.specs.declared.token.Keyword.{Keyword}
-use Rattle.cad_syntax.specs.declared.token.Keyword.TheVariants as k
+use Rattle.cad_syntax.specs.declared.keyword.Keyword.{Keyword}
+use Rattle.cad_syntax.specs.declared.keyword.Keyword.TheVariants as k
 use Rattle.cad_syntax.specs.Keywords.{keyword_spelling}
-use Rattle.cad_lex.specs.Reading.{keyword, of_two, of_three, of_four, of_five, of_six, of_seven, of_eight, longer}
+use Rattle.cad_lex.specs.Code.Reading.{keyword, of_two, of_three, of_four, of_five, of_six, of_seven, of_eight, longer}
 
 -- no keyword, or the one that is spelled so
 abbrev Spells : List ℕ → Option Keyword → Type 0

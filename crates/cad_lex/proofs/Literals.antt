@@ -2,9 +2,9 @@
 use Rattle.std.proofs.Common.{◌≡◌, ℕ, ◌<◌, ◌≤◌, ◌==◌, ◌&&◌, Bool, true, false, if◌then◌else◌, List, [], ◌∷◌, length, Option, Some, None, IfSome, refl, sym, ap, ◌∙◌, subst, arith, eqb-true}
 use Rattle.std.proofs.lemmas.Bool.{false≢true}
 use Rattle.std.proofs.lemmas.Bool.Decides.{nat_tests}
-use Rattle.cad_syntax.specs.Lexes.{is_underscore, radix_of, Front, Numeral, Shape, Whole, Fixed, Shaped}
-use Rattle.cad_syntax.specs.Lexes as l
-use Rattle.cad_lex.specs.Reading.{is_decimal, digits_from, begins_with_digit, with_radix, based, behind_point, with_shape, decimal_shape, decimals_of, number_by, number_shape}
+use Rattle.cad_grammar.specs.Lexes.{is_underscore, radix_of, Front, Numeral, Shape, Whole, Fixed, Shaped}
+use Rattle.cad_grammar.specs.Lexes as l
+use Rattle.cad_lex.specs.Code.Reading.{is_decimal, digits_from, begins_with_digit, with_radix, based, behind_point, with_shape, decimal_shape, decimals_of, number_by, number_shape}
 use Rattle.cad_lex.proofs.Numerals.{Longest, digits_are, digits_reach, digits_exact, numeral_begins, numeral_shorter, digits_within}
 
 radix_is_small : (b radix : ℕ) → radix_of b ≡ Some radix → radix ≤ 16

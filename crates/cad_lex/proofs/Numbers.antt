@@ -3,7 +3,7 @@ use Rattle.std.proofs.Common.{◌≡◌, ℕ, zero, suc, ◌+◌, ◌*◌, ◌^�
 use Rattle.std.proofs.Math.Nat.{mul-le-mul_right, le-mul_of_pos_right, pow-succ', mul_assoc, mul_comm}
 use Rattle.std.proofs.lemmas.Bool.Decides.{Decides-ltb, nat_tests}
 use Rattle.std.specs.Char.{digit_value}
-use Rattle.cad_lex.specs.Reading.{add_digit, number_from, power_of_ten}
+use Rattle.cad_lex.specs.Code.Reading.{add_digit, number_from, power_of_ten}
 
 abbrev pub written : ℕ → ℕ → List ℕ → ℕ
 written radix = fold (λ n b. radix * n + digit_value b)

@@ -2,9 +2,9 @@
 use Rattle.std.proofs.Common.{◌≡◌, ℕ, suc, ◌-◌, ◌<◌, ◌≤◌, ◌==◌, Bool, true, false, if◌then◌else◌, List, [], ◌∷◌, ◌++◌, length, refl, sym, ap, ◌∙◌, arith}
 use Rattle.std.specs.Char.{digit_value, is_digit}
 use Rattle.std.proofs.lemmas.Bool.Decides.{Decides-ltb, nat_tests}
-use Rattle.cad_syntax.specs.Lexes.{is_underscore, Front, Numeral}
-use Rattle.cad_syntax.specs.Lexes as l
-use Rattle.cad_lex.specs.Reading.{digits_from, with_digit, begins_with_digit}
+use Rattle.cad_grammar.specs.Lexes.{is_underscore, Front, Numeral}
+use Rattle.cad_grammar.specs.Lexes as l
+use Rattle.cad_lex.specs.Code.Reading.{digits_from, with_digit, begins_with_digit}
 use Rattle.cad_lex.proofs.Numbers.{AreDecimal}
 use Rattle.cad_lex.proofs.Seams.{Seam, seam_first, seam_later}
 

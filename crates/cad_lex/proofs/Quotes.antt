@@ -5,9 +5,9 @@ use Rattle.std.proofs.lemmas.Str.{encode_ascii}
 use Rattle.std.proofs.Math.Seq.{take-length}
 use Rattle.std.specs.Char.{IsScalar}
 use Rattle.std.specs.Prelude.{encode_utf8}
-use Rattle.cad_syntax.specs.Lexes.{is_plain, is_hexadecimal, escaped, number, Front, Quoted}
-use Rattle.cad_syntax.specs.Lexes as l
-use Rattle.cad_lex.specs.Reading.{front, behind, quoted, behind_plain, behind_escape, with_content, with_rest, code_of, scalar_of, scalar_escape, escape, number_from}
+use Rattle.cad_grammar.specs.Lexes.{is_plain, is_hexadecimal, escaped, number, Front, Quoted}
+use Rattle.cad_grammar.specs.Lexes as l
+use Rattle.cad_lex.specs.Code.Reading.{front, behind, quoted, behind_plain, behind_escape, with_content, with_rest, code_of, scalar_of, scalar_escape, escape, number_from}
 use Rattle.cad_lex.proofs.Numbers.{number_is, number_found}
 use Rattle.cad_lex.proofs.Runs.{front_is_utf8, front_of, front_and_behind, front_exact, front_stops, behind_stops, front_goes, behind_goes}
 use Rattle.cad_lex.proofs.Seams.{Seam, seam_first, seam_later, behind_seam, utf8_behind}

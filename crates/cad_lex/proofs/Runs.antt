@@ -2,9 +2,9 @@
 use Rattle.std.proofs.Common.{◌≡◌, ℕ, zero, ◌-◌, ◌≤◌, ◌<◌, suc, Bool, true, false, if◌then◌else◌, List, [], ◌∷◌, ◌++◌, length, take, get_or, IsUtf8, IsAscii, refl, ap, ◌∙◌, subst, append-nil, arith}
 use Rattle.std.proofs.lemmas.Str.{IsUtf8-from_ascii}
 use Rattle.std.proofs.lemmas.Bool.Decides.{nat_tests}
-use Rattle.cad_syntax.specs.Lexes.{Front, none, more}
+use Rattle.cad_grammar.specs.Lexes.{Front, none, more}
 use Rattle.cad_syntax.specs.Names.{is_part_of_name}
-use Rattle.cad_lex.specs.Reading.{front, behind}
+use Rattle.cad_lex.specs.Code.Reading.{front, behind}
 use Rattle.cad_lex.proofs.Seams.{utf8_before}
 
 module _ (test : ℕ → Bool) where

@@ -2,12 +2,12 @@
 use Rattle.std.proofs.Common.{◌≡◌, ℕ, ◌≤◌, ◌==◌, Bool, true, false, if◌then◌else◌, List, [], ◌∷◌, ◌++◌, length, codes, bytes_eq, Option, Some, None, IfSome, option_map, refl, sym, ap, ◌∙◌, arith, subst, eqb-true}
 use Rattle.std.proofs.lemmas.Bool.Decides.{nat_tests}
 use Rattle.std.proofs.lemmas.Slice.Eq.{bytes_eq-Decides}
-use Rattle.cad_syntax.specs.declared.token.Sign.{Sign}
-use Rattle.cad_syntax.specs.declared.token.Sign.TheVariants as s
+use Rattle.cad_grammar.specs.declared.token.Sign.{Sign}
+use Rattle.cad_grammar.specs.declared.token.Sign.TheVariants as s
 use Rattle.cad_syntax.specs.Names.{is_first_of_name, is_part_of_name}
-use Rattle.cad_syntax.specs.Lexes.{is_white_space, begins_with_letter, opens_line, opens_block, number, scaled, sign_spelling, Front, Numeral, Quoted, Gap, Shape, Word, Whole, Fixed, Quotation, Mark, Shaped, Judged, Begins}
-use Rattle.cad_syntax.specs.Lexes as l
-use Rattle.cad_lex.specs.Reading.{front, behind, is_decimal, begins_with_digit, cast, word_shape, number_shape, quoted, sign, single, longer_by, longer_by_two, behind_less, shape}
+use Rattle.cad_grammar.specs.Lexes.{is_white_space, begins_with_letter, opens_line, opens_block, number, scaled, sign_spelling, Front, Numeral, Quoted, Gap, Shape, Word, Whole, Fixed, Quotation, Mark, Shaped, Judged, Begins}
+use Rattle.cad_grammar.specs.Lexes as l
+use Rattle.cad_lex.specs.Code.Reading.{front, behind, is_decimal, begins_with_digit, cast, word_shape, number_shape, quoted, sign, single, longer_by, longer_by_two, behind_less, shape}
 use Rattle.cad_lex.proofs.Runs.{front_goes, behind_goes, front_of, front_and_behind, behind_shortest, longest_front}
 use Rattle.cad_lex.proofs.Numerals.{numeral_begins}
 use Rattle.cad_lex.proofs.Quotes.{quoted_is, quoted_found}

@@ -2,10 +2,10 @@
 use Rattle.std.proofs.Common.{◌≡◌, ℕ, ◌≤◌, ◌==◌, ◌&&◌, Bool, true, false, if◌then◌else◌, nat_lt, List, [], ◌∷◌, ◌++◌, length, Option, Some, None, IfSome, refl, sym, ap, ◌∙◌, arith, eqb-true}
 use Rattle.std.proofs.lemmas.Bool.Decides.{nat_tests}
 use Rattle.std.specs.List.{list_all}
-use Rattle.cad_syntax.specs.declared.token.Sign.{Sign}
-use Rattle.cad_syntax.specs.declared.token.Sign.TheVariants as s
-use Rattle.cad_syntax.specs.Lexes.{sign_spelling}
-use Rattle.cad_lex.specs.Reading.{with_rest, longer_by, longer_by_two, behind_less, single, sign}
+use Rattle.cad_grammar.specs.declared.token.Sign.{Sign}
+use Rattle.cad_grammar.specs.declared.token.Sign.TheVariants as s
+use Rattle.cad_grammar.specs.Lexes.{sign_spelling}
+use Rattle.cad_lex.specs.Code.Reading.{with_rest, longer_by, longer_by_two, behind_less, single, sign}
 use Rattle.cad_lex.proofs.Seams.{Seam, seam_first, seam_later}
 
 abbrev Spells : List ℕ → Sign × List ℕ → Type 0

@@ -3,14 +3,14 @@ use Rattle.std.proofs.Common.{◌≡◌, ℕ, ◌+◌, ◌-◌, ◌*◌, ◌^◌
 use Rattle.std.proofs.Math.Nat.{pow-le-pow_right}
 use Rattle.std.proofs.lemmas.Bool.{false≢true}
 use Rattle.std.proofs.lemmas.Bool.Decides.{Decides-ltb, nat_tests}
-use Rattle.cad_syntax.specs.declared.token.Keyword.{Keyword}
-use Rattle.cad_syntax.specs.declared.token.TokenKind.{TokenKind}
-use Rattle.cad_syntax.specs.declared.token.TokenKind.TheVariants as kind
+use Rattle.cad_syntax.specs.declared.keyword.Keyword.{Keyword}
+use Rattle.cad_grammar.specs.declared.token.TokenKind.{TokenKind}
+use Rattle.cad_grammar.specs.declared.token.TokenKind.TheVariants as kind
 use Rattle.cad_syntax.specs.Keywords.{keyword_spelling}
 use Rattle.cad_syntax.specs.Names.{is_first_of_name, is_part_of_name}
-use Rattle.cad_syntax.specs.Lexes.{is_white_space, begins_with_letter, opens_line, opens_block, radix_of, number, scaled, Front, Numeral, Quoted, Gap, Shape, Word, Whole, Fixed, Quotation, Mark, Shaped, Judged, Begins}
-use Rattle.cad_syntax.specs.Lexes as l
-use Rattle.cad_lex.specs.Reading.{is_decimal, keyword, kind_by, word_kind, number_from, whole, fixed, power_of_ten, sign, single, with_rest, shape, judge, judged, token}
+use Rattle.cad_grammar.specs.Lexes.{is_white_space, begins_with_letter, opens_line, opens_block, radix_of, number, scaled, Front, Numeral, Quoted, Gap, Shape, Word, Whole, Fixed, Quotation, Mark, Shaped, Judged, Begins}
+use Rattle.cad_grammar.specs.Lexes as l
+use Rattle.cad_lex.specs.Code.Reading.{is_decimal, keyword, kind_by, word_kind, number_from, whole, fixed, power_of_ten, sign, single, with_rest, shape, judge, judged, token}
 use Rattle.cad_lex.proofs.Keywords.{keyword_spells, keyword_found}
 use Rattle.cad_lex.proofs.Numbers.{AreDecimal, number_is, number_found, below_power, power_is}
 use Rattle.cad_lex.proofs.Numerals.{numeral_seam, are_decimal, front_seam}

@@ -3,11 +3,11 @@ use Rattle.std.proofs.Common.{◌≡◌, ℕ, ◌+◌, ◌-◌, ◌≤◌, ◌<�
 use Rattle.std.specs.Borrow.{Bor}
 use Rattle.std.specs.Str.{IsValidUpTo}
 use Rattle.std.proofs.lemmas.Str.{utf8_valid_len-IsValidUpTo, utf8_valid_len-IsUtf8}
-use Rattle.cad_syntax.specs.declared.token.TokenKind.{TokenKind}
-use Rattle.cad_syntax.specs.declared.token.Token.{Token}
-use Rattle.cad_syntax.specs.Lexes.{has_line_feed, Begins, Gap, Spot, begin, InTurn, Lexes, BeginsNothing, Stops}
-use Rattle.cad_syntax.specs.Lexes as l
-use Rattle.cad_lex.specs.Reading.{gap, token, seen}
+use Rattle.cad_grammar.specs.declared.token.TokenKind.{TokenKind}
+use Rattle.cad_grammar.specs.declared.token.Token.{Token}
+use Rattle.cad_grammar.specs.Lexes.{has_line_feed, Begins, Gap, Spot, begin, InTurn, Lexes, BeginsNothing, Stops}
+use Rattle.cad_grammar.specs.Lexes as l
+use Rattle.cad_lex.specs.Code.Reading.{gap, token, seen}
 use Rattle.cad_lex.proofs.Gaps.{gap_is, gap_found, gap_once, gap_text, gap_shorter, gap_utf8}
 use Rattle.cad_lex.proofs.Tokens.{begins_is, token_is, begins_shorter, begins_utf8, gap_is_no_token}
 

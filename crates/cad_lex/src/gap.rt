@@ -1,7 +1,7 @@
 // Gaps: white space and comments.
 ghost use Rattle.std.specs.Prelude.{◌≡◌, ◌&&◌, ◌||◌, ◌==◌, false, option_map};
-ghost use Rattle.cad_syntax.specs.Lexes.{is_white_space, is_in_line};
-ghost use Rattle.cad_lex.specs.Reading as spec;
+ghost use Rattle.cad_grammar.specs.Lexes.{is_white_space, is_in_line};
+ghost use Rattle.cad_lex.specs.Code.Reading as spec;
 
 fn is_white_space(byte: u8) -> bool
     ensures { result ≡ is_white_space byte }
@@ -9,7 +9,7 @@ fn is_white_space(byte: u8) -> bool
     byte == b' ' || byte == b'\t' || byte == b'\r' || byte == b'\n'
 }
 
-#[tactic(auto, unfolding(crate::specs::Reading::behind))]
+#[tactic(auto, unfolding(crate::specs::Code::Reading::behind))]
 fn behind_line(mut bytes: &[u8]) -> &[u8]
     ensures { result.now ≡ spec.behind is_in_line bytes.entry.now }
 {
@@ -43,7 +43,7 @@ fn breaks(before: bool, byte: u8) -> bool
 
 // From inside a block comment: whether a line feed stands before its end, and the bytes behind it. The byte before the
 // next is held where the two can make a sign.
-#[tactic(auto, unfolding(crate::specs::Reading::block))]
+#[tactic(auto, unfolding(crate::specs::Code::Reading::block))]
 fn behind_block(mut bytes: &[u8]) -> Option<(bool, &[u8])>
     ensures { option_map spec.seen result ≡ spec.block 1 0 false bytes.entry.now }
 {
@@ -71,7 +71,7 @@ fn behind_block(mut bytes: &[u8]) -> Option<(bool, &[u8])>
     None
 }
 
-#[tactic(auto, unfolding(crate::specs::Reading::comment))]
+#[tactic(auto, unfolding(crate::specs::Code::Reading::comment))]
 fn comment(bytes: &[u8]) -> Option<(bool, &[u8])>
     ensures { option_map spec.seen result ≡ spec.comment bytes.now }
 {
@@ -83,7 +83,7 @@ fn comment(bytes: &[u8]) -> Option<(bool, &[u8])>
 }
 
 /// The gap at the front: whether a line feed stands in it, and the bytes behind it.
-#[tactic(auto, unfolding(crate::specs::Reading::gap))]
+#[tactic(auto, unfolding(crate::specs::Code::Reading::gap))]
 pub fn gap(bytes: &[u8]) -> Option<(bool, &[u8])>
     ensures { option_map spec.seen result ≡ spec.gap bytes.now }
 {

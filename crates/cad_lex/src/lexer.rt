@@ -1,9 +1,9 @@
 // The lexer.
 ghost use Rattle.std.specs.Prelude.{◌≡◌, ◌||◌, List, option_map, IfOk, IsUtf8, Some, ℕ};
-ghost use Rattle.cad_syntax.specs.declared.token.Token.{Token};
+ghost use Rattle.cad_grammar.specs.declared.token.Token.{Token};
 ghost use Rattle.cad_syntax.specs.Names.{is_part_of_name};
-ghost use Rattle.cad_syntax.specs.Lexes.{opens_block, opens_line, Lexes, Stops};
-ghost use Rattle.cad_lex.specs.Reading as spec;
+ghost use Rattle.cad_grammar.specs.Lexes.{opens_block, opens_line, Lexes, Stops};
+ghost use Rattle.cad_lex.specs.Code.Reading as spec;
 
 use crate::gap::gap;
 use crate::literal::literal;
@@ -11,7 +11,8 @@ use crate::number::is_digit;
 use crate::quotation::quotation;
 use crate::sign::sign;
 use crate::word::{is_first_of_name, split_word, word_kind};
-use cad_syntax::{Items, Keyword, Sign, Token, TokenKind, Tokens};
+use cad_grammar::{Sign, Token, TokenKind, Tokens};
+use cad_syntax::{Items, Keyword};
 use std::alloc::{AllocError, AllocFailed, Global};
 
 /// Why a text has no tokens.
@@ -53,7 +54,7 @@ fn opens_comment(bytes: &[u8]) -> bool
 }
 
 // The word at the front, or the cast of which it is a part, and the bytes behind it.
-#[tactic(auto, unfolding(crate::specs::Reading::word_shape, crate::specs::Reading::cast, crate::specs::Reading::judge))]
+#[tactic(auto, unfolding(crate::specs::Code::Reading::word_shape, crate::specs::Code::Reading::cast, crate::specs::Code::Reading::judge))]
 fn word(alloc: Global, bytes: &[u8]) -> Result<(TokenKind, &[u8]), AllocError>
     ensures { IfOk result (λ found. Some (spec.seen found) ≡ spec.judged (Some (spec.word_shape (spec.front is_part_of_name bytes.now) (spec.behind is_part_of_name bytes.now)))) }
 {
@@ -65,7 +66,7 @@ fn word(alloc: Global, bytes: &[u8]) -> Result<(TokenKind, &[u8]), AllocError>
 }
 
 // What `as` begins, before these bytes.
-#[tactic(auto, unfolding(crate::specs::Reading::cast, crate::specs::Reading::judge, crate::specs::Reading::word_kind, crate::specs::Reading::keyword, crate::specs::Reading::of_two))]
+#[tactic(auto, unfolding(crate::specs::Code::Reading::cast, crate::specs::Code::Reading::judge, crate::specs::Code::Reading::word_kind, crate::specs::Code::Reading::keyword, crate::specs::Code::Reading::of_two))]
 fn cast(bytes: &[u8]) -> (TokenKind, &[u8])
     ensures { Some (spec.seen result) ≡ spec.judged (Some (spec.cast bytes.now)) }
 {
@@ -77,7 +78,7 @@ fn cast(bytes: &[u8]) -> (TokenKind, &[u8])
 }
 
 // The token at the front, and the bytes behind it; None where no token begins.
-#[tactic(auto, unfolding(crate::specs::Reading::token, crate::specs::Reading::shape, crate::specs::Reading::judge))]
+#[tactic(auto, unfolding(crate::specs::Code::Reading::token, crate::specs::Code::Reading::shape, crate::specs::Code::Reading::judge))]
 fn token(alloc: Global, bytes: &[u8]) -> Result<Option<(TokenKind, &[u8])>, AllocError>
     requires { IsUtf8 bytes.now }
     ensures { IfOk result (λ found. option_map spec.seen found ≡ spec.token bytes.now) }

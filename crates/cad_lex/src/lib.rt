@@ -10,8 +10,3 @@ mod sign;
 mod word;
 
 pub use lexer::{LexStop, lex, one_lexing, one_stop};
-
-#[cfg(test)]
-mod rows;
-#[cfg(test)]
-mod tests;

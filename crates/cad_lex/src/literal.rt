@@ -1,10 +1,10 @@
 // Whole and fixed literals.
 ghost use Rattle.std.specs.Prelude.{◌≡◌, ◌≤◌, Some, option_map};
-ghost use Rattle.cad_syntax.specs.Lexes.{begins_with_letter, radix_of};
-ghost use Rattle.cad_lex.specs.Reading as spec;
+ghost use Rattle.cad_grammar.specs.Lexes.{begins_with_letter, radix_of};
+ghost use Rattle.cad_lex.specs.Code.Reading as spec;
 
 use crate::number::{Numeral, is_digit, read_numeral};
-use cad_syntax::TokenKind;
+use cad_grammar::TokenKind;
 
 fn begins_with_letter(bytes: &[u8]) -> bool
     ensures { result ≡ begins_with_letter bytes.now }
@@ -36,7 +36,7 @@ fn radix_of(letter: u8) -> Option<u8>
 }
 
 // The radix that `0b`, `0o` or `0x` tells, and the bytes behind it, which begin with a digit of it.
-#[tactic(auto, unfolding(crate::specs::Reading::based))]
+#[tactic(auto, unfolding(crate::specs::Code::Reading::based))]
 fn based(bytes: &[u8]) -> Option<(u8, &[u8])>
     ensures { option_map spec.seen result ≡ spec.based bytes.now }
 {
@@ -52,7 +52,7 @@ fn based(bytes: &[u8]) -> Option<(u8, &[u8])>
 }
 
 // The bytes behind a point, which begin with a digit.
-#[tactic(auto, unfolding(crate::specs::Reading::behind_point))]
+#[tactic(auto, unfolding(crate::specs::Code::Reading::behind_point))]
 fn behind_point(bytes: &[u8]) -> Option<&[u8]>
     ensures { option_map (λ rest. rest.now) result ≡ spec.behind_point bytes.now }
 {
@@ -67,7 +67,7 @@ fn behind_point(bytes: &[u8]) -> Option<&[u8]>
 }
 
 // The whole literal of this value before these bytes.
-#[tactic(auto, unfolding(crate::specs::Reading::whole))]
+#[tactic(auto, unfolding(crate::specs::Code::Reading::whole))]
 fn whole(radix: u8, value: Option<u128>, rest: &[u8]) -> Option<TokenKind>
     ensures { result ≡ spec.whole radix value rest.now }
 {
@@ -81,7 +81,7 @@ fn whole(radix: u8, value: Option<u128>, rest: &[u8]) -> Option<TokenKind>
     })
 }
 
-#[tactic(auto, unfolding(crate::specs::Reading::power_of_ten))]
+#[tactic(auto, unfolding(crate::specs::Code::Reading::power_of_ten))]
 fn power_of_ten(exponent: usize) -> u128
     ensures value { result ≡ spec.power_of_ten exponent }
     ensures bound { result ≤ 100_000_000 }
@@ -100,7 +100,7 @@ fn power_of_ten(exponent: usize) -> u128
 }
 
 // The fixed literal of the whole part and the decimals, of which so many are lacking to eight.
-#[tactic(auto, unfolding(crate::specs::Reading::fixed))]
+#[tactic(auto, unfolding(crate::specs::Code::Reading::fixed))]
 fn fixed(whole: Option<u128>, decimals: Option<u128>, lacking: usize) -> Option<TokenKind>
     ensures { result ≡ spec.fixed whole decimals lacking }
 {
@@ -113,7 +113,7 @@ fn fixed(whole: Option<u128>, decimals: Option<u128>, lacking: usize) -> Option<
 }
 
 /// The literal of a number at the front, and the bytes behind it. None where its digits make no literal.
-#[tactic(auto, unfolding(crate::specs::Reading::number_shape, crate::specs::Reading::judge))]
+#[tactic(auto, unfolding(crate::specs::Code::Reading::number_shape, crate::specs::Code::Reading::judge))]
 pub fn literal(bytes: &[u8]) -> Option<(TokenKind, &[u8])>
     ensures { option_map spec.seen result ≡ spec.judged (Some (spec.number_shape bytes.now)) }
 {

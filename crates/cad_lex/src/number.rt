@@ -1,7 +1,7 @@
 // Numbers: digits with underscores between them.
 ghost use Rattle.std.specs.Prelude.{◌≡◌, ◌+◌, length, Some};
 ghost use Rattle.std.specs.Char.{is_digit, digit_value};
-ghost use Rattle.cad_lex.specs.Reading as spec;
+ghost use Rattle.cad_lex.specs.Code.Reading as spec;
 
 // 0 to 35 for a digit or a letter, and 36 for any other byte.
 fn digit_value(byte: u8) -> u8
@@ -23,7 +23,7 @@ pub fn is_digit(byte: u8, radix: u8) -> bool
 }
 
 /// The number with one digit more. None where it isn't of 128 bits.
-#[tactic(auto, unfolding(crate::specs::Reading::add_digit))]
+#[tactic(auto, unfolding(crate::specs::Code::Reading::add_digit))]
 pub fn add_digit(radix: u8, number: Option<u128>, digit: u8) -> Option<u128>
     ensures { result ≡ spec.add_digit radix number digit }
 {
@@ -43,7 +43,7 @@ pub struct Numeral<'a> {
 }
 
 /// Reads at most so many digits.
-#[tactic(auto, unfolding(crate::specs::Reading::digits_from, crate::specs::Reading::number_from))]
+#[tactic(auto, unfolding(crate::specs::Code::Reading::digits_from, crate::specs::Code::Reading::number_from))]
 pub fn read_numeral(radix: u8, most: usize, bytes: &[u8]) -> Numeral<'_>
     ensures value { result.value ≡ spec.number_from radix (Some 0) (spec.digits_from radix most bytes.now bytes.now).0 }
     ensures lacking { result.lacking + length (spec.digits_from radix most bytes.now bytes.now).0 ≡ most }

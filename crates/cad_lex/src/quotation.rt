@@ -1,14 +1,14 @@
 // Texts in quotes.
 ghost use Rattle.std.specs.Prelude.{◌≡◌, length, option_map, IfOk, IsUtf8, Some};
-ghost use Rattle.cad_syntax.specs.Lexes.{is_hexadecimal, is_plain, escaped};
-ghost use Rattle.cad_lex.specs.Reading as spec;
+ghost use Rattle.cad_grammar.specs.Lexes.{is_hexadecimal, is_plain, escaped};
+ghost use Rattle.cad_lex.specs.Code.Reading as spec;
 
 use crate::number::{add_digit, is_digit};
 use crate::word::text_of;
 use cad_syntax::Text;
 use std::alloc::{AllocError, Global};
 
-#[tactic(auto, unfolding(crate::specs::Reading::behind))]
+#[tactic(auto, unfolding(crate::specs::Code::Reading::behind))]
 fn behind_hexadecimal(mut bytes: &[u8]) -> &[u8]
     ensures { result.now ≡ spec.behind is_hexadecimal bytes.entry.now }
 {
@@ -31,7 +31,7 @@ fn split_hexadecimal(bytes: &[u8]) -> (&[u8], &[u8])
     (&bytes[..bytes.len() - rest.len()], rest)
 }
 
-#[tactic(auto, unfolding(crate::specs::Reading::number_from))]
+#[tactic(auto, unfolding(crate::specs::Code::Reading::number_from))]
 fn hexadecimal(mut digits: &[u8]) -> Option<u128>
     ensures { result ≡ spec.number_from 16 (Some 0) digits.entry.now }
 {
@@ -43,14 +43,14 @@ fn hexadecimal(mut digits: &[u8]) -> Option<u128>
     value
 }
 
-#[tactic(auto, unfolding(crate::specs::Reading::code_of))]
+#[tactic(auto, unfolding(crate::specs::Code::Reading::code_of))]
 fn code_of(value: Option<u128>) -> Option<char>
     ensures { result ≡ spec.code_of value }
 {
     char::from_u32(u32::try_from(value?).ok()?)
 }
 
-#[tactic(auto, unfolding(crate::specs::Reading::scalar_of))]
+#[tactic(auto, unfolding(crate::specs::Code::Reading::scalar_of))]
 fn scalar_of<'a>(digits: &[u8], rest: &'a [u8]) -> Option<(char, &'a [u8])>
     ensures { option_map spec.seen result ≡ spec.scalar_of digits.now rest.now }
 {
@@ -64,7 +64,7 @@ fn scalar_of<'a>(digits: &[u8], rest: &'a [u8]) -> Option<(char, &'a [u8])>
 }
 
 // The character that the code in `\u{..}` tells, and the bytes behind it.
-#[tactic(auto, unfolding(crate::specs::Reading::scalar_escape))]
+#[tactic(auto, unfolding(crate::specs::Code::Reading::scalar_escape))]
 fn scalar_escape(bytes: &[u8]) -> Option<(char, &[u8])>
     ensures { option_map spec.seen result ≡ spec.scalar_escape bytes.now }
 {
@@ -91,7 +91,7 @@ fn escaped(letter: u8) -> Option<char>
 }
 
 // The character that an escape writes behind its backslash, and the bytes behind it.
-#[tactic(auto, unfolding(crate::specs::Reading::escape))]
+#[tactic(auto, unfolding(crate::specs::Code::Reading::escape))]
 fn escape(bytes: &[u8]) -> Option<(char, &[u8])>
     ensures { option_map spec.seen result ≡ spec.escape bytes.now }
 {
@@ -104,7 +104,7 @@ fn escape(bytes: &[u8]) -> Option<(char, &[u8])>
     Some((escaped(*letter)?, rest))
 }
 
-#[tactic(auto, unfolding(crate::specs::Reading::behind))]
+#[tactic(auto, unfolding(crate::specs::Code::Reading::behind))]
 fn behind_plain(mut bytes: &[u8]) -> &[u8]
     ensures { result.now ≡ spec.behind is_plain bytes.entry.now }
 {
@@ -130,7 +130,7 @@ fn split_plain(bytes: &[u8]) -> (&str, &[u8])
 
 /// What is written up to the closing quote, and the bytes behind that. None where a bad escape, a line feed or the end
 /// comes first.
-#[tactic(auto, unfolding(crate::specs::Reading::quoted, crate::specs::Reading::behind_plain))]
+#[tactic(auto, unfolding(crate::specs::Code::Reading::quoted, crate::specs::Code::Reading::behind_plain))]
 pub fn quotation(alloc: Global, mut bytes: &[u8]) -> Result<Option<(Text, &[u8])>, AllocError>
     requires { IsUtf8 bytes.now }
     ensures { IfOk result (λ found. option_map spec.seen found ≡ spec.quoted (length bytes.entry.now) bytes.entry.now) }

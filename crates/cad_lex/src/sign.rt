@@ -1,11 +1,11 @@
 // Signs.
 ghost use Rattle.std.specs.Prelude.{◌≡◌, option_map};
-ghost use Rattle.cad_lex.specs.Reading as spec;
+ghost use Rattle.cad_lex.specs.Code.Reading as spec;
 
-use cad_syntax::Sign;
+use cad_grammar::Sign;
 
 // The first sign where this byte comes next, else the second; and the bytes behind it.
-#[tactic(auto, unfolding(crate::specs::Reading::longer_by))]
+#[tactic(auto, unfolding(crate::specs::Code::Reading::longer_by))]
 fn longer_by(byte: u8, long: Sign, short: Sign, bytes: &[u8]) -> (Sign, &[u8])
     ensures { spec.seen result ≡ spec.longer_by byte long short bytes.now }
 {
@@ -15,7 +15,7 @@ fn longer_by(byte: u8, long: Sign, short: Sign, bytes: &[u8]) -> (Sign, &[u8])
     }
 }
 
-#[tactic(auto, unfolding(crate::specs::Reading::longer_by_two))]
+#[tactic(auto, unfolding(crate::specs::Code::Reading::longer_by_two))]
 fn behind_move(bytes: &[u8]) -> (Sign, &[u8])
     ensures { spec.seen result ≡ spec.longer_by_two 62 Sign.Swap 33 Sign.ForceMove Sign.Move bytes.now }
 {
@@ -26,7 +26,7 @@ fn behind_move(bytes: &[u8]) -> (Sign, &[u8])
     }
 }
 
-#[tactic(auto, unfolding(crate::specs::Reading::longer_by_two))]
+#[tactic(auto, unfolding(crate::specs::Code::Reading::longer_by_two))]
 fn behind_question(bytes: &[u8]) -> (Sign, &[u8])
     ensures { spec.seen result ≡ spec.longer_by_two 63 Sign.Coalesce 46 Sign.OptionalDot Sign.Question bytes.now }
 {
@@ -37,7 +37,7 @@ fn behind_question(bytes: &[u8]) -> (Sign, &[u8])
     }
 }
 
-#[tactic(auto, unfolding(crate::specs::Reading::behind_less))]
+#[tactic(auto, unfolding(crate::specs::Code::Reading::behind_less))]
 fn behind_less(bytes: &[u8]) -> (Sign, &[u8])
     ensures { spec.seen result ≡ spec.behind_less bytes.now }
 {
@@ -51,7 +51,7 @@ fn behind_less(bytes: &[u8]) -> (Sign, &[u8])
 }
 
 // The sign of one byte that begins no other.
-#[tactic(auto, unfolding(crate::specs::Reading::single))]
+#[tactic(auto, unfolding(crate::specs::Code::Reading::single))]
 fn single(byte: u8) -> Option<Sign>
     ensures { result ≡ spec.single byte }
 {
@@ -77,7 +77,7 @@ fn single(byte: u8) -> Option<Sign>
 }
 
 /// The longest sign of this byte and those that follow, and the bytes behind it.
-#[tactic(auto, unfolding(crate::specs::Reading::sign))]
+#[tactic(auto, unfolding(crate::specs::Code::Reading::sign))]
 pub fn sign(first: u8, bytes: &[u8]) -> Option<(Sign, &[u8])>
     ensures { option_map spec.seen result ≡ spec.sign first bytes.now }
 {

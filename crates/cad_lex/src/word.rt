@@ -1,9 +1,10 @@
 // Words: keywords and names.
 ghost use Rattle.std.specs.Prelude.{◌≡◌, IfOk, IsUtf8};
 ghost use Rattle.cad_syntax.specs.Names.{is_first_of_name, is_part_of_name};
-ghost use Rattle.cad_lex.specs.Reading as spec;
+ghost use Rattle.cad_lex.specs.Code.Reading as spec;
 
-use cad_syntax::{Keyword, Name, Text, TokenKind};
+use cad_grammar::TokenKind;
+use cad_syntax::{Keyword, Name, Text};
 use std::alloc::{AllocError, Global};
 
 /// Whether a name may begin with this byte: an ASCII letter or `_`.
@@ -19,7 +20,7 @@ fn is_part_of_name(byte: u8) -> bool
     byte.is_ascii_alphanumeric() || byte == b'_'
 }
 
-#[tactic(auto, unfolding(crate::specs::Reading::behind))]
+#[tactic(auto, unfolding(crate::specs::Code::Reading::behind))]
 fn behind_word(mut bytes: &[u8]) -> &[u8]
     ensures { result.now ≡ spec.behind is_part_of_name bytes.entry.now }
 {
@@ -54,7 +55,7 @@ pub fn split_word(bytes: &[u8]) -> (&str, &[u8])
     (text_of(word), rest)
 }
 
-#[tactic(auto, unfolding(crate::specs::Reading::of_two))]
+#[tactic(auto, unfolding(crate::specs::Code::Reading::of_two))]
 fn of_two(word: &str) -> Option<Keyword>
     ensures { result ≡ spec.of_two word.now }
 {
@@ -66,7 +67,7 @@ fn of_two(word: &str) -> Option<Keyword>
     }
 }
 
-#[tactic(auto, unfolding(crate::specs::Reading::of_three))]
+#[tactic(auto, unfolding(crate::specs::Code::Reading::of_three))]
 fn of_three(word: &str) -> Option<Keyword>
     ensures { result ≡ spec.of_three word.now }
 {
@@ -81,7 +82,7 @@ fn of_three(word: &str) -> Option<Keyword>
     }
 }
 
-#[tactic(auto, unfolding(crate::specs::Reading::of_four))]
+#[tactic(auto, unfolding(crate::specs::Code::Reading::of_four))]
 fn of_four(word: &str) -> Option<Keyword>
     ensures { result ≡ spec.of_four word.now }
 {
@@ -99,7 +100,7 @@ fn of_four(word: &str) -> Option<Keyword>
     }
 }
 
-#[tactic(auto, unfolding(crate::specs::Reading::of_five))]
+#[tactic(auto, unfolding(crate::specs::Code::Reading::of_five))]
 fn of_five(word: &str) -> Option<Keyword>
     ensures { result ≡ spec.of_five word.now }
 {
@@ -112,7 +113,7 @@ fn of_five(word: &str) -> Option<Keyword>
     }
 }
 
-#[tactic(auto, unfolding(crate::specs::Reading::of_six))]
+#[tactic(auto, unfolding(crate::specs::Code::Reading::of_six))]
 fn of_six(word: &str) -> Option<Keyword>
     ensures { result ≡ spec.of_six word.now }
 {
@@ -127,7 +128,7 @@ fn of_six(word: &str) -> Option<Keyword>
     }
 }
 
-#[tactic(auto, unfolding(crate::specs::Reading::of_seven))]
+#[tactic(auto, unfolding(crate::specs::Code::Reading::of_seven))]
 fn of_seven(word: &str) -> Option<Keyword>
     ensures { result ≡ spec.of_seven word.now }
 {
@@ -140,7 +141,7 @@ fn of_seven(word: &str) -> Option<Keyword>
     }
 }
 
-#[tactic(auto, unfolding(crate::specs::Reading::of_eight))]
+#[tactic(auto, unfolding(crate::specs::Code::Reading::of_eight))]
 fn of_eight(word: &str) -> Option<Keyword>
     ensures { result ≡ spec.of_eight word.now }
 {
@@ -152,7 +153,7 @@ fn of_eight(word: &str) -> Option<Keyword>
     }
 }
 
-#[tactic(auto, unfolding(crate::specs::Reading::longer))]
+#[tactic(auto, unfolding(crate::specs::Code::Reading::longer))]
 fn longer(word: &str) -> Option<Keyword>
     ensures { result ≡ spec.longer word.now }
 {
@@ -164,7 +165,7 @@ fn longer(word: &str) -> Option<Keyword>
 }
 
 // The length leaves few keywords to compare with.
-#[tactic(auto, unfolding(crate::specs::Reading::keyword))]
+#[tactic(auto, unfolding(crate::specs::Code::Reading::keyword))]
 fn keyword(word: &str) -> Option<Keyword>
     ensures { result ≡ spec.keyword word.now }
 {
@@ -181,7 +182,7 @@ fn keyword(word: &str) -> Option<Keyword>
 }
 
 /// The keyword or the name that a word is.
-#[tactic(auto, unfolding(crate::specs::Reading::word_kind))]
+#[tactic(auto, unfolding(crate::specs::Code::Reading::word_kind))]
 pub fn word_kind(alloc: Global, word: &str) -> Result<TokenKind, AllocError>
     ensures { IfOk result (λ kind. kind ≡ spec.word_kind word.now) }
 {

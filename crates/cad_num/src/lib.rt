@@ -9,8 +9,6 @@ mod exact;
 mod fit;
 mod kinds;
 mod saturation;
-#[cfg(test)]
-mod tests;
 
 pub use arithmetic::{add, compare, convert, div, mul, neg, rem, sub};
 pub use bitwise::{BitOp, bits};

@@ -1,10 +1,10 @@
 -- Access: what is read is spelled, and what is spelled is read.
 use Rattle.std.proofs.Common.{◌≡◌, ℕ, ◌<◌, true, false, if◌then◌else◌, List, [], ◌∷◌, length, codes, Option, Some, None, refl, sym, ap, ◌∙◌, ◌⊎◌, arith}
-use Rattle.cad_syntax.specs.declared.token.Sign.{Sign}
-use Rattle.cad_syntax.specs.declared.token.Sign.TheVariants as s
-use Rattle.cad_syntax.specs.declared.token.Keyword.TheVariants as k
-use Rattle.cad_syntax.specs.declared.token.TokenKind.{TokenKind}
-use Rattle.cad_syntax.specs.declared.token.TokenKind.TheVariants as kind
+use Rattle.cad_grammar.specs.declared.token.Sign.{Sign}
+use Rattle.cad_grammar.specs.declared.token.Sign.TheVariants as s
+use Rattle.cad_syntax.specs.declared.keyword.Keyword.TheVariants as k
+use Rattle.cad_grammar.specs.declared.token.TokenKind.{TokenKind}
+use Rattle.cad_grammar.specs.declared.token.TokenKind.TheVariants as kind
 use Rattle.cad_syntax.specs.declared.text.Name.{Name}
 use Rattle.cad_grammar.specs.declared.type_expr.Entitlements.{Entitlements}
 use Rattle.cad_grammar.specs.declared.type_expr.Entitlements.TheVariants as entitlements
@@ -17,8 +17,8 @@ use Rattle.cad_grammar.specs.TypeGrammar.{Dotted, Entitled}
 use Rattle.cad_grammar.specs.TypeGrammar as types_grammar
 use Rattle.cad_grammar.specs.ProgramGrammar.{plain_access_named, plain_access_of, is_plain_word, is_plain_access, Allows, ReadsAccess}
 use Rattle.cad_grammar.specs.ProgramGrammar as g
-use Rattle.cad_parse_type.specs.Reading.{dotted, entitled}
-use Rattle.cad_parse.specs.Reading.{plain_access, mapping_access, entitled_access, allows, accessed}
+use Rattle.cad_parse_type.specs.Code.Reading.{dotted, entitled}
+use Rattle.cad_parse.specs.Code.Reading.{plain_access, mapping_access, entitled_access, allows, accessed}
 use Rattle.cad_parse_type.proofs.Heads.{none_of, other, some_same, then_some, read_taken, read_head, read_shorter, head, after_head, after_shorter, keyword_shorter, opening_shorter, name_head, resumed_head, head_same}
 use Rattle.cad_parse_type.proofs.Climbs.{then_is, either_is, either_not, IfFound, then_found, either_found, found_is}
 use Rattle.cad_parse_type.proofs.ListLaws.{IsSound}

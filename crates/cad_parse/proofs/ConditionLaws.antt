@@ -1,20 +1,20 @@
 -- Conditions: what is read is spelled, and what is spelled is read.
 use Rattle.std.proofs.Common.{◌≡◌, ℕ, zero, suc, ◌<◌, ◌≤◌, true, List, [], ◌∷◌, ◌++◌, length, Option, Some, None, refl, sym, ap, ◌∙◌, ◌⊎◌, inl, inr, subst, arith, append-nil, append_assoc}
-use Rattle.cad_syntax.specs.declared.token.Sign.TheVariants as s
-use Rattle.cad_syntax.specs.declared.token.Keyword.{Keyword}
-use Rattle.cad_syntax.specs.declared.token.Keyword.TheVariants as k
-use Rattle.cad_syntax.specs.declared.token.TokenKind.TheVariants as kind
+use Rattle.cad_grammar.specs.declared.token.Sign.TheVariants as s
+use Rattle.cad_syntax.specs.declared.keyword.Keyword.{Keyword}
+use Rattle.cad_syntax.specs.declared.keyword.Keyword.TheVariants as k
+use Rattle.cad_grammar.specs.declared.token.TokenKind.TheVariants as kind
 use Rattle.cad_grammar.specs.Trees.{ExprTree, ConditionTree}
 use Rattle.cad_grammar.specs.Spots.{Spot, after, keyword, opening}
-use Rattle.cad_grammar.specs.Levels.{token_strength, start}
+use Rattle.cad_parse_type.specs.Code.Levels.{token_strength, start}
 use Rattle.cad_grammar.specs.Lists as l
 use Rattle.cad_grammar.specs.ExpressionGrammar.{Expression}
 use Rattle.cad_grammar.specs.StatementGrammar.{begins_plainly, ends_statements, breaks_or_ends, parted}
 use Rattle.cad_grammar.specs.ProgramGrammar.{ReadsCondition, ConditionsIn, Conditions}
 use Rattle.cad_grammar.specs.ProgramGrammar as g
-use Rattle.cad_parse_type.specs.Reading.{maybe}
-use Rattle.cad_parse_expr.specs.Reading.{expression}
-use Rattle.cad_parse.specs.Reading.{repeated, emitted, plain, condition, parted_condition, condition_list, conditions, conditions_behind}
+use Rattle.cad_parse_type.specs.Code.Reading.{maybe}
+use Rattle.cad_parse_expr.specs.Code.Reading.{expression}
+use Rattle.cad_parse.specs.Code.Reading.{repeated, emitted, plain, condition, parted_condition, condition_list, conditions, conditions_behind}
 use Rattle.cad_parse_type.proofs.Heads.{none_of, some_same, then_some, head_start, after_head, after_shorter, keyword_shorter, keyword_head, opening_shorter}
 use Rattle.cad_parse_type.proofs.Climbs.{then_is, either_is, either_not, IfFound, then_found, either_found, found_is, found_weaker}
 use Rattle.cad_parse_type.proofs.ListLaws.{IsSound, IsRead, maybe_sound, maybe_exact, maybe_short}

@@ -1,23 +1,23 @@
 -- Contracts: what is read is spelled, and what is spelled is read.
 use Rattle.std.proofs.Common.{◌≡◌, ◌⊎◌, inl, inr, ◌<◌, length, codes, Some, None, refl, ◌∙◌, arith}
-use Rattle.cad_syntax.specs.declared.token.Sign.TheVariants as s
-use Rattle.cad_syntax.specs.declared.token.Keyword.{Keyword}
-use Rattle.cad_syntax.specs.declared.token.Keyword.TheVariants as k
-use Rattle.cad_syntax.specs.declared.token.TokenKind.TheVariants as kind
+use Rattle.cad_grammar.specs.declared.token.Sign.TheVariants as s
+use Rattle.cad_syntax.specs.declared.keyword.Keyword.{Keyword}
+use Rattle.cad_syntax.specs.declared.keyword.Keyword.TheVariants as k
+use Rattle.cad_grammar.specs.declared.token.TokenKind.TheVariants as kind
 use Rattle.cad_grammar.specs.declared.declaration.Access.{Access}
 use Rattle.cad_grammar.specs.declared.declaration.CompositeKind.{CompositeKind}
 use Rattle.cad_grammar.specs.declared.declaration.Entitlement.{Entitlement}
 use Rattle.cad_grammar.specs.Trees as tree
 use Rattle.cad_grammar.specs.Trees.{FunctionTree, InitTree, FieldTree, EventTree, CompositeTree, InterfaceTree, EnumTree, MappingTree, ContractMemberTree, ContractTree}
 use Rattle.cad_grammar.specs.Spots.{Spot, read, keyword, word, name, opening}
-use Rattle.cad_grammar.specs.Levels.{token_strength}
+use Rattle.cad_parse_type.specs.Code.Levels.{token_strength}
 use Rattle.cad_grammar.specs.StatementGrammar.{variable_word, variable_kind_of}
 use Rattle.cad_grammar.specs.ProgramGrammar.{composite_kind_of, viewed, mapping_head, ReadsAccess, ReadsContractMember, ReadsContract}
 use Rattle.cad_grammar.specs.ProgramGrammar as g
 use Rattle.cad_parse_type.proofs.TypeLaws.{TypeLaws}
 use Rattle.cad_parse_type.proofs.Heads.{keyword_head, read_not, name_shorter, keyword_shorter, opening_shorter}
 use Rattle.cad_parse_type.proofs.Climbs.{then_is, either_is, either_not, IfFound, then_found, either_found, found_is}
-use Rattle.cad_parse.specs.Reading as r
+use Rattle.cad_parse.specs.Code.Reading as r
 use Rattle.cad_parse.proofs.MemberLaws.{MemberLaws, FieldRead, FunctionRead, OpenEventRead, DestructionRead, InitRead}
 use Rattle.cad_parse.proofs.Firsts.{Begins, begins_weak, begins_no_sign, not_keyword, word_head, word_no_keyword, viewed_is, view_no_keyword, view_no_word, view_no_read, composite_no_variable}
 use Rattle.cad_parse.proofs.RepeatedLaws.{As, ItemLaws, repeated_sound, repeated_shorter, repeated_exact}

@@ -1,7 +1,7 @@
 -- Declarations: what is read is spelled, and what is spelled is read.
 use Rattle.std.proofs.Common.{◌≡◌, ◌<◌, length, Some, None, ◌∙◌}
-use Rattle.cad_syntax.specs.declared.token.Keyword.{Keyword}
-use Rattle.cad_syntax.specs.declared.token.Keyword.TheVariants as k
+use Rattle.cad_syntax.specs.declared.keyword.Keyword.{Keyword}
+use Rattle.cad_syntax.specs.declared.keyword.Keyword.TheVariants as k
 use Rattle.cad_grammar.specs.declared.declaration.Access.{Access}
 use Rattle.cad_grammar.specs.declared.declaration.Import.{Import}
 use Rattle.cad_grammar.specs.Trees as tree
@@ -13,7 +13,7 @@ use Rattle.cad_parse_type.proofs.TypeLaws.{TypeLaws}
 use Rattle.cad_parse_type.proofs.Heads.{keyword_head}
 use Rattle.cad_parse_type.proofs.Climbs.{Shrinks, then_is, then_not, either_is, either_not, IfFound, then_found, either_found, found_is}
 use Rattle.cad_parse_statement.proofs.StatementLaws.{StatementLaws}
-use Rattle.cad_parse.specs.Reading as r
+use Rattle.cad_parse.specs.Code.Reading as r
 use Rattle.cad_parse.proofs.MemberLaws.{MemberLaws, FunctionRead}
 use Rattle.cad_parse.proofs.Firsts.{not_keyword, viewed_is, view_no_keyword}
 use Rattle.cad_parse.proofs.Programs.{DeclarationLaws}

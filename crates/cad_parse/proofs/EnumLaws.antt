@@ -1,11 +1,11 @@
 -- Enums, entitlements and mappings: what is read is spelled, and what is spelled is read.
 use Rattle.std.proofs.Common.{◌≡◌, ℕ, ◌<◌, List, ◌∷◌, length, codes, Option, Some, None, refl, sym, ap, ◌∙◌, arith}
-use Rattle.cad_syntax.specs.declared.token.Sign.{Sign}
-use Rattle.cad_syntax.specs.declared.token.Sign.TheVariants as s
-use Rattle.cad_syntax.specs.declared.token.Keyword.TheVariants as k
-use Rattle.cad_syntax.specs.declared.token.TokenKind.{TokenKind}
-use Rattle.cad_syntax.specs.declared.token.TokenKind.TheVariants as kind
-use Rattle.cad_syntax.specs.declared.token.Token.{Token}
+use Rattle.cad_grammar.specs.declared.token.Sign.{Sign}
+use Rattle.cad_grammar.specs.declared.token.Sign.TheVariants as s
+use Rattle.cad_syntax.specs.declared.keyword.Keyword.TheVariants as k
+use Rattle.cad_grammar.specs.declared.token.TokenKind.{TokenKind}
+use Rattle.cad_grammar.specs.declared.token.TokenKind.TheVariants as kind
+use Rattle.cad_grammar.specs.declared.token.Token.{Token}
 use Rattle.cad_syntax.specs.declared.text.Name.{Name}
 use Rattle.cad_grammar.specs.declared.declaration.Access.{Access}
 use Rattle.cad_grammar.specs.declared.declaration.EnumCase.{EnumCase}
@@ -14,16 +14,16 @@ use Rattle.cad_grammar.specs.declared.declaration.MappingItem.{MappingItem}
 use Rattle.cad_grammar.specs.declared.declaration.MappingItem.TheVariants as mapping_item
 use Rattle.cad_grammar.specs.Trees.{EnumTree, MappingTree}
 use Rattle.cad_grammar.specs.Spots.{Spot, after, keyword, word, name, opening}
-use Rattle.cad_grammar.specs.Levels.{token_strength}
+use Rattle.cad_parse_type.specs.Code.Levels.{token_strength}
 use Rattle.cad_grammar.specs.TypeGrammar.{Dotted}
 use Rattle.cad_grammar.specs.TypeGrammar as types_of
 use Rattle.cad_grammar.specs.ProgramGrammar.{ReadsAccess, ReadsEnumCase, ReadsEnum, mapping_head, ReadsEntitlement, ReadsMappingItem, ReadsMapping}
 use Rattle.cad_grammar.specs.ProgramGrammar as g
-use Rattle.cad_parse_type.specs.Reading.{dotted}
+use Rattle.cad_parse_type.specs.Code.Reading.{dotted}
 use Rattle.cad_parse_type.proofs.TypeLaws.{TypeLaws}
 use Rattle.cad_parse_type.proofs.Heads.{none_of, some_same, then_some, head, head_of, next_taken, read_taken, name_head, after_head, other, not_after, opening_head, weak_after, after_shorter, name_shorter, next_shorter, keyword_shorter, opening_shorter}
 use Rattle.cad_parse_type.proofs.Climbs.{then_is, either_is, either_not, IfFound, then_found, either_found, found_is}
-use Rattle.cad_parse.specs.Reading as r
+use Rattle.cad_parse.specs.Code.Reading as r
 use Rattle.cad_parse.proofs.MemberLaws.{MemberLaws}
 use Rattle.cad_parse.proofs.Firsts.{Begins, begins_weak, begins_no_sign, named_begins, word_head}
 use Rattle.cad_parse.proofs.ParameterLaws.{labelled_is, labelled_exact}

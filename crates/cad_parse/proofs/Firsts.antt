@@ -1,16 +1,16 @@
 -- The first token of a declaration and of a member.
 use Rattle.std.proofs.Common.{◌≡◌, ◌⊎◌, inl, inr, ℕ, Bool, true, false, ◌==◌, List, codes, Option, Some, None, refl, sym, ap, ◌∙◌}
-use Rattle.cad_syntax.specs.declared.token.Sign.{Sign}
-use Rattle.cad_syntax.specs.declared.token.Keyword.{Keyword}
-use Rattle.cad_syntax.specs.declared.token.Keyword.TheVariants as k
-use Rattle.cad_syntax.specs.declared.token.TokenKind.{TokenKind}
-use Rattle.cad_syntax.specs.declared.token.TokenKind.TheVariants as kind
+use Rattle.cad_grammar.specs.declared.token.Sign.{Sign}
+use Rattle.cad_syntax.specs.declared.keyword.Keyword.{Keyword}
+use Rattle.cad_syntax.specs.declared.keyword.Keyword.TheVariants as k
+use Rattle.cad_grammar.specs.declared.token.TokenKind.{TokenKind}
+use Rattle.cad_grammar.specs.declared.token.TokenKind.TheVariants as kind
 use Rattle.cad_syntax.specs.declared.text.Name.{Name}
 use Rattle.cad_syntax.proofs.Same.{lists_tell, numbers_tell}
 use Rattle.cad_grammar.specs.declared.statement.VariableKind.{VariableKind}
 use Rattle.cad_grammar.specs.declared.declaration.CompositeKind.{CompositeKind}
 use Rattle.cad_grammar.specs.Spots.{Spot, then, either, is_word, after, keyword, word, read}
-use Rattle.cad_grammar.specs.Levels.{kind_strength, token_strength}
+use Rattle.cad_parse_type.specs.Code.Levels.{kind_strength, token_strength}
 use Rattle.cad_grammar.specs.StatementGrammar.{variable_word, variable_kind_of}
 use Rattle.cad_grammar.specs.ProgramGrammar.{viewed, composite_kind_of}
 use Rattle.cad_parse_type.proofs.Heads.{none_of, some_same, then_some, head, head_of, next_taken, head_strength, read_head, read_not, keyword_head, after_head}

@@ -1,14 +1,14 @@
 -- What holds of what is found, and of the token that comes next.
 use Rattle.std.proofs.Common.{◌≡◌, ℕ, ◌<◌, Bool, true, false, if◌then◌else◌, List, [], ◌∷◌, length, Option, Some, None, refl, sym, ap, ◌∙◌}
-use Rattle.cad_syntax.specs.declared.token.Sign.{Sign}
-use Rattle.cad_syntax.specs.declared.token.Keyword.{Keyword}
-use Rattle.cad_syntax.specs.declared.token.TokenKind.{TokenKind}
-use Rattle.cad_syntax.specs.declared.token.TokenKind.TheVariants as kind
-use Rattle.cad_syntax.specs.declared.token.Token.{Token}
+use Rattle.cad_grammar.specs.declared.token.Sign.{Sign}
+use Rattle.cad_syntax.specs.declared.keyword.Keyword.{Keyword}
+use Rattle.cad_grammar.specs.declared.token.TokenKind.{TokenKind}
+use Rattle.cad_grammar.specs.declared.token.TokenKind.TheVariants as kind
+use Rattle.cad_grammar.specs.declared.token.Token.{Token}
 use Rattle.cad_syntax.specs.declared.text.Name.{Name}
 use Rattle.cad_grammar.specs.Spots.{Spot, behind, read, name_of, is_word, after, keyword, word, name}
-use Rattle.cad_grammar.specs.Levels.{kind_strength, token_strength}
-use Rattle.cad_parse_type.specs.Reading.{Reader}
+use Rattle.cad_parse_type.specs.Code.Levels.{kind_strength, token_strength}
+use Rattle.cad_parse_type.specs.Code.Reading.{Reader}
 use Rattle.cad_parse_type.proofs.Heads.{none_of, some_same, Taken, next_taken, read_taken, next_shorter, head_of, head, keyword_head, after_strength}
 use Rattle.cad_parse_type.proofs.Climbs.{IfFound, found_is}
 use Rattle.cad_parse_type.proofs.ListLaws.{IsSound}

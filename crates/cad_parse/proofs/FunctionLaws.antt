@@ -1,19 +1,19 @@
 -- Blocks of functions, functions and initializers: what is read is spelled, and what is spelled is read.
 use Rattle.std.proofs.Common.{◌≡◌, ℕ, ◌<◌, ◌≤◌, Bool, true, false, [], ◌∷◌, length, codes, Option, Some, None, refl, sym, ap, ◌∙◌, ◌⊎◌, inl, inr, arith}
-use Rattle.cad_syntax.specs.declared.token.Sign.TheVariants as s
-use Rattle.cad_syntax.specs.declared.token.Keyword.{Keyword}
-use Rattle.cad_syntax.specs.declared.token.Keyword.TheVariants as k
-use Rattle.cad_syntax.specs.declared.token.TokenKind.TheVariants as kind
+use Rattle.cad_grammar.specs.declared.token.Sign.TheVariants as s
+use Rattle.cad_syntax.specs.declared.keyword.Keyword.{Keyword}
+use Rattle.cad_syntax.specs.declared.keyword.Keyword.TheVariants as k
+use Rattle.cad_grammar.specs.declared.token.TokenKind.TheVariants as kind
 use Rattle.cad_syntax.specs.declared.text.Name.{Name}
 use Rattle.cad_grammar.specs.declared.declaration.Access.{Access}
 use Rattle.cad_grammar.specs.Trees.{FunctionBlockTree, FunctionTree, InitTree}
 use Rattle.cad_grammar.specs.Spots.{Spot, then, either, after, keyword, word, name, opening}
-use Rattle.cad_grammar.specs.Levels.{token_strength}
+use Rattle.cad_parse_type.specs.Code.Levels.{token_strength}
 use Rattle.cad_grammar.specs.StatementGrammar.{variable_kind_of, variable_word}
 use Rattle.cad_grammar.specs.ProgramGrammar.{ReadsAccess, ReadsFunction, FunctionBlock, FunctionWith, Blocked, MaybeBlocked, ReadsInit, viewed}
 use Rattle.cad_grammar.specs.ProgramGrammar as g
-use Rattle.cad_parse_statement.specs.Reading.{maybe_annotated, statements_in}
-use Rattle.cad_parse.specs.Reading.{labelled, parameters, conditions_behind, function_block, blocked, maybe_blocked, block_of, function_with, initializer}
+use Rattle.cad_parse_statement.specs.Code.Reading.{maybe_annotated, statements_in}
+use Rattle.cad_parse.specs.Code.Reading.{labelled, parameters, conditions_behind, function_block, blocked, maybe_blocked, block_of, function_with, initializer}
 use Rattle.cad_parse_type.proofs.Heads.{none_of, then_some, head, keyword_head, keyword_shorter, keyword_no_sign, keyword_no_name, read_not, after_shorter, name_shorter, opening_shorter, opening_is}
 use Rattle.cad_parse_type.proofs.Climbs.{then_is, either_is, either_not, cases_of, IfFound, then_found, either_found, found_is}
 use Rattle.cad_parse_type.proofs.ListLaws.{IsSound}

@@ -1,13 +1,13 @@
 -- Imports: what is read is spelled, and what is spelled is read.
 use Rattle.std.proofs.Common.{◌≡◌, ℕ, zero, suc, ◌<◌, ◌≤◌, List, [], ◌∷◌, ◌++◌, length, codes, Some, None, sym, ap, ◌∙◌, subst, arith, append-nil, append_assoc}
-use Rattle.cad_syntax.specs.declared.token.Sign.TheVariants as s
-use Rattle.cad_syntax.specs.declared.token.Keyword.TheVariants as k
+use Rattle.cad_grammar.specs.declared.token.Sign.TheVariants as s
+use Rattle.cad_syntax.specs.declared.keyword.Keyword.TheVariants as k
 use Rattle.cad_syntax.specs.declared.text.Name.{Name}
 use Rattle.cad_grammar.specs.declared.declaration.Import.{Import}
 use Rattle.cad_grammar.specs.Spots.{Spot, read, after, keyword, word, name}
 use Rattle.cad_grammar.specs.ProgramGrammar.{hexadecimal_of, origin, ImportedNames, ReadsImport}
 use Rattle.cad_grammar.specs.ProgramGrammar as g
-use Rattle.cad_parse.specs.Reading.{imported, import}
+use Rattle.cad_parse.specs.Code.Reading.{imported, import}
 use Rattle.cad_parse_type.proofs.Heads.{none_of, then_some, after_head, after_shorter, keyword_shorter, name_shorter, read_shorter}
 use Rattle.cad_parse_type.proofs.Climbs.{then_is, either_is, either_not, IfFound, then_found, either_found, found_weaker, Shrinks}
 use Rattle.cad_parse.proofs.Found.{As, sound, sign_no_word, word_shorter}

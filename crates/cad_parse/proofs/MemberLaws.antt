@@ -1,14 +1,14 @@
 -- What is read of members is spelled, and what is spelled of them is read.
 use Rattle.std.proofs.Common.{◌≡◌, ◌⊎◌, ℕ, ◌<◌, ◌≤◌, Bool, List, length, Option, Some}
-use Rattle.cad_syntax.specs.declared.token.Keyword.TheVariants as k
+use Rattle.cad_syntax.specs.declared.keyword.Keyword.TheVariants as k
 use Rattle.cad_grammar.specs.declared.statement.VariableKind.{VariableKind}
 use Rattle.cad_grammar.specs.declared.declaration.Access.{Access}
 use Rattle.cad_grammar.specs.Trees.{ParameterTree, ConditionTree, FunctionTree, InitTree, FieldTree, EventTree, InterfaceMemberTree}
 use Rattle.cad_grammar.specs.Spots.{Spot, keyword}
-use Rattle.cad_grammar.specs.Levels.{token_strength}
+use Rattle.cad_parse_type.specs.Code.Levels.{token_strength}
 use Rattle.cad_grammar.specs.StatementGrammar.{variable_word}
 use Rattle.cad_grammar.specs.ProgramGrammar.{viewed, ReadsAccess, Parameters, Pre, Post, ReadsFunction, ReadsInit, ReadsField, ReadsEvent, ReadsInterfaceMember}
-use Rattle.cad_parse.specs.Reading.{accessed, parameters, conditions_behind, function, initializer, field, event, destruction, interface_member}
+use Rattle.cad_parse.specs.Code.Reading.{accessed, parameters, conditions_behind, function, initializer, field, event, destruction, interface_member}
 
 -- how a field, a function and an event are read behind an access
 pub record FieldRead (p : Spot) (f : FieldTree) (q : Spot) : Type 0 where

@@ -1,22 +1,22 @@
 -- Fields, events and members of interfaces: what is read is spelled, and what is spelled is read.
 use Rattle.std.proofs.Common.{◌≡◌, ℕ, ◌<◌, ◌≤◌, Bool, true, false, if◌then◌else◌, List, [], ◌∷◌, length, Some, None, refl, sym, ap, ◌∙◌, ◌⊎◌, inl, inr, subst, arith}
-use Rattle.cad_syntax.specs.declared.token.Sign.{Sign}
-use Rattle.cad_syntax.specs.declared.token.Sign.TheVariants as s
-use Rattle.cad_syntax.specs.declared.token.Keyword.TheVariants as k
-use Rattle.cad_syntax.specs.declared.token.TokenKind.TheVariants as kind
+use Rattle.cad_grammar.specs.declared.token.Sign.{Sign}
+use Rattle.cad_grammar.specs.declared.token.Sign.TheVariants as s
+use Rattle.cad_syntax.specs.declared.keyword.Keyword.TheVariants as k
+use Rattle.cad_grammar.specs.declared.token.TokenKind.TheVariants as kind
 use Rattle.cad_syntax.specs.declared.text.Name.{Name}
 use Rattle.cad_grammar.specs.declared.statement.VariableKind.{VariableKind}
 use Rattle.cad_grammar.specs.declared.declaration.Access.{Access}
 use Rattle.cad_grammar.specs.Trees.{FieldTree, EventParameterTree, EventTree, InterfaceMemberTree}
 use Rattle.cad_grammar.specs.Spots.{Spot, back, after, keyword, name, opening}
-use Rattle.cad_grammar.specs.Levels.{sign_strength, token_strength}
+use Rattle.cad_parse_type.specs.Code.Levels.{sign_strength, token_strength}
 use Rattle.cad_grammar.specs.Lists.{Listed}
 use Rattle.cad_grammar.specs.StatementGrammar.{variable_kind_of, variable_word}
 use Rattle.cad_grammar.specs.ProgramGrammar.{ReadsAccess, ReadsField, EventParameter, is_destruction, EventHead, ReadsEvent, ReadsInterfaceMember}
 use Rattle.cad_grammar.specs.ProgramGrammar as g
-use Rattle.cad_parse_type.specs.Reading.{annotation}
-use Rattle.cad_parse_expr.specs.Reading.{expression}
-use Rattle.cad_parse.specs.Reading.{accessed, labelled, parameter, function_with, field, event_parameter, event_parameter_list, event_parameters, event, destruction, unsorted, interface_member_with, interface_member}
+use Rattle.cad_parse_type.specs.Code.Reading.{annotation}
+use Rattle.cad_parse_expr.specs.Code.Reading.{expression}
+use Rattle.cad_parse.specs.Code.Reading.{accessed, labelled, parameter, function_with, field, event_parameter, event_parameter_list, event_parameters, event, destruction, unsorted, interface_member_with, interface_member}
 use Rattle.cad_parse_type.proofs.Heads.{some_same, then_some, head, name_head, name_no_sign, read_not, keyword_shorter, read_shorter, after_shorter, name_shorter, opening_shorter}
 use Rattle.cad_parse_type.proofs.Climbs.{then_is, either_is, either_not, IfFound, then_found, either_found, found_is}
 use Rattle.cad_parse_type.proofs.ListLaws.{IsSound, ReadBefore, listed_sound, listed_read, listed_exact, listed_shorter}

@@ -1,6 +1,6 @@
 -- What stands between the readers of members and the grammar.
 use Rattle.std.proofs.Common.{false}
-use Rattle.cad_syntax.specs.declared.token.Keyword.TheVariants as k
+use Rattle.cad_syntax.specs.declared.keyword.Keyword.TheVariants as k
 use Rattle.cad_parse_type.proofs.TypeLaws.{TypeLaws}
 use Rattle.cad_parse_expr.proofs.ExpressionLaws.{ExpressionLaws}
 use Rattle.cad_parse_statement.proofs.StatementLaws.{StatementLaws}

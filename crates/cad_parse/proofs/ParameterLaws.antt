@@ -1,20 +1,20 @@
 -- Parameters: what is read is spelled, and what is spelled is read.
 use Rattle.std.proofs.Common.{◌≡◌, ℕ, ◌<◌, ◌≤◌, Bool, List, [], ◌∷◌, length, Option, Some, refl, sym, ap, ◌∙◌, arith}
-use Rattle.cad_syntax.specs.declared.token.Sign.{Sign}
-use Rattle.cad_syntax.specs.declared.token.Sign.TheVariants as s
-use Rattle.cad_syntax.specs.declared.token.TokenKind.TheVariants as kind
+use Rattle.cad_grammar.specs.declared.token.Sign.{Sign}
+use Rattle.cad_grammar.specs.declared.token.Sign.TheVariants as s
+use Rattle.cad_grammar.specs.declared.token.TokenKind.TheVariants as kind
 use Rattle.cad_syntax.specs.declared.text.Name.{Name}
 use Rattle.cad_grammar.specs.Trees.{Annotation, ParameterTree}
 use Rattle.cad_grammar.specs.Spots.{Spot, after, name, opening}
-use Rattle.cad_grammar.specs.Levels.{sign_strength, token_strength}
+use Rattle.cad_parse_type.specs.Code.Levels.{sign_strength, token_strength}
 use Rattle.cad_grammar.specs.Lists as l
 use Rattle.cad_grammar.specs.StatementGrammar.{MaybeAnnotated}
 use Rattle.cad_grammar.specs.TypeGrammar.{Annotated}
 use Rattle.cad_grammar.specs.ProgramGrammar.{ReadsParameter, Parameters}
 use Rattle.cad_grammar.specs.ProgramGrammar as g
-use Rattle.cad_parse_type.specs.Reading.{annotation}
-use Rattle.cad_parse_statement.specs.Reading.{maybe_annotated}
-use Rattle.cad_parse.specs.Reading.{labelled, parameter_behind, parameter, parameter_list, parameters}
+use Rattle.cad_parse_type.specs.Code.Reading.{annotation}
+use Rattle.cad_parse_statement.specs.Code.Reading.{maybe_annotated}
+use Rattle.cad_parse.specs.Code.Reading.{labelled, parameter_behind, parameter, parameter_list, parameters}
 use Rattle.cad_parse_type.proofs.Heads.{some_same, then_some, head, after_shorter, after_left, name_shorter, name_head, name_no_sign, opening_shorter}
 use Rattle.cad_parse_type.proofs.Climbs.{then_is, either_is, either_not, IfFound, then_found, either_found}
 use Rattle.cad_parse_type.proofs.ListLaws.{IsSound, IsRead, ReadBefore, listed_sound, listed_read, listed_exact, listed_shorter, maybe_sound, maybe_exact, maybe_short, maybe_left}

@@ -1,7 +1,7 @@
 -- The longest program, and that there is one at most.
 use Rattle.std.proofs.Common.{◌≡◌, ◌⊎◌, inl, inr, ℕ, ◌<◌, ◌≤◌, List, [], ◌∷◌, length, Some, None, refl, sym, ap, ◌∙◌, subst, arith}
-use Rattle.cad_syntax.specs.declared.token.Token.{Token}
-use Rattle.cad_syntax.specs.Lexes.{Lexes, Stops}
+use Rattle.cad_grammar.specs.declared.token.Token.{Token}
+use Rattle.cad_grammar.specs.Lexes.{Lexes, Stops}
 use Rattle.cad_grammar.specs.declared.phase.Phase.{Phase}
 use Rattle.cad_grammar.specs.declared.phase.Phase.TheVariants.{Lex, Parse}
 use Rattle.cad_grammar.specs.declared.declaration.Import.{Import}
@@ -11,7 +11,7 @@ use Rattle.cad_grammar.specs.ProgramGrammar.{Chain, ReadsImport, ReadsDecl, Read
 use Rattle.cad_grammar.specs.ProgramGrammar as g
 use Rattle.cad_parse_type.proofs.Climbs.{then_is, Shrinks}
 use Rattle.cad_parse.specs.Program.{Parses, EndsAt, Refuses}
-use Rattle.cad_parse.specs.Reading.{chain, import, declaration, imports, declarations, program}
+use Rattle.cad_parse.specs.Code.Reading.{chain, import, declaration, imports, declarations, program}
 use Rattle.cad_parse.proofs.Chains.{chain_extends, chain_exact, chain_sound, chain_gives}
 
 -- what stands between the readers of imports and declarations and the grammar

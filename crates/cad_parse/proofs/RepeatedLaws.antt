@@ -1,15 +1,15 @@
 -- Items one after another up to a closing sign: what is read is spelled, and what is spelled is read.
 use Rattle.std.proofs.Common.{◌≡◌, ℕ, zero, suc, ◌<◌, ◌≤◌, Bool, List, [], ◌∷◌, ◌++◌, length, Some, None, sym, ap, ◌∙◌, subst, arith, append-nil, append_assoc}
-use Rattle.cad_syntax.specs.declared.token.Sign.{Sign}
+use Rattle.cad_grammar.specs.declared.token.Sign.{Sign}
 use Rattle.cad_grammar.specs.Spots.{Spot, after}
 use Rattle.cad_grammar.specs.Lists.{Repeated}
 use Rattle.cad_grammar.specs.Lists as l
-use Rattle.cad_grammar.specs.Levels.{sign_strength, token_strength}
-use Rattle.cad_parse_type.specs.Reading.{Reader}
+use Rattle.cad_parse_type.specs.Code.Levels.{sign_strength, token_strength}
+use Rattle.cad_parse_type.specs.Code.Reading.{Reader}
 use Rattle.cad_parse_type.proofs.Heads.{after_shorter, after_strength}
 use Rattle.cad_parse_type.proofs.Climbs.{then_is, either_is, either_not, IfFound, then_found, either_found, found_is, found_weaker}
 use Rattle.cad_parse_type.proofs.ListLaws.{IsSound}
-use Rattle.cad_parse.specs.Reading.{repeated}
+use Rattle.cad_parse.specs.Code.Reading.{repeated}
 
 -- what is found there is spelled
 abbrev pub As : {A : Type 0} → (Spot → A → Spot → Type 0) → Spot → A × Spot → Type 0

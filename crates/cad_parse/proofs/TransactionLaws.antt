@@ -1,27 +1,27 @@
 -- Transactions: what is read is spelled, and what is spelled is read.
 use Rattle.std.proofs.Common.{◌≡◌, ℕ, zero, suc, ◌<◌, ◌≤◌, Bool, List, [], ◌∷◌, ◌++◌, length, Option, Some, refl, sym, ap, ◌∙◌, subst, arith, append-nil, append_assoc}
-use Rattle.cad_syntax.specs.declared.token.Sign.TheVariants as s
-use Rattle.cad_syntax.specs.declared.token.Keyword.{Keyword}
-use Rattle.cad_syntax.specs.declared.token.Keyword.TheVariants as k
-use Rattle.cad_syntax.specs.declared.token.TokenKind.TheVariants as kind
+use Rattle.cad_grammar.specs.declared.token.Sign.TheVariants as s
+use Rattle.cad_syntax.specs.declared.keyword.Keyword.{Keyword}
+use Rattle.cad_syntax.specs.declared.keyword.Keyword.TheVariants as k
+use Rattle.cad_grammar.specs.declared.token.TokenKind.TheVariants as kind
 use Rattle.cad_syntax.specs.declared.text.Name.{Name}
 use Rattle.cad_grammar.specs.declared.statement.VariableKind.{VariableKind}
 use Rattle.cad_grammar.specs.Trees.{Annotation, ParameterTree, StmtTree, TransactionFieldTree, PrepareTree, TransactionTree}
 use Rattle.cad_grammar.specs.Spots.{Spot, after, keyword, opening}
 use Rattle.cad_grammar.specs.Lists.{Maybe}
 use Rattle.cad_grammar.specs.Lists as l
-use Rattle.cad_grammar.specs.Levels.{kind_strength, token_strength}
+use Rattle.cad_parse_type.specs.Code.Levels.{kind_strength, token_strength}
 use Rattle.cad_grammar.specs.StatementGrammar.{variable_word, variable_kind_of, Block}
 use Rattle.cad_grammar.specs.ProgramGrammar.{Typed, Parameters, Fields, Prepares, MaybeParameters, ReadsTransaction}
 use Rattle.cad_grammar.specs.ProgramGrammar as g
-use Rattle.cad_parse_type.specs.Reading.{Reader, annotation}
+use Rattle.cad_parse_type.specs.Code.Reading.{Reader, annotation}
 use Rattle.cad_parse_type.proofs.TypeLaws.{TypeLaws}
 use Rattle.cad_parse_type.proofs.Heads.{none_of, keyword_head, head_strength, after_strength, opening_is, after_shorter, name_shorter, read_shorter, keyword_shorter, opening_shorter}
 use Rattle.cad_parse_type.proofs.Climbs.{then_is, either_is, either_not, IfFound, then_found, either_found, found_is, found_weaker}
 use Rattle.cad_parse_type.proofs.ListLaws.{IsRead, maybe_sound, maybe_exact, maybe_short}
-use Rattle.cad_parse_statement.specs.Reading.{block_in}
+use Rattle.cad_parse_statement.specs.Code.Reading.{block_in}
 use Rattle.cad_parse_statement.proofs.StatementLaws.{StatementLaws}
-use Rattle.cad_parse.specs.Reading as r
+use Rattle.cad_parse.specs.Code.Reading as r
 use Rattle.cad_parse.proofs.MemberLaws.{MemberLaws}
 use Rattle.cad_parse.proofs.Firsts.{variable_weak}
 use Rattle.cad_parse.proofs.RepeatedLaws.{As}

@@ -1,3 +1,2 @@
-pub mod Reading
-pub mod Views
+pub mod Code
 pub mod Program

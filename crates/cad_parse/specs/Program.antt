@@ -1,7 +1,7 @@
 -- Which texts are programs, and where the others stop.
 use Rattle.std.specs.Prelude.{◌≡◌, ℕ, ◌≤◌, List, ◌∷◌, length}
-use Rattle.cad_syntax.specs.declared.token.Token.{Token}
-use Rattle.cad_syntax.specs.Lexes.{Lexes, Stops}
+use Rattle.cad_grammar.specs.declared.token.Token.{Token}
+use Rattle.cad_grammar.specs.Lexes.{Lexes, Stops}
 use Rattle.cad_grammar.specs.declared.phase.Phase.{Phase}
 use Rattle.cad_grammar.specs.declared.phase.Phase.TheVariants.{Lex, Parse}
 use Rattle.cad_grammar.specs.Trees.{ProgramTree}

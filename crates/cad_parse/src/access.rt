@@ -2,13 +2,13 @@
 ghost use Rattle.std.specs.Prelude.{◌≡◌, IfOk, option_map};
 ghost use Rattle.cad_grammar.specs.ProgramGrammar as grammar;
 ghost use Rattle.cad_grammar.specs.Spots.{read};
-ghost use Rattle.cad_parse.specs.Reading as spec;
-ghost use Rattle.cad_parse.specs.Views.{same};
-ghost use Rattle.cad_parse_type.specs.Views.{seen, seen_with};
+ghost use Rattle.cad_parse.specs.Code.Reading as spec;
+ghost use Rattle.cad_parse.specs.Code.Views.{same};
+ghost use Rattle.cad_parse_type.specs.Code.Views.{seen, seen_with};
 
-use cad_grammar::{Access, Entitlements};
+use cad_grammar::{Access, Entitlements, Sign, TokenKind};
 use cad_parse_type::{Spot, dotted, entitled};
-use cad_syntax::{Keyword, Name, Sign, TokenKind};
+use cad_syntax::{Keyword, Name};
 use std::alloc::{AllocError, Global};
 
 fn plain_access_named(name: &Name) -> Option<Access>
@@ -34,7 +34,7 @@ fn plain_access_of(kind: &TokenKind) -> Option<Access>
     }
 }
 
-#[tactic(auto, unfolding(cad_grammar::specs::Spots::read, cad_parse_type::specs::Views::seen))]
+#[tactic(auto, unfolding(cad_grammar::specs::Spots::read, cad_parse_type::specs::Code::Views::seen))]
 fn plain_word(spot: Spot<'_>) -> Option<(Access, Spot<'_>)>
     ensures { option_map (seen_with same) result ≡ read grammar.plain_access_of (seen spot.entry) }
 {
@@ -44,7 +44,7 @@ fn plain_word(spot: Spot<'_>) -> Option<(Access, Spot<'_>)>
     }
 }
 
-#[tactic(auto, unfolding(crate::specs::Reading::plain_access))]
+#[tactic(auto, unfolding(crate::specs::Code::Reading::plain_access))]
 fn plain_access(spot: Spot<'_>) -> Option<(Access, Spot<'_>)>
     ensures { option_map (seen_with same) result ≡ spec.plain_access (seen spot.entry) }
 {
@@ -53,7 +53,7 @@ fn plain_access(spot: Spot<'_>) -> Option<(Access, Spot<'_>)>
     Some((access, spot))
 }
 
-#[tactic(auto, unfolding(crate::specs::Reading::mapping_access))]
+#[tactic(auto, unfolding(crate::specs::Code::Reading::mapping_access))]
 fn mapping_access(alloc: Global, spot: Spot<'_>) -> Result<Option<(Access, Spot<'_>)>, AllocError>
     ensures { IfOk result (λ o. option_map (seen_with same) o ≡ spec.mapping_access (seen spot.entry)) }
 {
@@ -90,7 +90,7 @@ fn is_plain_access(entitlements: &Entitlements) -> bool
     }
 }
 
-#[tactic(auto, unfolding(crate::specs::Reading::entitled_access))]
+#[tactic(auto, unfolding(crate::specs::Code::Reading::entitled_access))]
 fn entitled_access(alloc: Global, spot: Spot<'_>) -> Result<Option<(Access, Spot<'_>)>, AllocError>
     ensures { IfOk result (λ o. option_map (seen_with same) o ≡ spec.entitled_access (seen spot.entry)) }
 {
@@ -104,7 +104,7 @@ fn entitled_access(alloc: Global, spot: Spot<'_>) -> Result<Option<(Access, Spot
 }
 
 // What stands between the parentheses, and `)`.
-#[tactic(auto, unfolding(crate::specs::Reading::allows))]
+#[tactic(auto, unfolding(crate::specs::Code::Reading::allows))]
 fn allows(alloc: Global, spot: Spot<'_>) -> Result<Option<(Access, Spot<'_>)>, AllocError>
     ensures { IfOk result (λ o. option_map (seen_with same) o ≡ spec.allows (seen spot.entry)) }
 {
@@ -118,7 +118,7 @@ fn allows(alloc: Global, spot: Spot<'_>) -> Result<Option<(Access, Spot<'_>)>, A
 }
 
 /// The access that begins at a spot, and the spot behind its `)`; None where none begins.
-#[tactic(auto, unfolding(crate::specs::Reading::accessed))]
+#[tactic(auto, unfolding(crate::specs::Code::Reading::accessed))]
 pub fn accessed(alloc: Global, spot: Spot<'_>) -> Result<Option<(Access, Spot<'_>)>, AllocError>
     ensures { IfOk result (λ o. option_map (seen_with same) o ≡ spec.accessed (seen spot.entry)) }
 {

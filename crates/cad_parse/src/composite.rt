@@ -1,22 +1,22 @@
 // Composites, interfaces, enums, entitlements and mappings, each behind its access and its first words.
 ghost use Rattle.std.specs.Prelude.{◌≡◌, [], length, IfOk, option_map};
-ghost use Rattle.cad_syntax.specs.declared.token.Sign.TheVariants as s;
+ghost use Rattle.cad_grammar.specs.declared.token.Sign.TheVariants as s;
 ghost use Rattle.cad_grammar.specs.Spots.{read};
 ghost use Rattle.cad_grammar.specs.ProgramGrammar as grammar;
 ghost use Rattle.cad_grammar.specs.Views.{composite_of, interface_of, enum_of, mapping_of};
-ghost use Rattle.cad_parse.specs.Reading as spec;
-ghost use Rattle.cad_parse.specs.Views.{same, items_in};
-ghost use Rattle.cad_parse_type.specs.Views.{seen, seen_with, seen_name};
+ghost use Rattle.cad_parse.specs.Code.Reading as spec;
+ghost use Rattle.cad_parse.specs.Code.Views.{same, items_in};
+ghost use Rattle.cad_parse_type.specs.Code.Views.{seen, seen_with, seen_name};
 
 use crate::access::accessed;
 use crate::function::labelled;
 use crate::member::{composite_members, interface_members};
 use cad_grammar::{
     Access, Composite, CompositeKind, Dotted, Entitlement, Enum, EnumCase, Interface, Mapping,
-    MappingItem,
+    MappingItem, Sign, TokenKind,
 };
 use cad_parse_type::{Spot, dotted, dotted_list};
-use cad_syntax::{Items, Keyword, Name, Sign, TokenKind};
+use cad_syntax::{Items, Keyword, Name};
 use std::alloc::{AllocError, Global};
 
 fn composite_kind_of(kind: &TokenKind) -> Option<CompositeKind>
@@ -30,7 +30,7 @@ fn composite_kind_of(kind: &TokenKind) -> Option<CompositeKind>
 }
 
 /// The `struct` or `resource` that comes next, and the spot behind it.
-#[tactic(auto, unfolding(cad_grammar::specs::Spots::read, cad_parse_type::specs::Views::seen))]
+#[tactic(auto, unfolding(cad_grammar::specs::Spots::read, cad_parse_type::specs::Code::Views::seen))]
 pub fn composite_word(spot: Spot<'_>) -> Option<(CompositeKind, Spot<'_>)>
     ensures { option_map (seen_with same) result ≡ read grammar.composite_kind_of (seen spot.entry) }
 {
@@ -40,7 +40,7 @@ pub fn composite_word(spot: Spot<'_>) -> Option<(CompositeKind, Spot<'_>)>
     }
 }
 
-#[tactic(auto, unfolding(crate::specs::Reading::conforms))]
+#[tactic(auto, unfolding(crate::specs::Code::Reading::conforms))]
 fn conforms(alloc: Global, spot: Spot<'_>) -> Result<Option<(Items<Dotted>, Spot<'_>)>, AllocError>
     ensures { IfOk result (λ o. option_map (seen_with same) o ≡ spec.conforms (seen spot.entry)) }
 {
@@ -53,7 +53,7 @@ fn conforms(alloc: Global, spot: Spot<'_>) -> Result<Option<(Items<Dotted>, Spot
     Ok(Some((all, inner)))
 }
 
-#[tactic(auto, unfolding(crate::specs::Reading::conforming))]
+#[tactic(auto, unfolding(crate::specs::Code::Reading::conforming))]
 fn conforming(
     alloc: Global,
     spot: Spot<'_>,
@@ -70,7 +70,7 @@ fn conforming(
 }
 
 /// The composite that begins behind its `struct` or `resource`, with its access at `from`, and the spot behind its `}`; None where none begins.
-#[tactic(auto, unfolding(crate::specs::Reading::composite, cad_parse_type::specs::Views::seen))]
+#[tactic(auto, unfolding(crate::specs::Code::Reading::composite, cad_parse_type::specs::Code::Views::seen))]
 pub fn composite<'a>(
     alloc: Global,
     from: Spot<'a>,
@@ -100,7 +100,7 @@ pub fn composite<'a>(
 }
 
 /// The interface that begins behind its `interface`, with its access at `from`, and the spot behind its `}`; None where none begins.
-#[tactic(auto, unfolding(crate::specs::Reading::interface, cad_parse_type::specs::Views::seen))]
+#[tactic(auto, unfolding(crate::specs::Code::Reading::interface, cad_parse_type::specs::Code::Views::seen))]
 pub fn interface<'a>(
     alloc: Global,
     from: Spot<'a>,
@@ -129,7 +129,7 @@ pub fn interface<'a>(
     Ok(Some((interface, from.back(end))))
 }
 
-#[tactic(auto, unfolding(crate::specs::Reading::enum_case))]
+#[tactic(auto, unfolding(crate::specs::Code::Reading::enum_case))]
 fn enum_case(alloc: Global, spot: Spot<'_>) -> Result<Option<(EnumCase, Spot<'_>)>, AllocError>
     ensures { IfOk result (λ o. option_map (seen_with same) o ≡ spec.enum_case (seen spot.entry)) }
 {
@@ -149,7 +149,7 @@ fn enum_case(alloc: Global, spot: Spot<'_>) -> Result<Option<(EnumCase, Spot<'_>
     Ok(Some((case, spot)))
 }
 
-#[tactic(auto, unfolding(crate::specs::Reading::repeated))]
+#[tactic(auto, unfolding(crate::specs::Code::Reading::repeated))]
 fn enum_cases(
     alloc: Global,
     spot: Spot<'_>,
@@ -172,7 +172,7 @@ fn enum_cases(
 }
 
 /// The enum that begins behind its `enum`, with its access at `from`, and the spot behind its `}`; None where none begins.
-#[tactic(auto, unfolding(crate::specs::Reading::enumeration, cad_parse_type::specs::Views::seen))]
+#[tactic(auto, unfolding(crate::specs::Code::Reading::enumeration, cad_parse_type::specs::Code::Views::seen))]
 pub fn enumeration<'a>(
     alloc: Global,
     from: Spot<'a>,
@@ -202,14 +202,14 @@ pub fn enumeration<'a>(
     Ok(Some((enumeration, from.back(end))))
 }
 
-#[tactic(auto, unfolding(crate::specs::Reading::identity))]
+#[tactic(auto, unfolding(crate::specs::Code::Reading::identity))]
 fn identity(spot: Spot<'_>) -> Option<Spot<'_>>
     ensures { option_map seen result ≡ spec.identity (seen spot.entry) }
 {
     spot.word("include")?.word("Identity")
 }
 
-#[tactic(auto, unfolding(crate::specs::Reading::pair))]
+#[tactic(auto, unfolding(crate::specs::Code::Reading::pair))]
 fn pair(alloc: Global, spot: Spot<'_>) -> Result<Option<(MappingItem, Spot<'_>)>, AllocError>
     ensures { IfOk result (λ o. option_map (seen_with same) o ≡ spec.pair (seen spot.entry)) }
 {
@@ -225,7 +225,7 @@ fn pair(alloc: Global, spot: Spot<'_>) -> Result<Option<(MappingItem, Spot<'_>)>
     Ok(Some((MappingItem::Pair(from, to), spot)))
 }
 
-#[tactic(auto, unfolding(crate::specs::Reading::mapping_entry))]
+#[tactic(auto, unfolding(crate::specs::Code::Reading::mapping_entry))]
 fn mapping_entry(
     alloc: Global,
     spot: Spot<'_>,
@@ -238,7 +238,7 @@ fn mapping_entry(
     }
 }
 
-#[tactic(auto, unfolding(crate::specs::Reading::repeated))]
+#[tactic(auto, unfolding(crate::specs::Code::Reading::repeated))]
 fn mapping_entries(
     alloc: Global,
     spot: Spot<'_>,
@@ -272,7 +272,7 @@ pub fn mapping_head(spot: Spot<'_>) -> Option<(&Name, Spot<'_>)>
 
 /// The entitlement mapping that begins behind its head, with its access at `from`, and the spot behind its `}`; None where
 /// none begins.
-#[tactic(auto, unfolding(crate::specs::Reading::mapping, cad_parse_type::specs::Views::seen))]
+#[tactic(auto, unfolding(crate::specs::Code::Reading::mapping, cad_parse_type::specs::Code::Views::seen))]
 pub fn mapping<'a>(
     alloc: Global,
     from: Spot<'a>,
@@ -294,7 +294,7 @@ pub fn mapping<'a>(
 }
 
 /// The entitlement whose name comes next, and the spot behind it; None where no name does.
-#[tactic(auto, unfolding(crate::specs::Reading::entitlement))]
+#[tactic(auto, unfolding(crate::specs::Code::Reading::entitlement))]
 pub fn entitlement<'a>(
     access: Access,
     spot: Spot<'a>,

@@ -1,10 +1,10 @@
 // Contracts and their members.
 ghost use Rattle.std.specs.Prelude.{◌≡◌, [], length, IfOk, option_map};
-ghost use Rattle.cad_syntax.specs.declared.token.Sign.TheVariants as s;
+ghost use Rattle.cad_grammar.specs.declared.token.Sign.TheVariants as s;
 ghost use Rattle.cad_grammar.specs.Views.{contract_of, contract_member_of};
-ghost use Rattle.cad_parse.specs.Reading as spec;
-ghost use Rattle.cad_parse.specs.Views.{contract_members_in};
-ghost use Rattle.cad_parse_type.specs.Views.{seen, seen_with};
+ghost use Rattle.cad_parse.specs.Code.Reading as spec;
+ghost use Rattle.cad_parse.specs.Code.Views.{contract_members_in};
+ghost use Rattle.cad_parse_type.specs.Code.Views.{seen, seen_with};
 
 use crate::access::accessed;
 use crate::composite::{
@@ -12,13 +12,13 @@ use crate::composite::{
 };
 use crate::function::{function, initializer, viewed};
 use crate::member::{destruction, event, field};
-use cad_grammar::{Access, CompositeKind, Contract, ContractMember};
+use cad_grammar::{Access, CompositeKind, Contract, ContractMember, Sign};
 use cad_parse_statement::variable_word;
 use cad_parse_type::Spot;
-use cad_syntax::{Keyword, Sign};
+use cad_syntax::Keyword;
 use std::alloc::{AllocError, Global};
 
-#[tactic(auto, unfolding(crate::specs::Reading::entitling))]
+#[tactic(auto, unfolding(crate::specs::Code::Reading::entitling))]
 fn entitling<'a>(
     alloc: Global,
     from: Spot<'a>,
@@ -39,7 +39,7 @@ fn entitling<'a>(
     Ok(Some((ContractMember::Entitlement(found), end)))
 }
 
-#[tactic(auto, unfolding(crate::specs::Reading::composing))]
+#[tactic(auto, unfolding(crate::specs::Code::Reading::composing))]
 fn composing<'a>(
     alloc: Global,
     from: Spot<'a>,
@@ -61,7 +61,7 @@ fn composing<'a>(
     Ok(Some((ContractMember::Composite(found), end)))
 }
 
-#[tactic(auto, unfolding(crate::specs::Reading::contract_member_with))]
+#[tactic(auto, unfolding(crate::specs::Code::Reading::contract_member_with))]
 fn contract_member_with<'a>(
     alloc: Global,
     from: Spot<'a>,
@@ -100,7 +100,7 @@ fn contract_member_with<'a>(
     Ok(Some((ContractMember::Function(found), end)))
 }
 
-#[tactic(auto, unfolding(crate::specs::Reading::contract_member))]
+#[tactic(auto, unfolding(crate::specs::Code::Reading::contract_member))]
 fn contract_member(
     alloc: Global,
     spot: Spot<'_>,
@@ -125,7 +125,7 @@ fn contract_member(
     Ok(Some((ContractMember::Init(found), end)))
 }
 
-#[tactic(auto, unfolding(crate::specs::Reading::repeated))]
+#[tactic(auto, unfolding(crate::specs::Code::Reading::repeated))]
 fn contract_members(
     alloc: Global,
     spot: Spot<'_>,
@@ -149,7 +149,7 @@ fn contract_members(
 
 /// The contract that begins behind its `contract`, with its access at `from`, and the spot behind its `}`; None where none
 /// begins.
-#[tactic(auto, unfolding(crate::specs::Reading::contract, cad_parse_type::specs::Views::seen))]
+#[tactic(auto, unfolding(crate::specs::Code::Reading::contract, cad_parse_type::specs::Code::Views::seen))]
 pub fn contract<'a>(
     alloc: Global,
     from: Spot<'a>,

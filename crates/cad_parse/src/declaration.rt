@@ -3,17 +3,17 @@ ghost use Rattle.std.specs.Prelude.{◌≡◌, [], length, IfOk, Some, option_ma
 ghost use Rattle.cad_grammar.specs.Spots.{read};
 ghost use Rattle.cad_grammar.specs.ProgramGrammar as grammar;
 ghost use Rattle.cad_grammar.specs.Views.{decl_of, program_of};
-ghost use Rattle.cad_parse.specs.Reading as spec;
-ghost use Rattle.cad_parse.specs.Views.{same, items_in, declarations_in};
-ghost use Rattle.cad_parse_type.specs.Views.{seen, seen_with};
+ghost use Rattle.cad_parse.specs.Code.Reading as spec;
+ghost use Rattle.cad_parse.specs.Code.Views.{same, items_in, declarations_in};
+ghost use Rattle.cad_parse_type.specs.Code.Views.{seen, seen_with};
 
 use crate::access::accessed;
 use crate::contract::contract;
 use crate::function::function;
 use crate::transaction::transaction;
-use cad_grammar::{Access, Decl, Import, Program};
+use cad_grammar::{Access, Decl, Import, Program, Sign, TokenKind};
 use cad_parse_type::Spot;
-use cad_syntax::{Items, Keyword, Names, Sign, TokenKind};
+use cad_syntax::{Items, Keyword, Names};
 use std::alloc::{AllocError, Global};
 
 fn hexadecimal_of(kind: &TokenKind) -> Option<u128>
@@ -28,7 +28,7 @@ fn hexadecimal_of(kind: &TokenKind) -> Option<u128>
     }
 }
 
-#[tactic(auto, unfolding(cad_grammar::specs::Spots::read, cad_parse_type::specs::Views::seen))]
+#[tactic(auto, unfolding(cad_grammar::specs::Spots::read, cad_parse_type::specs::Code::Views::seen))]
 fn hexadecimal(spot: Spot<'_>) -> Option<(u128, Spot<'_>)>
     ensures { option_map (seen_with same) result ≡ read grammar.hexadecimal_of (seen spot.entry) }
 {
@@ -47,7 +47,7 @@ fn origin(spot: Spot<'_>) -> Option<(u128, Spot<'_>)>
 }
 
 // The names behind the first up to the address. Behind a comma `from` is the word exactly where an address follows it.
-#[tactic(auto, unfolding(crate::specs::Reading::imported))]
+#[tactic(auto, unfolding(crate::specs::Code::Reading::imported))]
 fn imported(mut names: Names, spot: Spot<'_>) -> Result<Option<(Import, Spot<'_>)>, AllocError>
     ensures { IfOk result (λ o. option_map (seen_with same) o ≡ spec.imported (length spot.entry.tokens.now) names (seen spot.entry)) }
 {
@@ -71,7 +71,7 @@ fn imported(mut names: Names, spot: Spot<'_>) -> Result<Option<(Import, Spot<'_>
     Ok(None)
 }
 
-#[tactic(auto, unfolding(crate::specs::Reading::import, cad_parse_type::specs::Views::seen))]
+#[tactic(auto, unfolding(crate::specs::Code::Reading::import, cad_parse_type::specs::Code::Views::seen))]
 fn import(alloc: Global, spot: Spot<'_>) -> Result<Option<(Import, Spot<'_>)>, AllocError>
     ensures { IfOk result (λ o. option_map (seen_with same) o ≡ spec.import (seen spot.entry)) }
 {
@@ -86,7 +86,7 @@ fn import(alloc: Global, spot: Spot<'_>) -> Result<Option<(Import, Spot<'_>)>, A
     imported(names, spot)
 }
 
-#[tactic(auto, unfolding(crate::specs::Reading::accessed_declaration))]
+#[tactic(auto, unfolding(crate::specs::Code::Reading::accessed_declaration))]
 fn accessed_declaration<'a>(
     alloc: Global,
     from: Spot<'a>,
@@ -107,7 +107,7 @@ fn accessed_declaration<'a>(
     Ok(Some((Decl::Function(found), end)))
 }
 
-#[tactic(auto, unfolding(crate::specs::Reading::declaration))]
+#[tactic(auto, unfolding(crate::specs::Code::Reading::declaration))]
 fn declaration(alloc: Global, spot: Spot<'_>) -> Result<Option<(Decl, Spot<'_>)>, AllocError>
     ensures { IfOk result (λ o. option_map (seen_with decl_of) o ≡ spec.declaration (seen spot.entry)) }
 {
@@ -123,7 +123,7 @@ fn declaration(alloc: Global, spot: Spot<'_>) -> Result<Option<(Decl, Spot<'_>)>
     accessed_declaration(alloc, spot, access, behind)
 }
 
-#[tactic(auto, unfolding(crate::specs::Reading::chain))]
+#[tactic(auto, unfolding(crate::specs::Code::Reading::chain))]
 fn imports(alloc: Global, spot: Spot<'_>) -> Result<(Vec<Import>, Spot<'_>), AllocError>
     ensures { IfOk result (λ x. spec.chain spec.import (length spot.entry.tokens.now) [] (seen spot.entry) ≡ Some (seen_with items_in x)) }
 {
@@ -139,7 +139,7 @@ fn imports(alloc: Global, spot: Spot<'_>) -> Result<(Vec<Import>, Spot<'_>), All
     Ok((found, here))
 }
 
-#[tactic(auto, unfolding(crate::specs::Reading::chain))]
+#[tactic(auto, unfolding(crate::specs::Code::Reading::chain))]
 fn declarations(alloc: Global, spot: Spot<'_>) -> Result<(Vec<Decl>, Spot<'_>), AllocError>
     ensures { IfOk result (λ x. spec.chain spec.declaration (length spot.entry.tokens.now) [] (seen spot.entry) ≡ Some (seen_with declarations_in x)) }
 {
@@ -156,7 +156,7 @@ fn declarations(alloc: Global, spot: Spot<'_>) -> Result<(Vec<Decl>, Spot<'_>), 
 }
 
 /// The longest program from a spot on, and the spot behind it.
-#[tactic(auto, unfolding(crate::specs::Reading::program, cad_parse_type::specs::Views::seen))]
+#[tactic(auto, unfolding(crate::specs::Code::Reading::program, cad_parse_type::specs::Code::Views::seen))]
 pub fn program(alloc: Global, spot: Spot<'_>) -> Result<(Program, Spot<'_>), AllocError>
     ensures { IfOk result (λ x. spec.program (seen spot.entry) ≡ Some (seen_with program_of x)) }
 {

@@ -1,24 +1,26 @@
 // Parameters, conditions, blocks, functions and initializers.
 ghost use Rattle.std.specs.Prelude.{◌≡◌, [], length, IfOk, option_map};
-ghost use Rattle.cad_syntax.specs.declared.token.Sign.TheVariants as s;
+ghost use Rattle.cad_grammar.specs.declared.token.Sign.TheVariants as s;
 ghost use Rattle.cad_grammar.specs.Spots as spots;
 ghost use Rattle.cad_grammar.specs.ProgramGrammar as grammar;
 ghost use Rattle.cad_grammar.specs.Views.{parameter_of, condition_of, block_of, function_of, init_of};
-ghost use Rattle.cad_parse.specs.Reading as spec;
-ghost use Rattle.cad_parse.specs.Views.{same, parameters_in, conditions_in, maybe_conditions_in, maybe_block_of, maybe_expr_of};
-ghost use Rattle.cad_parse_expr.specs.Reading as expressions;
-ghost use Rattle.cad_parse_type.specs.Reading as types;
-ghost use Rattle.cad_parse_type.specs.Views.{seen, seen_with, seen_name};
+ghost use Rattle.cad_parse.specs.Code.Reading as spec;
+ghost use Rattle.cad_parse.specs.Code.Views.{same, parameters_in, conditions_in, maybe_conditions_in, maybe_block_of, maybe_expr_of};
+ghost use Rattle.cad_parse_expr.specs.Code.Reading as expressions;
+ghost use Rattle.cad_parse_type.specs.Code.Reading as types;
+ghost use Rattle.cad_parse_type.specs.Code.Views.{seen, seen_with, seen_name};
 
-use cad_grammar::{Access, Condition, Conditions, Expr, Function, FunctionBlock, Init, Parameter};
+use cad_grammar::{
+    Access, Condition, Conditions, Expr, Function, FunctionBlock, Init, Parameter, Sign,
+};
 use cad_parse_expr::expression;
 use cad_parse_statement::{begins_plainly, maybe_annotated, parted, statements};
 use cad_parse_type::{Spot, annotation};
-use cad_syntax::{Keyword, Name, Sign};
+use cad_syntax::{Keyword, Name};
 use std::alloc::{AllocError, Global};
 
 /// The name before a `:` that come next, and the spot behind the `:`.
-#[tactic(auto, unfolding(crate::specs::Reading::labelled))]
+#[tactic(auto, unfolding(crate::specs::Code::Reading::labelled))]
 pub fn labelled(spot: Spot<'_>) -> Option<(&Name, Spot<'_>)>
     ensures { option_map (seen_with seen_name) result ≡ spec.labelled (seen spot.entry) }
 {
@@ -27,7 +29,7 @@ pub fn labelled(spot: Spot<'_>) -> Option<(&Name, Spot<'_>)>
     Some((name, spot))
 }
 
-#[tactic(auto, unfolding(crate::specs::Reading::parameter_behind))]
+#[tactic(auto, unfolding(crate::specs::Code::Reading::parameter_behind))]
 fn parameter_behind<'a>(
     alloc: Global,
     label: &Name,
@@ -50,7 +52,7 @@ fn parameter_behind<'a>(
 }
 
 /// The parameter that begins at a spot, and the spot behind its type; None where none begins.
-#[tactic(auto, unfolding(crate::specs::Reading::parameter))]
+#[tactic(auto, unfolding(crate::specs::Code::Reading::parameter))]
 pub fn parameter(alloc: Global, spot: Spot<'_>) -> Result<Option<(Parameter, Spot<'_>)>, AllocError>
     ensures { IfOk result (λ o. option_map (seen_with parameter_of) o ≡ spec.parameter (seen spot.entry)) }
 {
@@ -71,7 +73,7 @@ pub fn parameter(alloc: Global, spot: Spot<'_>) -> Result<Option<(Parameter, Spo
     Ok(Some((parameter, end)))
 }
 
-#[tactic(auto, unfolding(cad_parse_type::specs::Reading::listed))]
+#[tactic(auto, unfolding(cad_parse_type::specs::Code::Reading::listed))]
 fn parameter_list(
     alloc: Global,
     spot: Spot<'_>,
@@ -100,7 +102,7 @@ fn parameter_list(
 }
 
 /// The parameters that begin at a spot with their `(`, and the spot behind their `)`; None where none begin.
-#[tactic(auto, unfolding(crate::specs::Reading::parameters, cad_parse_type::specs::Views::seen))]
+#[tactic(auto, unfolding(crate::specs::Code::Reading::parameters, cad_parse_type::specs::Code::Views::seen))]
 pub fn parameters(
     alloc: Global,
     spot: Spot<'_>,
@@ -117,7 +119,7 @@ pub fn parameters(
 }
 
 // A `:` and a message, or nothing.
-#[tactic(auto, unfolding(cad_parse_type::specs::Reading::maybe))]
+#[tactic(auto, unfolding(cad_parse_type::specs::Code::Reading::maybe))]
 fn message(alloc: Global, spot: Spot<'_>) -> Result<Option<(Option<Expr>, Spot<'_>)>, AllocError>
     ensures { IfOk result (λ o. option_map (seen_with maybe_expr_of) o ≡ types.maybe (spots.after s.Colon) expressions.expression (seen spot.entry)) }
 {
@@ -130,7 +132,7 @@ fn message(alloc: Global, spot: Spot<'_>) -> Result<Option<(Option<Expr>, Spot<'
     Ok(Some((Some(message), end)))
 }
 
-#[tactic(auto, unfolding(crate::specs::Reading::emitted))]
+#[tactic(auto, unfolding(crate::specs::Code::Reading::emitted))]
 fn emitted(alloc: Global, spot: Spot<'_>) -> Result<Option<(Condition, Spot<'_>)>, AllocError>
     ensures { IfOk result (λ o. option_map (seen_with condition_of) o ≡ spec.emitted (seen spot.entry)) }
 {
@@ -140,7 +142,7 @@ fn emitted(alloc: Global, spot: Spot<'_>) -> Result<Option<(Condition, Spot<'_>)
     Ok(Some((Condition::Emit(event), end)))
 }
 
-#[tactic(auto, unfolding(crate::specs::Reading::plain))]
+#[tactic(auto, unfolding(crate::specs::Code::Reading::plain))]
 fn plain(alloc: Global, spot: Spot<'_>) -> Result<Option<(Condition, Spot<'_>)>, AllocError>
     ensures { IfOk result (λ o. option_map (seen_with condition_of) o ≡ spec.plain (seen spot.entry)) }
 {
@@ -156,7 +158,7 @@ fn plain(alloc: Global, spot: Spot<'_>) -> Result<Option<(Condition, Spot<'_>)>,
     Ok(Some((Condition::Test { test, message }, spot)))
 }
 
-#[tactic(auto, unfolding(crate::specs::Reading::condition))]
+#[tactic(auto, unfolding(crate::specs::Code::Reading::condition))]
 fn condition(alloc: Global, spot: Spot<'_>) -> Result<Option<(Condition, Spot<'_>)>, AllocError>
     ensures { IfOk result (λ o. option_map (seen_with condition_of) o ≡ spec.condition (seen spot.entry)) }
 {
@@ -166,7 +168,7 @@ fn condition(alloc: Global, spot: Spot<'_>) -> Result<Option<(Condition, Spot<'_
     }
 }
 
-#[tactic(auto, unfolding(crate::specs::Reading::parted_condition))]
+#[tactic(auto, unfolding(crate::specs::Code::Reading::parted_condition))]
 fn parted_condition(
     alloc: Global,
     spot: Spot<'_>,
@@ -182,7 +184,7 @@ fn parted_condition(
     Ok(Some((condition, spot)))
 }
 
-#[tactic(auto, unfolding(crate::specs::Reading::repeated))]
+#[tactic(auto, unfolding(crate::specs::Code::Reading::repeated))]
 fn condition_list(
     alloc: Global,
     spot: Spot<'_>,
@@ -204,7 +206,7 @@ fn condition_list(
     Ok(None)
 }
 
-#[tactic(auto, unfolding(crate::specs::Reading::conditions, cad_parse_type::specs::Views::seen))]
+#[tactic(auto, unfolding(crate::specs::Code::Reading::conditions, cad_parse_type::specs::Code::Views::seen))]
 fn conditions(alloc: Global, spot: Spot<'_>) -> Result<Option<(Conditions, Spot<'_>)>, AllocError>
     ensures { IfOk result (λ o. option_map (seen_with conditions_in) o ≡ spec.conditions (seen spot.entry)) }
 {
@@ -219,7 +221,7 @@ fn conditions(alloc: Global, spot: Spot<'_>) -> Result<Option<(Conditions, Spot<
 
 /// The conditions behind this word, and the spot behind their `}`; nothing where another token comes next; None where no
 /// conditions stand behind it.
-#[tactic(auto, unfolding(cad_parse_type::specs::Reading::maybe))]
+#[tactic(auto, unfolding(cad_parse_type::specs::Code::Reading::maybe))]
 pub fn conditions_behind(
     alloc: Global,
     word: Keyword,
@@ -237,7 +239,7 @@ pub fn conditions_behind(
 }
 
 /// The block of a function that begins at a spot, with its conditions, and the spot behind its `}`; None where none begins.
-#[tactic(auto, unfolding(crate::specs::Reading::function_block))]
+#[tactic(auto, unfolding(crate::specs::Code::Reading::function_block))]
 pub fn function_block(
     alloc: Global,
     spot: Spot<'_>,
@@ -262,7 +264,7 @@ pub fn function_block(
     Ok(Some((FunctionBlock { pre, post, body }, spot.back(end))))
 }
 
-#[tactic(auto, unfolding(crate::specs::Reading::blocked))]
+#[tactic(auto, unfolding(crate::specs::Code::Reading::blocked))]
 fn blocked(
     alloc: Global,
     spot: Spot<'_>,
@@ -275,7 +277,7 @@ fn blocked(
     Ok(Some((Some(block), end)))
 }
 
-#[tactic(auto, unfolding(crate::specs::Reading::maybe_blocked))]
+#[tactic(auto, unfolding(crate::specs::Code::Reading::maybe_blocked))]
 fn maybe_blocked(
     alloc: Global,
     spot: Spot<'_>,
@@ -288,7 +290,7 @@ fn maybe_blocked(
     }
 }
 
-#[tactic(auto, unfolding(crate::specs::Reading::block_of))]
+#[tactic(auto, unfolding(crate::specs::Code::Reading::block_of))]
 fn block_of(
     alloc: Global,
     in_interface: bool,
@@ -316,7 +318,7 @@ pub fn viewed(keyword: Keyword, spot: Spot<'_>) -> Option<(bool, Spot<'_>)>
 
 /// The function that begins behind its access, in an interface or elsewhere, and the spot behind it; None where none begins.
 /// In an interface it may have no block.
-#[tactic(auto, unfolding(crate::specs::Reading::function_with))]
+#[tactic(auto, unfolding(crate::specs::Code::Reading::function_with))]
 pub fn function<'a>(
     alloc: Global,
     in_interface: bool,
@@ -352,7 +354,7 @@ pub fn function<'a>(
 }
 
 /// The initializer that begins behind its `init`, and the spot behind its block; None where none begins.
-#[tactic(auto, unfolding(crate::specs::Reading::initializer))]
+#[tactic(auto, unfolding(crate::specs::Code::Reading::initializer))]
 pub fn initializer(
     alloc: Global,
     is_view: bool,

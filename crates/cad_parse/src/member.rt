@@ -1,26 +1,26 @@
 // Fields, events, and the members of composites and interfaces.
 ghost use Rattle.std.specs.Prelude.{◌≡◌, [], length, IfOk, option_map};
-ghost use Rattle.cad_syntax.specs.declared.token.Sign.TheVariants as s;
+ghost use Rattle.cad_grammar.specs.declared.token.Sign.TheVariants as s;
 ghost use Rattle.cad_grammar.specs.ProgramGrammar as grammar;
 ghost use Rattle.cad_grammar.specs.Views.{field_of, event_of, event_parameter_of, composite_member_of, interface_member_of};
-ghost use Rattle.cad_parse.specs.Reading as spec;
-ghost use Rattle.cad_parse.specs.Views.{event_parameters_in, composite_members_in, interface_members_in};
-ghost use Rattle.cad_parse_type.specs.Reading as types;
-ghost use Rattle.cad_parse_type.specs.Views.{seen, seen_with};
+ghost use Rattle.cad_parse.specs.Code.Reading as spec;
+ghost use Rattle.cad_parse.specs.Code.Views.{event_parameters_in, composite_members_in, interface_members_in};
+ghost use Rattle.cad_parse_type.specs.Code.Reading as types;
+ghost use Rattle.cad_parse_type.specs.Code.Views.{seen, seen_with};
 
 use crate::access::accessed;
 use crate::function::{function, initializer, labelled, parameter, viewed};
 use cad_grammar::{
-    Access, CompositeMember, Event, EventParameter, Field, InterfaceMember, VariableKind,
+    Access, CompositeMember, Event, EventParameter, Field, InterfaceMember, Sign, VariableKind,
 };
 use cad_parse_expr::expression;
 use cad_parse_statement::variable_word;
 use cad_parse_type::{Spot, annotation};
-use cad_syntax::{Keyword, Name, Sign};
+use cad_syntax::{Keyword, Name};
 use std::alloc::{AllocError, Global};
 
 /// The field that begins behind its access and its `let` or `var`, and the spot behind its type; None where none begins.
-#[tactic(auto, unfolding(crate::specs::Reading::field))]
+#[tactic(auto, unfolding(crate::specs::Code::Reading::field))]
 pub fn field<'a>(
     alloc: Global,
     access: Access,
@@ -44,7 +44,7 @@ pub fn field<'a>(
     Ok(Some((field, spot)))
 }
 
-#[tactic(auto, unfolding(crate::specs::Reading::event_parameter))]
+#[tactic(auto, unfolding(crate::specs::Code::Reading::event_parameter))]
 fn event_parameter(
     alloc: Global,
     has_default: bool,
@@ -75,7 +75,7 @@ fn event_parameter(
     Ok(Some((parameter, spot)))
 }
 
-#[tactic(auto, unfolding(cad_parse_type::specs::Reading::listed))]
+#[tactic(auto, unfolding(cad_parse_type::specs::Code::Reading::listed))]
 fn event_parameter_list(
     alloc: Global,
     has_default: bool,
@@ -104,7 +104,7 @@ fn event_parameter_list(
     Ok(None)
 }
 
-#[tactic(auto, unfolding(crate::specs::Reading::event_parameters, cad_parse_type::specs::Views::seen))]
+#[tactic(auto, unfolding(crate::specs::Code::Reading::event_parameters, cad_parse_type::specs::Code::Views::seen))]
 fn event_parameters(
     alloc: Global,
     has_default: bool,
@@ -129,7 +129,7 @@ fn is_destruction(name: &Name) -> bool
 
 /// The event that begins behind its access and its `event`, which stands at `from`, and the spot behind its `)`; None where
 /// none begins.
-#[tactic(auto, unfolding(crate::specs::Reading::event))]
+#[tactic(auto, unfolding(crate::specs::Code::Reading::event))]
 pub fn event<'a>(
     alloc: Global,
     from: Spot<'a>,
@@ -154,7 +154,7 @@ pub fn event<'a>(
 
 /// The event `ResourceDestroyed` without access, behind its `event`, which stands at `from`, and the spot behind its `)`;
 /// None where another event or none begins.
-#[tactic(auto, unfolding(crate::specs::Reading::destruction))]
+#[tactic(auto, unfolding(crate::specs::Code::Reading::destruction))]
 pub fn destruction<'a>(
     alloc: Global,
     from: Spot<'a>,
@@ -179,7 +179,7 @@ pub fn destruction<'a>(
     Ok(Some((event, from.back(end))))
 }
 
-#[tactic(auto, unfolding(crate::specs::Reading::composite_member_with))]
+#[tactic(auto, unfolding(crate::specs::Code::Reading::composite_member_with))]
 fn composite_member_with<'a>(
     alloc: Global,
     access: Access,
@@ -205,7 +205,7 @@ fn composite_member_with<'a>(
     Ok(Some((CompositeMember::Function(found), end)))
 }
 
-#[tactic(auto, unfolding(crate::specs::Reading::composite_member))]
+#[tactic(auto, unfolding(crate::specs::Code::Reading::composite_member))]
 fn composite_member(
     alloc: Global,
     spot: Spot<'_>,
@@ -231,7 +231,7 @@ fn composite_member(
 }
 
 /// The members of a composite up to a `}`, and the spot behind that; None where other tokens stand before it.
-#[tactic(auto, unfolding(crate::specs::Reading::repeated))]
+#[tactic(auto, unfolding(crate::specs::Code::Reading::repeated))]
 pub fn composite_members(
     alloc: Global,
     spot: Spot<'_>,
@@ -253,7 +253,7 @@ pub fn composite_members(
     Ok(None)
 }
 
-#[tactic(auto, unfolding(crate::specs::Reading::unsorted))]
+#[tactic(auto, unfolding(crate::specs::Code::Reading::unsorted))]
 fn unsorted<'a>(
     alloc: Global,
     access: Access,
@@ -274,7 +274,7 @@ fn unsorted<'a>(
     Ok(Some((InterfaceMember::Field(field), end)))
 }
 
-#[tactic(auto, unfolding(crate::specs::Reading::interface_member_with))]
+#[tactic(auto, unfolding(crate::specs::Code::Reading::interface_member_with))]
 fn interface_member_with<'a>(
     alloc: Global,
     access: Access,
@@ -297,7 +297,7 @@ fn interface_member_with<'a>(
     Ok(Some((InterfaceMember::Function(found), end)))
 }
 
-#[tactic(auto, unfolding(crate::specs::Reading::interface_member))]
+#[tactic(auto, unfolding(crate::specs::Code::Reading::interface_member))]
 fn interface_member(
     alloc: Global,
     spot: Spot<'_>,
@@ -311,7 +311,7 @@ fn interface_member(
 }
 
 /// The members of an interface up to a `}`, and the spot behind that; None where other tokens stand before it.
-#[tactic(auto, unfolding(crate::specs::Reading::repeated))]
+#[tactic(auto, unfolding(crate::specs::Code::Reading::repeated))]
 pub fn interface_members(
     alloc: Global,
     spot: Spot<'_>,

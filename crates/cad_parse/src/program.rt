@@ -1,6 +1,6 @@
 // Programs.
 ghost use Rattle.std.specs.Prelude.{◌≡◌, List, ℕ, IfOk};
-ghost use Rattle.cad_syntax.specs.declared.token.Token.{Token};
+ghost use Rattle.cad_grammar.specs.declared.token.Token.{Token};
 ghost use Rattle.cad_grammar.specs.Trees.{ProgramTree};
 ghost use Rattle.cad_grammar.specs.Views.{program_of};
 ghost use Rattle.cad_grammar.specs.ProgramGrammar.{Spells};
@@ -9,10 +9,9 @@ ghost use Rattle.cad_grammar.specs.declared.phase.Phase.TheVariants as Phase;
 ghost use Rattle.cad_parse.specs.Program.{Parses, EndsAt, Refuses};
 
 use crate::declaration::program;
-use cad_grammar::{Phase, Program};
+use cad_grammar::{Phase, Program, Token};
 use cad_lex::{LexStop, lex, one_lexing, one_stop};
 use cad_parse_type::Spot;
-use cad_syntax::Token;
 use std::alloc::{AllocError, Global};
 
 /// Why nothing was read.

@@ -1,18 +1,18 @@
 // Transactions.
 ghost use Rattle.std.specs.Prelude.{◌≡◌, [], length, IfOk, Some, option_map};
 ghost use Rattle.cad_grammar.specs.Views.{transaction_of, transaction_field_of, prepare_of};
-ghost use Rattle.cad_parse.specs.Reading as spec;
-ghost use Rattle.cad_parse.specs.Views.{fields_in, maybe_parameters_in, maybe_prepare_of, maybe_stmts_in};
-ghost use Rattle.cad_parse_type.specs.Views.{seen, seen_with};
+ghost use Rattle.cad_parse.specs.Code.Reading as spec;
+ghost use Rattle.cad_parse.specs.Code.Views.{fields_in, maybe_parameters_in, maybe_prepare_of, maybe_stmts_in};
+ghost use Rattle.cad_parse_type.specs.Code.Views.{seen, seen_with};
 
 use crate::function::{conditions_behind, labelled, parameters};
-use cad_grammar::{Parameter, Prepare, Stmt, Transaction, TransactionField, VariableKind};
+use cad_grammar::{Parameter, Prepare, Sign, Stmt, Transaction, TransactionField, VariableKind};
 use cad_parse_statement::{block, variable_word};
 use cad_parse_type::{Spot, annotation};
-use cad_syntax::{Keyword, Sign};
+use cad_syntax::Keyword;
 use std::alloc::{AllocError, Global};
 
-#[tactic(auto, unfolding(crate::specs::Reading::transaction_field))]
+#[tactic(auto, unfolding(crate::specs::Code::Reading::transaction_field))]
 fn transaction_field(
     alloc: Global,
     kind: VariableKind,
@@ -34,7 +34,7 @@ fn transaction_field(
     Ok(Some((field, spot)))
 }
 
-#[tactic(auto, unfolding(crate::specs::Reading::fields))]
+#[tactic(auto, unfolding(crate::specs::Code::Reading::fields))]
 fn fields(
     alloc: Global,
     spot: Spot<'_>,
@@ -56,7 +56,7 @@ fn fields(
     Ok(Some((found, here)))
 }
 
-#[tactic(auto, unfolding(crate::specs::Reading::maybe_parameters))]
+#[tactic(auto, unfolding(crate::specs::Code::Reading::maybe_parameters))]
 fn maybe_parameters(
     alloc: Global,
     spot: Spot<'_>,
@@ -72,7 +72,7 @@ fn maybe_parameters(
     Ok(Some((Some(all), end)))
 }
 
-#[tactic(auto, unfolding(crate::specs::Reading::prepared))]
+#[tactic(auto, unfolding(crate::specs::Code::Reading::prepared))]
 fn prepared(alloc: Global, spot: Spot<'_>) -> Result<Option<(Prepare, Spot<'_>)>, AllocError>
     ensures { IfOk result (λ o. option_map (seen_with prepare_of) o ≡ spec.prepared (seen spot.entry)) }
 {
@@ -85,7 +85,7 @@ fn prepared(alloc: Global, spot: Spot<'_>) -> Result<Option<(Prepare, Spot<'_>)>
     Ok(Some((Prepare { parameters, body }, spot)))
 }
 
-#[tactic(auto, unfolding(crate::specs::Reading::prepare, cad_parse_type::specs::Reading::maybe))]
+#[tactic(auto, unfolding(crate::specs::Code::Reading::prepare, cad_parse_type::specs::Code::Reading::maybe))]
 fn prepare(alloc: Global, spot: Spot<'_>) -> Result<Option<(Option<Prepare>, Spot<'_>)>, AllocError>
     ensures { IfOk result (λ o. option_map (seen_with maybe_prepare_of) o ≡ spec.prepare (seen spot.entry)) }
 {
@@ -98,7 +98,7 @@ fn prepare(alloc: Global, spot: Spot<'_>) -> Result<Option<(Option<Prepare>, Spo
     Ok(Some((Some(prepare), end)))
 }
 
-#[tactic(auto, unfolding(crate::specs::Reading::execute, cad_parse_type::specs::Reading::maybe))]
+#[tactic(auto, unfolding(crate::specs::Code::Reading::execute, cad_parse_type::specs::Code::Reading::maybe))]
 fn execute(
     alloc: Global,
     spot: Spot<'_>,
@@ -116,7 +116,7 @@ fn execute(
 
 /// The transaction that begins behind its `transaction`, which stands at `from`, and the spot behind its `}`; None where none
 /// begins.
-#[tactic(auto, unfolding(crate::specs::Reading::transaction, cad_parse_type::specs::Views::seen))]
+#[tactic(auto, unfolding(crate::specs::Code::Reading::transaction, cad_parse_type::specs::Code::Views::seen))]
 pub fn transaction<'a>(
     alloc: Global,
     from: Spot<'a>,

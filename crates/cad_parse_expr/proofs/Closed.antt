@@ -1,10 +1,10 @@
 -- Type arguments that a `(` follows pass the walk over their tokens.
 use Rattle.std.proofs.Common.{◌≡◌, ℕ, zero, suc, ◌+◌, ◌-◌, ◌≤◌, ◌==◌, Bool, true, false, if◌then◌else◌, List, [], ◌∷◌, Option, Some, None, refl, sym, ap, ◌∙◌, arith}
 use Rattle.std.proofs.lemmas.Bool.Decides.{nat_tests}
-use Rattle.cad_syntax.specs.declared.token.Sign.{Sign}
-use Rattle.cad_syntax.specs.declared.token.Sign.TheVariants as s
-use Rattle.cad_syntax.specs.declared.token.Keyword.TheVariants as k
-use Rattle.cad_syntax.specs.declared.token.TokenKind.TheVariants as kind
+use Rattle.cad_grammar.specs.declared.token.Sign.{Sign}
+use Rattle.cad_grammar.specs.declared.token.Sign.TheVariants as s
+use Rattle.cad_syntax.specs.declared.keyword.Keyword.TheVariants as k
+use Rattle.cad_grammar.specs.declared.token.TokenKind.TheVariants as kind
 use Rattle.cad_syntax.specs.declared.text.Name.{Name}
 use Rattle.cad_grammar.specs.declared.level.TypePosition.{TypePosition}
 use Rattle.cad_grammar.specs.declared.type_expr.Entitlements.{Entitlements}
@@ -14,15 +14,15 @@ use Rattle.cad_grammar.specs.Lists.{Listed, Maybe}
 use Rattle.cad_grammar.specs.Lists as l
 use Rattle.cad_grammar.specs.TypeGrammar.{Dotted, Alternatives, Entitled, Authorized, ReadsType, ReadsCore, ReadsAnnotation, AnnotationList}
 use Rattle.cad_grammar.specs.TypeGrammar as g
-use Rattle.cad_parse_type.specs.Reading.{Found, arguments_at}
+use Rattle.cad_parse_type.specs.Code.Reading.{Found, arguments_at}
 use Rattle.cad_parse_type.proofs.Heads.{Taken, next_taken, read_taken, head_of, after_head, keyword_head, name_head, some_same, after_left, keyword_left, opened_is, opening_is, opening_left, resumed_is, resumed_left}
 use Rattle.cad_parse_type.proofs.Climbs.{then_is}
 use Rattle.cad_parse_type.proofs.Over.{question_after, questions_after}
 use Rattle.cad_parse_type.proofs.Whole.{type_laws as types}
 use Rattle.cad_parse_expr.specs.declared.closing.Mark.{Mark}
 use Rattle.cad_parse_expr.specs.declared.closing.Mark.TheVariants as mark
-use Rattle.cad_parse_expr.specs.Closing.{sign_mark, mark_of, is_parenthesis, opens_call, turn, walk, closes}
-use Rattle.cad_parse_expr.specs.Reading.{type_arguments}
+use Rattle.cad_parse_expr.specs.Code.Closing.{sign_mark, mark_of, is_parenthesis, opens_call, turn, walk, closes}
+use Rattle.cad_parse_expr.specs.Code.Reading.{type_arguments}
 
 -- ---- how the walk goes on
 

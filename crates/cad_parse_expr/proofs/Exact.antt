@@ -1,8 +1,8 @@
 -- What is spelled is read: the longest that the tokens begin with.
 use Rattle.std.proofs.Common.{◌≡◌, ℕ, zero, suc, ◌<◌, ◌≤◌, Bool, List, [], length, Some, None, refl, sym, ap, ◌∙◌, subst, inl, inr, arith}
-use Rattle.cad_syntax.specs.declared.token.Sign.{Sign}
-use Rattle.cad_syntax.specs.declared.token.Sign.TheVariants as s
-use Rattle.cad_syntax.specs.declared.token.Keyword.TheVariants as k
+use Rattle.cad_grammar.specs.declared.token.Sign.{Sign}
+use Rattle.cad_grammar.specs.declared.token.Sign.TheVariants as s
+use Rattle.cad_syntax.specs.declared.keyword.Keyword.TheVariants as k
 use Rattle.cad_grammar.specs.declared.level.Level.{Level}
 use Rattle.cad_grammar.specs.declared.level.Level.TheVariants as level
 use Rattle.cad_grammar.specs.declared.expression.BinaryOperator.TheVariants as op
@@ -11,17 +11,18 @@ use Rattle.cad_grammar.specs.Trees as tree
 use Rattle.cad_grammar.specs.Spots.{Spot, after, resumed}
 use Rattle.cad_grammar.specs.Lists.{Listed}
 use Rattle.cad_grammar.specs.Lists as l
-use Rattle.cad_grammar.specs.Levels.{tighter, level_number, sign_strength, sign_start, start, unary_word}
+use Rattle.cad_grammar.specs.Levels.{tighter, sign_start, unary_word}
+use Rattle.cad_parse_type.specs.Code.Levels.{level_number, sign_strength, start}
 use Rattle.cad_grammar.specs.ExpressionGrammar.{Tail, extend, Part, an_element, an_argument, an_entry, TreeOf, label, Reads, Tails, ReadsPart, Parts}
 use Rattle.cad_grammar.specs.ExpressionGrammar as gr
-use Rattle.cad_parse_type.specs.Reading.{Found, Reader, climb, listed}
+use Rattle.cad_parse_type.specs.Code.Reading.{Found, Reader, climb, listed}
 use Rattle.cad_parse_type.proofs.Heads.{none_of, some_same, after_shorter, after_left, joined_left, keyword_left, read_left, opened_is, opening_left, opening_head, resumed_is, resumed_left, name_head, head_start, not_after}
 use Rattle.cad_parse_type.proofs.Climbs.{then_is, either_is, either_not, cases_of, found_is, Shrinks, climb_more, climb_stops, climb_gives}
 use Rattle.cad_parse_type.proofs.ListLaws.{IsRead, listed_exact}
 use Rattle.cad_parse_type.proofs.TypeLaws.{Extends}
 use Rattle.cad_parse_type.proofs.Whole.{type_laws as types}
-use Rattle.cad_parse_expr.specs.Reading.{strength}
-use Rattle.cad_parse_expr.specs.Reading as r
+use Rattle.cad_parse_expr.specs.Code.Reading.{strength}
+use Rattle.cad_parse_expr.specs.Code.Reading as r
 use Rattle.cad_parse_expr.proofs.Sound.{TailAs, FallbackAs, BranchesAs, part_reader, part_sound, at_sound, read_sound, tail_sound, fallback_sound, branches_sound}
 use Rattle.cad_parse_expr.proofs.Strength.{IsChain, after_is, as_is, after_start, unary_start}
 use Rattle.cad_parse_expr.proofs.Facts.{label_is, label_left, typed_left, reads_shorter, tails_shorter, part_shorter, reads_falls, looser, chain_looser, tails_chain, reads_start, tails_strength}

@@ -2,11 +2,11 @@
 use Rattle.std.proofs.Common.{◌≡◌, ◌<◌, ◌≤◌, length, Some}
 use Rattle.cad_grammar.specs.Trees.{ExprTree}
 use Rattle.cad_grammar.specs.Spots.{Spot}
-use Rattle.cad_grammar.specs.Levels.{token_strength, start}
+use Rattle.cad_parse_type.specs.Code.Levels.{token_strength, start}
 use Rattle.cad_grammar.specs.ExpressionGrammar.{Expression}
 use Rattle.cad_parse_type.proofs.Heads.{Ends}
 use Rattle.cad_parse_type.proofs.TypeLaws.{Reaches}
-use Rattle.cad_parse_expr.specs.Reading.{expression}
+use Rattle.cad_parse_expr.specs.Code.Reading.{expression}
 
 -- what stands between the reader of expressions and the grammar
 pub record ExpressionLaws : Type 0 where

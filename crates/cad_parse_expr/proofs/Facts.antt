@@ -1,19 +1,20 @@
 -- What holds of all expressions that are spelled.
 use Rattle.std.proofs.Common.{◌≡◌, ◌<◌, ◌≤◌, List, length, Option, Some, None, refl, ap, ◌∙◌, arith}
-use Rattle.cad_syntax.specs.declared.token.Sign.{Sign}
-use Rattle.cad_syntax.specs.declared.token.Sign.TheVariants as s
-use Rattle.cad_syntax.specs.declared.token.Keyword.TheVariants as k
+use Rattle.cad_grammar.specs.declared.token.Sign.{Sign}
+use Rattle.cad_grammar.specs.declared.token.Sign.TheVariants as s
+use Rattle.cad_syntax.specs.declared.keyword.Keyword.TheVariants as k
 use Rattle.cad_syntax.specs.declared.text.Name.{Name}
 use Rattle.cad_grammar.specs.declared.level.Level.{Level}
 use Rattle.cad_grammar.specs.declared.level.Level.TheVariants as level
 use Rattle.cad_grammar.specs.Trees.{Annotation, ExprTree}
 use Rattle.cad_grammar.specs.Spots.{Spot, then, after, name, opened}
-use Rattle.cad_grammar.specs.Levels.{tighter, level_number, start}
+use Rattle.cad_grammar.specs.Levels.{tighter}
+use Rattle.cad_parse_type.specs.Code.Levels.{level_number, start}
 use Rattle.cad_grammar.specs.ExpressionGrammar.{TypeArguments, Tail, Part, TreeOf, label, Reads, Tails, ReadsPart, Parts}
 use Rattle.cad_grammar.specs.ExpressionGrammar as gr
 use Rattle.cad_parse_type.proofs.Heads.{some_same, after_shorter, after_left, after_ends, joined_shorter, joined_left, joined_ends, keyword_shorter, keyword_left, keyword_ends, read_shorter, read_left, read_ends, name_shorter, name_left, name_ends, name_head, keyword_head, head_start, opened_is, opened_ends, opening_shorter, opening_ends, resumed_left, resumed_shorter, resumed_ends, Ends, ends_trans}
 use Rattle.cad_parse_type.proofs.Whole.{type_laws as types}
-use Rattle.cad_parse_expr.specs.Reading.{strength}
+use Rattle.cad_parse_expr.specs.Code.Reading.{strength}
 use Rattle.cad_parse_expr.proofs.Strength.{HasOperators, IsChain, operator_is, operator_strength, arguments_strength, cast_is, dot_is, joined_is, after_start, opening_start, unary_start, literal_start}
 
 -- ---- pieces

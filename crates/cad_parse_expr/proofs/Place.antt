@@ -1,6 +1,6 @@
 -- The end of the last token.
 use Rattle.std.proofs.Common.{◌≡◌, suc, ◌-◌, ◌≤◌, List, [], ◌∷◌, length, slice_index_or, refl, ap, ◌∙◌, arith}
-use Rattle.cad_syntax.specs.declared.token.Token.{Token}
+use Rattle.cad_grammar.specs.declared.token.Token.{Token}
 use Rattle.cad_parse_expr.specs.Cursor.{last_end}
 
 pub last_of : (tokens : List Token) (x : Token) → 1 ≤ length tokens → (slice_index_or tokens (length tokens - 1) x).end ≡ last_end tokens

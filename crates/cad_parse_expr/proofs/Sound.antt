@@ -1,8 +1,8 @@
 -- What is read is spelled so.
 use Rattle.std.proofs.Common.{◌≡◌, ℕ, zero, suc, Bool, true, false, List, [], ◌∷◌, length, Option, Some, None, refl, sym, ap, ◌∙◌, subst}
-use Rattle.cad_syntax.specs.declared.token.Sign.{Sign}
-use Rattle.cad_syntax.specs.declared.token.Sign.TheVariants as s
-use Rattle.cad_syntax.specs.declared.token.Keyword.TheVariants as k
+use Rattle.cad_grammar.specs.declared.token.Sign.{Sign}
+use Rattle.cad_grammar.specs.declared.token.Sign.TheVariants as s
+use Rattle.cad_syntax.specs.declared.keyword.Keyword.TheVariants as k
 use Rattle.cad_grammar.specs.declared.level.Level.{Level}
 use Rattle.cad_grammar.specs.declared.level.Level.TheVariants as level
 use Rattle.cad_grammar.specs.declared.level.TypePosition.TheVariants as position
@@ -15,13 +15,13 @@ use Rattle.cad_grammar.specs.Levels.{tighter, operator, cast_word, unary_word, d
 use Rattle.cad_grammar.specs.ExpressionGrammar.{TypeArguments, HasNoTypeArguments, Tail, extend, Part, an_element, an_argument, an_entry, TreeOf, label, Reads, Tails, ReadsPart, Parts}
 use Rattle.cad_grammar.specs.ExpressionGrammar as gr
 use Rattle.cad_grammar.specs.TypeGrammar.{ReadsType}
-use Rattle.cad_parse_type.specs.Reading.{Found, Reader, listed, dotted, type_at, annotation_at, arguments_at}
+use Rattle.cad_parse_type.specs.Code.Reading.{Found, Reader, listed, dotted, type_at, annotation_at, arguments_at}
 use Rattle.cad_parse_type.proofs.Heads.{none_of, some_same}
 use Rattle.cad_parse_type.proofs.Climbs.{then_is, IfFound, then_found, either_found, found_is, if_found, found_weaker, climb_keeps}
 use Rattle.cad_parse_type.proofs.ListLaws.{listed_sound}
 use Rattle.cad_parse_type.proofs.Whole.{type_laws as types}
-use Rattle.cad_parse_expr.specs.Reading.{unless, over, type_arguments}
-use Rattle.cad_parse_expr.specs.Reading as r
+use Rattle.cad_parse_expr.specs.Code.Reading.{unless, over, type_arguments}
+use Rattle.cad_parse_expr.specs.Code.Reading as r
 
 abbrev pub ReadAs : Level → Spot → ExprTree × Spot → Type 0
 ReadAs l p x = Reads l p x.0 x.1

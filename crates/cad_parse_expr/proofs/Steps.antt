@@ -1,9 +1,9 @@
 -- The readers, a step at a time, over any reader of what stands one nesting deeper.
 use Rattle.std.proofs.Common.{◌≡◌, ◌<◌, Bool, List, [], length, Option, Some, None, refl, sym, ap, ◌∙◌}
-use Rattle.cad_syntax.specs.declared.token.Sign.{Sign}
-use Rattle.cad_syntax.specs.declared.token.Sign.TheVariants as s
-use Rattle.cad_syntax.specs.declared.token.Keyword.TheVariants as k
-use Rattle.cad_syntax.specs.declared.token.TokenKind.TheVariants as kind
+use Rattle.cad_grammar.specs.declared.token.Sign.{Sign}
+use Rattle.cad_grammar.specs.declared.token.Sign.TheVariants as s
+use Rattle.cad_syntax.specs.declared.keyword.Keyword.TheVariants as k
+use Rattle.cad_grammar.specs.declared.token.TokenKind.TheVariants as kind
 use Rattle.cad_syntax.specs.declared.text.Name.{Name}
 use Rattle.cad_syntax.specs.declared.address.Domain.{Domain}
 use Rattle.cad_grammar.specs.declared.level.Level.{Level}
@@ -16,13 +16,14 @@ use Rattle.cad_grammar.specs.declared.expression.CastKind.{CastKind}
 use Rattle.cad_grammar.specs.Trees.{TypeTree, Annotation, ExprTree, ArgumentTree, EntryTree, exprs_of, arguments_of, entries_of}
 use Rattle.cad_grammar.specs.Trees as tree
 use Rattle.cad_grammar.specs.Spots.{Spot, back, named, then, after, joined, keyword, name, opened, opening, resumed}
-use Rattle.cad_grammar.specs.Levels.{tighter, level_number, operator, cast_word, unary_of, unary_word, dot_of, dot, literal_of, literal, domain_name, question, questions}
+use Rattle.cad_grammar.specs.Levels.{tighter, operator, cast_word, unary_of, unary_word, dot_of, dot, literal_of, literal, domain_name, question, questions}
+use Rattle.cad_parse_type.specs.Code.Levels.{level_number}
 use Rattle.cad_grammar.specs.ExpressionGrammar.{TypeArguments, HasNoTypeArguments, Tail, operated, cast_to, member, indexed_by, called_with, forced, extend}
-use Rattle.cad_parse_type.specs.Reading.{Found, Reader, climb, dotted, type_at, annotation_at}
+use Rattle.cad_parse_type.specs.Code.Reading.{Found, Reader, climb, dotted, type_at, annotation_at}
 use Rattle.cad_parse_type.proofs.Heads.{none_of, some_same, after_head, joined_head, keyword_head, read_head, read_not, opening_is, opening_head, name_head, not_after, not_joined, name_no_sign, name_no_keyword, keyword_no_sign}
 use Rattle.cad_parse_type.proofs.Climbs.{then_is, then_not, either_is, either_not}
-use Rattle.cad_parse_expr.specs.Reading.{unless, over, type_arguments, strength}
-use Rattle.cad_parse_expr.specs.Reading as r
+use Rattle.cad_parse_expr.specs.Code.Reading.{unless, over, type_arguments, strength}
+use Rattle.cad_parse_expr.specs.Code.Reading as r
 use Rattle.cad_parse_expr.proofs.Sound.{type_arguments_exact, finds_no_type_arguments}
 use Rattle.cad_parse_expr.proofs.Strength.{HasOperators, IsChain, arguments_begin, no_arguments, operator_is, weak_arguments, weak_operator, weak_cast, weak_dot, weak_joined}
 

@@ -1,12 +1,12 @@
 -- At which level the next tokens go on, and which level they begin.
 use Rattle.std.proofs.Common.{◌≡◌, ℕ, ◌<◌, ◌≤◌, Bool, false, List, [], ◌∷◌, Option, Some, None, refl, sym, ap, ◌∙◌, arith}
-use Rattle.cad_syntax.specs.declared.token.Sign.{Sign}
-use Rattle.cad_syntax.specs.declared.token.Sign.TheVariants as s
-use Rattle.cad_syntax.specs.declared.token.Keyword.{Keyword}
-use Rattle.cad_syntax.specs.declared.token.Keyword.TheVariants as k
-use Rattle.cad_syntax.specs.declared.token.TokenKind.{TokenKind}
-use Rattle.cad_syntax.specs.declared.token.TokenKind.TheVariants as kind
-use Rattle.cad_syntax.specs.declared.token.Token.{Token}
+use Rattle.cad_grammar.specs.declared.token.Sign.{Sign}
+use Rattle.cad_grammar.specs.declared.token.Sign.TheVariants as s
+use Rattle.cad_syntax.specs.declared.keyword.Keyword.{Keyword}
+use Rattle.cad_syntax.specs.declared.keyword.Keyword.TheVariants as k
+use Rattle.cad_grammar.specs.declared.token.TokenKind.{TokenKind}
+use Rattle.cad_grammar.specs.declared.token.TokenKind.TheVariants as kind
+use Rattle.cad_grammar.specs.declared.token.Token.{Token}
 use Rattle.cad_grammar.specs.declared.level.Level.{Level}
 use Rattle.cad_grammar.specs.declared.level.Level.TheVariants as level
 use Rattle.cad_grammar.specs.declared.expression.BinaryOperator.{BinaryOperator}
@@ -14,12 +14,13 @@ use Rattle.cad_grammar.specs.declared.expression.UnaryOperator.{UnaryOperator}
 use Rattle.cad_grammar.specs.declared.expression.CastKind.{CastKind}
 use Rattle.cad_grammar.specs.Trees.{Annotation, ExprTree}
 use Rattle.cad_grammar.specs.Spots.{Spot, after, joined, keyword, opening}
-use Rattle.cad_grammar.specs.Levels.{level_number, operator_of, operator, cast_of, cast_word, unary_of, unary_word, dot_of, dot, literal_of, literal, sign_strength, kind_strength, token_strength, sign_start, keyword_start, kind_start, start_of, start}
+use Rattle.cad_grammar.specs.Levels.{operator_of, operator, cast_of, cast_word, unary_of, unary_word, dot_of, dot, literal_of, literal, sign_start, keyword_start, kind_start}
+use Rattle.cad_parse_type.specs.Code.Levels.{level_number, sign_strength, kind_strength, token_strength, start_of, start}
 use Rattle.cad_grammar.specs.ExpressionGrammar.{TypeArguments, HasNoTypeArguments}
 use Rattle.cad_grammar.specs.ExpressionGrammar as gr
 use Rattle.cad_parse_type.proofs.Heads.{none_of, some_same, head_of, head, after_head, joined_head, joined_strength, keyword_head, read_head, opening_head, head_strength, head_start}
 use Rattle.cad_parse_type.proofs.Climbs.{found_is}
-use Rattle.cad_parse_expr.specs.Reading.{type_arguments, strength_by, strength}
+use Rattle.cad_parse_expr.specs.Code.Reading.{type_arguments, strength_by, strength}
 use Rattle.cad_parse_expr.proofs.Sound.{ArgumentsAs, type_arguments_sound, type_arguments_exact, finds_no_type_arguments}
 
 -- ---- tables

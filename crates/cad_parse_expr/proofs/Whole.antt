@@ -2,16 +2,16 @@
 use Rattle.std.proofs.Common.{◌≡◌, ℕ, suc, ◌-◌, ◌<◌, ◌≤◌, List, [], ◌++◌, length, take, drop, Some, None, refl, sym, ap, ◌∙◌, subst, ◌⊎◌, inl, inr, arith, append_assoc, length-append}
 use Rattle.std.proofs.lemmas.List.{take-append-drop}
 use Rattle.std.proofs.Math.Seq.{drop-append_seam}
-use Rattle.cad_syntax.specs.declared.token.Token.{Token}
+use Rattle.cad_grammar.specs.declared.token.Token.{Token}
 use Rattle.cad_grammar.specs.declared.level.Level.TheVariants as level
 use Rattle.cad_grammar.specs.declared.level.TypePosition.TheVariants as position
 use Rattle.cad_grammar.specs.Trees.{TypeTree, ExprTree}
 use Rattle.cad_grammar.specs.Spots.{Spot, back}
-use Rattle.cad_grammar.specs.Levels.{strength_of, token_strength, start}
+use Rattle.cad_parse_type.specs.Code.Levels.{strength_of, token_strength, start}
 use Rattle.cad_grammar.specs.TypeGrammar.{ReadsType}
 use Rattle.cad_grammar.specs.ExpressionGrammar.{Reads, Expression}
 use Rattle.cad_grammar.specs.ExpressionGrammar as gr
-use Rattle.cad_parse_type.specs.Reading.{Found, type_at}
+use Rattle.cad_parse_type.specs.Code.Reading.{Found, type_at}
 use Rattle.cad_parse_type.proofs.Heads.{some_same, Ends}
 use Rattle.cad_parse_type.proofs.Climbs.{then_is, then_found, found_is}
 use Rattle.cad_parse_type.proofs.Over.{over_weak}
@@ -19,8 +19,8 @@ use Rattle.cad_parse_type.proofs.TypeLaws as t
 use Rattle.cad_parse_type.proofs.TypeLaws.{Extends}
 use Rattle.cad_parse_type.proofs.Whole.{type_laws as types}
 use Rattle.cad_parse_expr.specs.Cursor.{before, SpellsExpr, SpellsType}
-use Rattle.cad_parse_expr.specs.Reading.{strength}
-use Rattle.cad_parse_expr.specs.Reading as r
+use Rattle.cad_parse_expr.specs.Code.Reading.{strength}
+use Rattle.cad_parse_expr.specs.Code.Reading as r
 use Rattle.cad_parse_expr.proofs.Sound.{ReadAs, read_sound}
 use Rattle.cad_parse_expr.proofs.Strength.{nothing_follows, start_twelve}
 use Rattle.cad_parse_expr.proofs.Facts.{reads_shorter, reads_start, reads_ends}

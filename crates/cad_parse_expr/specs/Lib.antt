@@ -1,4 +1,2 @@
-pub mod Closing
+pub mod Code
 pub mod Cursor
-pub mod Reading
-pub mod Views

@@ -1,11 +1,12 @@
 // A test over the tokens alone, before type arguments are read: in `[a<b, a<b, ..` each `<` would be read as their begin, over
 // as many nestings as are left, and nothing would come of it.
 ghost use Rattle.std.specs.Prelude.{◌≡◌};
-ghost use Rattle.cad_parse_expr.specs.Closing as spec;
-ghost use Rattle.cad_parse_type.specs.Views.{seen};
+ghost use Rattle.cad_parse_expr.specs.Code.Closing as spec;
+ghost use Rattle.cad_parse_type.specs.Code.Views.{seen};
 
+use cad_grammar::{Sign, Token, TokenKind};
 use cad_parse_type::Spot;
-use cad_syntax::{Keyword, Sign, Token, TokenKind};
+use cad_syntax::Keyword;
 
 /// What a token may be in type arguments.
 #[derive(Clone, Copy, Debug)]
@@ -71,7 +72,7 @@ fn opens_call(tokens: &[Token]) -> bool
 }
 
 /// Whether the tokens behind a `<` may be type arguments that a `(` follows: never false where they are.
-#[tactic(auto, unfolding(crate::specs::Closing::walk, cad_parse_type::specs::Views::seen))]
+#[tactic(auto, unfolding(crate::specs::Code::Closing::walk, cad_parse_type::specs::Code::Views::seen))]
 pub fn closes(spot: Spot<'_>) -> bool
     ensures { result ≡ spec.closes (seen spot.entry) }
 {

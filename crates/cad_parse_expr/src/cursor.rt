@@ -1,17 +1,16 @@
 // Reading at a place of a list of tokens.
 ghost use Rattle.std.specs.Prelude.{◌≡◌, ℕ, [], ◌-◌, ◌<◌, ◌≤◌, ◌⊎◌, List, length, drop, IfOk, OnErr, Err};
-ghost use Rattle.cad_syntax.specs.declared.token.Token.{Token};
+ghost use Rattle.cad_grammar.specs.declared.token.Token.{Token};
 ghost use Rattle.cad_grammar.specs.declared.phase.Phase.{Phase};
 ghost use Rattle.cad_grammar.specs.Trees.{ExprTree, TypeTree};
 ghost use Rattle.cad_grammar.specs.Views.{expr_of, type_of};
-ghost use Rattle.cad_parse_type.specs.Views.{seen};
+ghost use Rattle.cad_parse_type.specs.Code.Views.{seen};
 ghost use Rattle.cad_parse_expr.specs.Cursor.{ahead, before, place, last_end, SpellsExpr, SpellsType};
 ghost use Rattle.cad_parse_expr.specs.declared.cursor.ParseStop.TheVariants.{Memory};
 
 use crate::reader::expression_at;
-use cad_grammar::{Expr, Phase, TypeExpr, TypePosition};
+use cad_grammar::{Expr, Phase, Token, TypeExpr, TypePosition};
 use cad_parse_type::{Spot, type_at};
-use cad_syntax::Token;
 use std::alloc::{AllocError, Global};
 
 /// How many nestings may be open at once.
@@ -69,7 +68,7 @@ fn place_of(tokens: &[Token], rest: &[Token]) -> usize
 }
 
 // The spot before these tokens.
-#[tactic(auto, unfolding(cad_parse_type::specs::Views::seen))]
+#[tactic(auto, unfolding(cad_parse_type::specs::Code::Views::seen))]
 fn before_tokens(left: u32, tokens: &[Token]) -> Spot<'_>
     ensures { seen result ≡ before left tokens.now }
 {

@@ -2,13 +2,13 @@
 ghost use Rattle.std.specs.Prelude.{◌≡◌, IfOk, option_map};
 ghost use Rattle.cad_grammar.specs.Levels as levels;
 ghost use Rattle.cad_grammar.specs.Views.{expr_of};
-ghost use Rattle.cad_parse_expr.specs.Reading as spec;
-ghost use Rattle.cad_parse_type.specs.Views.{seen, seen_with};
+ghost use Rattle.cad_parse_expr.specs.Code.Reading as spec;
+ghost use Rattle.cad_parse_type.specs.Code.Views.{seen, seen_with};
 
 use crate::word::domain_name;
-use cad_grammar::Expr;
+use cad_grammar::{Expr, Sign, TokenKind};
 use cad_parse_type::Spot;
-use cad_syntax::{Keyword, Path, Sign, TokenKind};
+use cad_syntax::{Keyword, Path};
 use std::alloc::AllocError;
 
 fn literal_of(kind: &TokenKind) -> Result<Option<Expr>, AllocError>
@@ -30,7 +30,7 @@ fn literal_of(kind: &TokenKind) -> Result<Option<Expr>, AllocError>
 }
 
 /// The expression of one token that is no name, and the spot behind it; None where none comes next.
-#[tactic(auto, unfolding(cad_grammar::specs::Spots::read, cad_parse_type::specs::Views::seen))]
+#[tactic(auto, unfolding(cad_grammar::specs::Spots::read, cad_parse_type::specs::Code::Views::seen))]
 pub fn literal(spot: Spot<'_>) -> Result<Option<(Expr, Spot<'_>)>, AllocError>
     ensures { IfOk result (λ o. option_map (seen_with expr_of) o ≡ levels.literal (seen spot.entry)) }
 {
@@ -44,7 +44,7 @@ pub fn literal(spot: Spot<'_>) -> Result<Option<(Expr, Spot<'_>)>, AllocError>
 }
 
 /// The name that comes next as an expression, and the spot behind it; None where none does.
-#[tactic(auto, unfolding(crate::specs::Reading::name_expr))]
+#[tactic(auto, unfolding(crate::specs::Code::Reading::name_expr))]
 pub fn name_expr(spot: Spot<'_>) -> Result<Option<(Expr, Spot<'_>)>, AllocError>
     ensures { IfOk result (λ o. option_map (seen_with expr_of) o ≡ spec.name_expr (seen spot.entry)) }
 {
@@ -55,7 +55,7 @@ pub fn name_expr(spot: Spot<'_>) -> Result<Option<(Expr, Spot<'_>)>, AllocError>
 }
 
 /// The path whose first `/` stands before the spot, and the spot behind it; None where none does.
-#[tactic(auto, unfolding(crate::specs::Reading::path_tail))]
+#[tactic(auto, unfolding(crate::specs::Code::Reading::path_tail))]
 pub fn path_tail(spot: Spot<'_>) -> Result<Option<(Expr, Spot<'_>)>, AllocError>
     ensures { IfOk result (λ o. option_map (seen_with expr_of) o ≡ spec.path_tail (seen spot.entry)) }
 {

@@ -3,21 +3,23 @@ ghost use Rattle.std.specs.Prelude.{◌≡◌, ◌<◌, [], length, IfOk, option
 ghost use Rattle.cad_grammar.specs.Levels as levels;
 ghost use Rattle.cad_grammar.specs.ExpressionGrammar as grammar;
 ghost use Rattle.cad_grammar.specs.Views.{expr_of, argument_of, entry_of};
-ghost use Rattle.cad_parse_expr.specs.Reading as spec;
-ghost use Rattle.cad_parse_type.specs.Reading.{climb, listed};
-ghost use Rattle.cad_parse_expr.specs.Views.{tail_of, exprs_in, arguments_in, entries_in, branches_of};
-ghost use Rattle.cad_parse_type.specs.Views.{seen, seen_with, annotations_in};
+ghost use Rattle.cad_parse_expr.specs.Code.Reading as spec;
+ghost use Rattle.cad_parse_type.specs.Code.Reading.{climb, listed};
+ghost use Rattle.cad_parse_expr.specs.Code.Views.{tail_of, exprs_in, arguments_in, entries_in, branches_of};
+ghost use Rattle.cad_parse_type.specs.Code.Views.{seen, seen_with, annotations_in};
 
 use crate::leaf::{literal, name_expr, path_tail};
 use crate::tail::{Tail, as_type, cast_tail, extend, force_tail, member_tail, type_arguments};
 use crate::word::{dot, label, operator, tighter, unary_word};
-use cad_grammar::{Argument, BinaryOperator, Entry, Expr, Level, TypeAnnotation, UnaryOperator};
+use cad_grammar::{
+    Argument, BinaryOperator, Entry, Expr, Level, Sign, TypeAnnotation, UnaryOperator,
+};
 use cad_parse_type::{Spot, dotted};
-use cad_syntax::{Keyword, Sign};
+use cad_syntax::Keyword;
 use std::alloc::{AllocError, Global};
 
 #[cycle(read)]
-#[tactic(auto, unfolding(crate::specs::Reading::argument))]
+#[tactic(auto, unfolding(crate::specs::Code::Reading::argument))]
 fn argument<'a>(
     alloc: Global,
     depth: u32,
@@ -39,7 +41,7 @@ fn argument<'a>(
 }
 
 #[cycle(read)]
-#[tactic(auto, unfolding(crate::specs::Reading::entry))]
+#[tactic(auto, unfolding(crate::specs::Code::Reading::entry))]
 fn entry<'a>(
     alloc: Global,
     depth: u32,
@@ -61,7 +63,7 @@ fn entry<'a>(
 
 #[cycle(read)]
 #[inline(never)]
-#[tactic(auto, unfolding(cad_parse_type::specs::Reading::listed))]
+#[tactic(auto, unfolding(cad_parse_type::specs::Code::Reading::listed))]
 fn arguments<'a>(
     alloc: Global,
     depth: u32,
@@ -94,7 +96,7 @@ fn arguments<'a>(
 
 #[cycle(read)]
 #[inline(never)]
-#[tactic(auto, unfolding(cad_parse_type::specs::Reading::listed))]
+#[tactic(auto, unfolding(cad_parse_type::specs::Code::Reading::listed))]
 fn elements<'a>(
     alloc: Global,
     depth: u32,
@@ -127,7 +129,7 @@ fn elements<'a>(
 
 #[cycle(read)]
 #[inline(never)]
-#[tactic(auto, unfolding(cad_parse_type::specs::Reading::listed))]
+#[tactic(auto, unfolding(cad_parse_type::specs::Code::Reading::listed))]
 fn entries<'a>(
     alloc: Global,
     depth: u32,
@@ -160,7 +162,7 @@ fn entries<'a>(
 
 #[cycle(read)]
 #[inline(never)]
-#[tactic(auto, unfolding(crate::specs::Reading::grouped))]
+#[tactic(auto, unfolding(crate::specs::Code::Reading::grouped))]
 fn grouped<'a>(
     alloc: Global,
     depth: u32,
@@ -183,7 +185,7 @@ fn grouped<'a>(
 
 #[cycle(read)]
 #[inline(never)]
-#[tactic(auto, unfolding(crate::specs::Reading::array, crate::specs::Reading::elements, cad_parse_type::specs::Views::seen))]
+#[tactic(auto, unfolding(crate::specs::Code::Reading::array, crate::specs::Code::Reading::elements, cad_parse_type::specs::Code::Views::seen))]
 fn array<'a>(
     alloc: Global,
     depth: u32,
@@ -203,7 +205,7 @@ fn array<'a>(
 
 #[cycle(read)]
 #[inline(never)]
-#[tactic(auto, unfolding(crate::specs::Reading::pairs, crate::specs::Reading::entries, cad_parse_type::specs::Views::seen))]
+#[tactic(auto, unfolding(crate::specs::Code::Reading::pairs, crate::specs::Code::Reading::entries, cad_parse_type::specs::Code::Views::seen))]
 fn pairs<'a>(
     alloc: Global,
     depth: u32,
@@ -223,7 +225,7 @@ fn pairs<'a>(
 
 #[cycle(read)]
 #[inline(never)]
-#[tactic(auto, unfolding(crate::specs::Reading::created, crate::specs::Reading::arguments, cad_parse_type::specs::Views::seen))]
+#[tactic(auto, unfolding(crate::specs::Code::Reading::created, crate::specs::Code::Reading::arguments, cad_parse_type::specs::Code::Views::seen))]
 fn created<'a>(
     alloc: Global,
     depth: u32,
@@ -250,7 +252,7 @@ fn created<'a>(
 
 #[cycle(read)]
 #[inline(never)]
-#[tactic(auto, unfolding(crate::specs::Reading::primary))]
+#[tactic(auto, unfolding(crate::specs::Code::Reading::primary))]
 fn primary<'a>(
     alloc: Global,
     depth: u32,
@@ -281,7 +283,7 @@ fn primary<'a>(
 
 #[cycle(read)]
 #[inline(never)]
-#[tactic(auto, unfolding(crate::specs::Reading::index_tail))]
+#[tactic(auto, unfolding(crate::specs::Code::Reading::index_tail))]
 fn index_tail<'a>(
     alloc: Global,
     depth: u32,
@@ -303,7 +305,7 @@ fn index_tail<'a>(
 
 #[cycle(read)]
 #[inline(never)]
-#[tactic(auto, unfolding(crate::specs::Reading::call_tail, crate::specs::Reading::arguments, cad_parse_type::specs::Views::seen))]
+#[tactic(auto, unfolding(crate::specs::Code::Reading::call_tail, crate::specs::Code::Reading::arguments, cad_parse_type::specs::Code::Views::seen))]
 fn call_tail<'a>(
     alloc: Global,
     depth: u32,
@@ -323,7 +325,7 @@ fn call_tail<'a>(
 
 #[cycle(read)]
 #[inline(never)]
-#[tactic(auto, unfolding(crate::specs::Reading::typed_call))]
+#[tactic(auto, unfolding(crate::specs::Code::Reading::typed_call))]
 fn typed_call<'a>(
     alloc: Global,
     depth: u32,
@@ -339,7 +341,7 @@ fn typed_call<'a>(
 }
 
 #[cycle(read)]
-#[tactic(auto, unfolding(crate::specs::Reading::postfix_tail))]
+#[tactic(auto, unfolding(crate::specs::Code::Reading::postfix_tail))]
 fn postfix_tail<'a>(
     alloc: Global,
     depth: u32,
@@ -367,7 +369,7 @@ fn postfix_tail<'a>(
 
 #[cycle(read)]
 #[inline(never)]
-#[tactic(auto, unfolding(crate::specs::Reading::operation))]
+#[tactic(auto, unfolding(crate::specs::Code::Reading::operation))]
 fn operation<'a>(
     alloc: Global,
     depth: u32,
@@ -393,7 +395,7 @@ fn operation<'a>(
 }
 
 #[cycle(read)]
-#[tactic(auto, unfolding(crate::specs::Reading::tail))]
+#[tactic(auto, unfolding(crate::specs::Code::Reading::tail))]
 fn tail<'a>(
     alloc: Global,
     depth: u32,
@@ -413,7 +415,7 @@ fn tail<'a>(
 // The expression with all tails of the level that follow it.
 #[cycle(read)]
 #[inline(never)]
-#[tactic(auto, unfolding(cad_parse_type::specs::Reading::climb))]
+#[tactic(auto, unfolding(cad_parse_type::specs::Code::Reading::climb))]
 fn with_tails<'a>(
     alloc: Global,
     depth: u32,
@@ -437,7 +439,7 @@ fn with_tails<'a>(
 }
 
 #[cycle(read)]
-#[tactic(auto, unfolding(crate::specs::Reading::chain, cad_parse_type::specs::Views::seen))]
+#[tactic(auto, unfolding(crate::specs::Code::Reading::chain, cad_parse_type::specs::Code::Views::seen))]
 fn chain<'a>(
     alloc: Global,
     depth: u32,
@@ -455,7 +457,7 @@ fn chain<'a>(
 
 #[cycle(read)]
 #[inline(never)]
-#[tactic(auto, unfolding(crate::specs::Reading::unary))]
+#[tactic(auto, unfolding(crate::specs::Code::Reading::unary))]
 fn unary<'a>(
     alloc: Global,
     depth: u32,
@@ -475,7 +477,7 @@ fn unary<'a>(
 
 #[cycle(read)]
 #[inline(never)]
-#[tactic(auto, unfolding(crate::specs::Reading::borrowed))]
+#[tactic(auto, unfolding(crate::specs::Code::Reading::borrowed))]
 fn borrowed<'a>(
     alloc: Global,
     depth: u32,
@@ -497,7 +499,7 @@ fn borrowed<'a>(
 
 #[cycle(read)]
 #[inline(never)]
-#[tactic(auto, unfolding(crate::specs::Reading::prefix))]
+#[tactic(auto, unfolding(crate::specs::Code::Reading::prefix))]
 fn prefix<'a>(
     alloc: Global,
     depth: u32,
@@ -516,7 +518,7 @@ fn prefix<'a>(
 
 #[cycle(read)]
 #[inline(never)]
-#[tactic(auto, unfolding(crate::specs::Reading::fallback))]
+#[tactic(auto, unfolding(crate::specs::Code::Reading::fallback))]
 fn fallback<'a>(
     alloc: Global,
     depth: u32,
@@ -535,7 +537,7 @@ fn fallback<'a>(
 
 #[cycle(read)]
 #[inline(never)]
-#[tactic(auto, unfolding(crate::specs::Reading::coalesce))]
+#[tactic(auto, unfolding(crate::specs::Code::Reading::coalesce))]
 fn coalesce<'a>(
     alloc: Global,
     depth: u32,
@@ -556,7 +558,7 @@ fn coalesce<'a>(
 
 #[cycle(read)]
 #[inline(never)]
-#[tactic(auto, unfolding(crate::specs::Reading::branches))]
+#[tactic(auto, unfolding(crate::specs::Code::Reading::branches))]
 fn branches<'a>(
     alloc: Global,
     depth: u32,
@@ -584,7 +586,7 @@ fn branches<'a>(
 
 #[cycle(read)]
 #[inline(never)]
-#[tactic(auto, unfolding(crate::specs::Reading::conditional))]
+#[tactic(auto, unfolding(crate::specs::Code::Reading::conditional))]
 fn conditional<'a>(
     alloc: Global,
     depth: u32,
@@ -605,7 +607,7 @@ fn conditional<'a>(
 }
 
 #[cycle(read)]
-#[tactic(auto, unfolding(crate::specs::Reading::at))]
+#[tactic(auto, unfolding(crate::specs::Code::Reading::at))]
 fn at<'a>(
     alloc: Global,
     depth: u32,
@@ -649,7 +651,7 @@ fn read<'a>(
 }
 
 /// The longest expression from a spot on, and the spot behind it, where its signs are still open; None where none begins.
-#[tactic(auto, unfolding(crate::specs::Reading::expression_at, crate::specs::Reading::read, cad_parse_type::specs::Views::seen))]
+#[tactic(auto, unfolding(crate::specs::Code::Reading::expression_at, crate::specs::Code::Reading::read, cad_parse_type::specs::Code::Views::seen))]
 pub fn expression_at(alloc: Global, spot: Spot<'_>) -> Result<Option<(Expr, Spot<'_>)>, AllocError>
     ensures { IfOk result (λ o. option_map (seen_with expr_of) o ≡ spec.expression_at (seen spot.entry)) }
 {
@@ -657,7 +659,7 @@ pub fn expression_at(alloc: Global, spot: Spot<'_>) -> Result<Option<(Expr, Spot
 }
 
 /// The longest expression that stands by itself from a spot on, and the spot behind it; None where none begins.
-#[tactic(auto, unfolding(crate::specs::Reading::expression))]
+#[tactic(auto, unfolding(crate::specs::Code::Reading::expression))]
 pub fn expression(alloc: Global, spot: Spot<'_>) -> Result<Option<(Expr, Spot<'_>)>, AllocError>
     ensures { IfOk result (λ o. option_map (seen_with expr_of) o ≡ spec.expression (seen spot.entry)) }
 {

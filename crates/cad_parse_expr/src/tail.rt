@@ -2,17 +2,17 @@
 ghost use Rattle.std.specs.Prelude.{◌≡◌, IfOk, option_map};
 ghost use Rattle.cad_grammar.specs.Views.{expr_of, type_of};
 ghost use Rattle.cad_grammar.specs.ExpressionGrammar as grammar;
-ghost use Rattle.cad_parse_expr.specs.Reading as spec;
-ghost use Rattle.cad_parse_expr.specs.Views.{tail_of};
-ghost use Rattle.cad_parse_type.specs.Views.{seen, seen_with, annotations_in};
+ghost use Rattle.cad_parse_expr.specs.Code.Reading as spec;
+ghost use Rattle.cad_parse_expr.specs.Code.Views.{tail_of};
+ghost use Rattle.cad_parse_type.specs.Code.Views.{seen, seen_with, annotations_in};
 
 use crate::closing::closes;
 use crate::word::cast_word;
 use cad_grammar::{
-    Argument, BinaryOperator, CastKind, Expr, TypeAnnotation, TypeExpr, TypePosition,
+    Argument, BinaryOperator, CastKind, Expr, Sign, TypeAnnotation, TypeExpr, TypePosition,
 };
 use cad_parse_type::{Spot, annotation_at, arguments_at, question, questions, type_at};
-use cad_syntax::{Keyword, Name, Sign};
+use cad_syntax::{Keyword, Name};
 use std::alloc::{AllocError, Global};
 
 #[derive(Debug, Drop)]
@@ -49,7 +49,7 @@ pub fn extend(alloc: Global, a: Expr, tail: Tail) -> Result<Expr, AllocError>
 
 /// The type arguments behind the name before the spot, and the spot behind them, where a `(` comes next; None where there
 /// are none.
-#[tactic(auto, unfolding(crate::specs::Reading::type_arguments, cad_parse_type::specs::Views::seen))]
+#[tactic(auto, unfolding(crate::specs::Code::Reading::type_arguments, cad_parse_type::specs::Code::Views::seen))]
 pub fn type_arguments(
     alloc: Global,
     spot: Spot<'_>,
@@ -76,7 +76,7 @@ pub fn type_arguments(
 
 /// An `as` form and its type, and the spot behind it; None where none comes next, and where a `?` follows that belongs to
 /// the type.
-#[tactic(auto, unfolding(crate::specs::Reading::cast_tail))]
+#[tactic(auto, unfolding(crate::specs::Code::Reading::cast_tail))]
 pub fn cast_tail(alloc: Global, spot: Spot<'_>) -> Result<Option<(Tail, Spot<'_>)>, AllocError>
     ensures { IfOk result (λ o. option_map (seen_with tail_of) o ≡ spec.cast_tail (seen spot.entry)) }
 {
@@ -99,7 +99,7 @@ pub fn cast_tail(alloc: Global, spot: Spot<'_>) -> Result<Option<(Tail, Spot<'_>
 }
 
 /// The member whose `.` or `?.` stands before the spot, and the spot behind it; None where there is none.
-#[tactic(auto, unfolding(crate::specs::Reading::member_tail))]
+#[tactic(auto, unfolding(crate::specs::Code::Reading::member_tail))]
 pub fn member_tail(
     is_optional: bool,
     spot: Spot<'_>,
@@ -116,7 +116,7 @@ pub fn member_tail(
 }
 
 /// The `!` before the spot, and the spot behind it; None where no nesting is left.
-#[tactic(auto, unfolding(crate::specs::Reading::force_tail))]
+#[tactic(auto, unfolding(crate::specs::Code::Reading::force_tail))]
 pub fn force_tail(spot: Spot<'_>) -> Option<(Tail, Spot<'_>)>
     ensures { option_map (seen_with tail_of) result ≡ spec.force_tail (seen spot.entry) }
 {
@@ -126,7 +126,7 @@ pub fn force_tail(spot: Spot<'_>) -> Option<(Tail, Spot<'_>)>
 
 /// The type behind the `as` that comes next, and the spot behind it; None where there is none, and where a `?` follows that
 /// belongs to the type.
-#[tactic(auto, unfolding(crate::specs::Reading::as_type))]
+#[tactic(auto, unfolding(crate::specs::Code::Reading::as_type))]
 pub fn as_type(alloc: Global, spot: Spot<'_>) -> Result<Option<(TypeExpr, Spot<'_>)>, AllocError>
     ensures { IfOk result (λ o. option_map (seen_with type_of) o ≡ spec.as_type (seen spot.entry)) }
 {

@@ -2,11 +2,11 @@
 ghost use Rattle.std.specs.Prelude.{◌≡◌, option_map};
 ghost use Rattle.cad_grammar.specs.Levels as levels;
 ghost use Rattle.cad_grammar.specs.ExpressionGrammar as grammar;
-ghost use Rattle.cad_parse_type.specs.Views.{seen, seen_with, seen_name};
+ghost use Rattle.cad_parse_type.specs.Code.Views.{seen, seen_with, seen_name};
 
-use cad_grammar::{BinaryOperator, CastKind, Level, UnaryOperator};
+use cad_grammar::{BinaryOperator, CastKind, Level, Sign, TokenKind, UnaryOperator};
 use cad_parse_type::Spot;
-use cad_syntax::{Domain, Keyword, Name, Sign, TokenKind};
+use cad_syntax::{Domain, Keyword, Name};
 
 /// The next tighter level.
 pub fn tighter(level: Level) -> Level
@@ -59,7 +59,7 @@ fn operator_of(level: Level, kind: &TokenKind) -> Option<BinaryOperator>
 }
 
 /// The operator of a level that comes next, and the spot behind it.
-#[tactic(auto, unfolding(cad_grammar::specs::Spots::read, cad_parse_type::specs::Views::seen))]
+#[tactic(auto, unfolding(cad_grammar::specs::Spots::read, cad_parse_type::specs::Code::Views::seen))]
 pub fn operator(level: Level, spot: Spot<'_>) -> Option<(BinaryOperator, Spot<'_>)>
     ensures { option_map (seen_with (λ o. o)) result ≡ levels.operator level (seen spot.entry) }
 {
@@ -84,7 +84,7 @@ fn cast_of(kind: &TokenKind) -> Option<CastKind>
 }
 
 /// The `as`, `as?` or `as!` that comes next, and the spot behind it.
-#[tactic(auto, unfolding(cad_grammar::specs::Spots::read, cad_parse_type::specs::Views::seen))]
+#[tactic(auto, unfolding(cad_grammar::specs::Spots::read, cad_parse_type::specs::Code::Views::seen))]
 pub fn cast_word(spot: Spot<'_>) -> Option<(CastKind, Spot<'_>)>
     ensures { option_map (seen_with (λ o. o)) result ≡ levels.cast_word (seen spot.entry) }
 {
@@ -111,7 +111,7 @@ fn unary_of(kind: &TokenKind) -> Option<UnaryOperator>
 }
 
 /// The operator before an expression that comes next, and the spot behind it.
-#[tactic(auto, unfolding(cad_grammar::specs::Spots::read, cad_parse_type::specs::Views::seen))]
+#[tactic(auto, unfolding(cad_grammar::specs::Spots::read, cad_parse_type::specs::Code::Views::seen))]
 pub fn unary_word(spot: Spot<'_>) -> Option<(UnaryOperator, Spot<'_>)>
     ensures { option_map (seen_with (λ o. o)) result ≡ levels.unary_word (seen spot.entry) }
 {
@@ -135,7 +135,7 @@ fn dot_of(kind: &TokenKind) -> Option<bool>
 }
 
 /// Whether the `.` or `?.` that comes next has a `?`, and the spot behind it.
-#[tactic(auto, unfolding(cad_grammar::specs::Spots::read, cad_parse_type::specs::Views::seen))]
+#[tactic(auto, unfolding(cad_grammar::specs::Spots::read, cad_parse_type::specs::Code::Views::seen))]
 pub fn dot(spot: Spot<'_>) -> Option<(bool, Spot<'_>)>
     ensures { option_map (seen_with (λ o. o)) result ≡ levels.dot (seen spot.entry) }
 {
@@ -170,7 +170,7 @@ fn domain_of(kind: &TokenKind) -> Option<Domain>
 }
 
 /// The domain of a path that comes next, and the spot behind it.
-#[tactic(auto, unfolding(cad_grammar::specs::Spots::read, cad_parse_type::specs::Views::seen))]
+#[tactic(auto, unfolding(cad_grammar::specs::Spots::read, cad_parse_type::specs::Code::Views::seen))]
 pub fn domain_name(spot: Spot<'_>) -> Option<(Domain, Spot<'_>)>
     ensures { option_map (seen_with (λ o. o)) result ≡ levels.domain_name (seen spot.entry) }
 {

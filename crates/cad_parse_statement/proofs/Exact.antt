@@ -1,17 +1,17 @@
 -- What is spelled is read.
 use Rattle.std.proofs.Common.{◌≡◌, ℕ, zero, suc, ◌<◌, ◌≤◌, List, [], ◌∷◌, ◌++◌, length, Some, None, refl, sym, ap, ◌∙◌, arith, append-nil, append_assoc}
-use Rattle.cad_syntax.specs.declared.token.Sign.TheVariants as s
-use Rattle.cad_syntax.specs.declared.token.Keyword.TheVariants as k
+use Rattle.cad_grammar.specs.declared.token.Sign.TheVariants as s
+use Rattle.cad_syntax.specs.declared.keyword.Keyword.TheVariants as k
 use Rattle.cad_grammar.specs.Trees.{StmtTree, OtherwiseTree, CaseTree, Default}
 use Rattle.cad_grammar.specs.Spots.{Spot, after, keyword, opening}
-use Rattle.cad_grammar.specs.Levels.{token_strength}
+use Rattle.cad_parse_type.specs.Code.Levels.{token_strength}
 use Rattle.cad_grammar.specs.StatementGrammar.{ReadsStmt, ReadsIf, ReadsOtherwise, ReadsCases, ReadsDefault, Block, Statements, ends, parted, transfer, transfer_of}
 use Rattle.cad_grammar.specs.StatementGrammar as g
 use Rattle.cad_parse_type.proofs.TypeLaws.{TypeLaws}
 use Rattle.cad_parse_type.proofs.Heads.{after_head, after_shorter, keyword_shorter, keyword_left, after_left, read_not, sign_no_keyword, opening_is, opening_left, opened_is}
 use Rattle.cad_parse_expr.proofs.ExpressionLaws.{ExpressionLaws}
-use Rattle.cad_parse_statement.specs.Reading.{Sort, a_statement, an_if}
-use Rattle.cad_parse_statement.specs.Reading as r
+use Rattle.cad_parse_statement.specs.Code.Reading.{Sort, a_statement, an_if}
+use Rattle.cad_parse_statement.specs.Code.Reading as r
 use Rattle.cad_parse_statement.proofs.PartLaws.{valued}
 use Rattle.cad_parse_statement.proofs.Facts.{sign_weak, transfer_weak, ends_some, begins_no_end, tested_left, loops_left, seconded_weak, stmt_shorter, stmt_left, stmt_begins, block_left, statements_left, cases_left, statements_short, default_short, parted_short, parted_left, parted_weak}
 use Rattle.cad_parse_statement.proofs.Steps as steps

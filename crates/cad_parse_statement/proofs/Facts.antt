@@ -1,25 +1,26 @@
 -- What holds of all statements that are spelled: they take tokens, give their nestings back, and begin with a token of their own.
 use Rattle.std.proofs.Common.{◌≡◌, ◌<◌, ◌≤◌, Bool, true, false, not, ◌||◌, List, [], ◌∷◌, length, Option, Some, None, refl, sym, ap, ◌∙◌, ◌⊎◌, inl, inr, subst, arith}
-use Rattle.cad_syntax.specs.declared.token.Sign.{Sign}
-use Rattle.cad_syntax.specs.declared.token.Sign.TheVariants as s
-use Rattle.cad_syntax.specs.declared.token.Keyword.{Keyword}
-use Rattle.cad_syntax.specs.declared.token.Keyword.TheVariants as k
-use Rattle.cad_syntax.specs.declared.token.TokenKind.{TokenKind}
-use Rattle.cad_syntax.specs.declared.token.TokenKind.TheVariants as kind
-use Rattle.cad_syntax.specs.declared.token.Token.{Token}
+use Rattle.cad_grammar.specs.declared.token.Sign.{Sign}
+use Rattle.cad_grammar.specs.declared.token.Sign.TheVariants as s
+use Rattle.cad_syntax.specs.declared.keyword.Keyword.{Keyword}
+use Rattle.cad_syntax.specs.declared.keyword.Keyword.TheVariants as k
+use Rattle.cad_grammar.specs.declared.token.TokenKind.{TokenKind}
+use Rattle.cad_grammar.specs.declared.token.TokenKind.TheVariants as kind
+use Rattle.cad_grammar.specs.declared.token.Token.{Token}
 use Rattle.cad_syntax.specs.declared.text.Name.{Name}
 use Rattle.cad_grammar.specs.declared.statement.VariableKind.{VariableKind}
 use Rattle.cad_grammar.specs.declared.statement.Transfer.{Transfer}
 use Rattle.cad_grammar.specs.Trees.{Annotation, TestTree, SecondTree, StmtTree, OtherwiseTree, CaseTree, Default}
 use Rattle.cad_grammar.specs.Spots.{Spot, either, only_if, holds_of, holds, after, keyword}
-use Rattle.cad_grammar.specs.Levels.{sign_strength, kind_strength, strength_of, token_strength, sign_start, keyword_start, kind_start, start_of, start}
+use Rattle.cad_grammar.specs.Levels.{sign_start, keyword_start, kind_start}
+use Rattle.cad_parse_type.specs.Code.Levels.{sign_strength, kind_strength, strength_of, token_strength, start_of, start}
 use Rattle.cad_grammar.specs.StatementGrammar.{MaybeAnnotated, Tested, Seconded, Loops, ReadsStmt, ReadsIf, ReadsOtherwise, ReadsCases, ReadsDefault, Block, Statements, variable_word, variable_kind_of, transfer, transfer_of, begins_no_statement, begins_plainly, ends_statements, ends, breaks_or_ends, parted}
 use Rattle.cad_grammar.specs.StatementGrammar as g
 use Rattle.cad_grammar.specs.Lists as lists
 use Rattle.cad_parse_type.proofs.TypeLaws.{TypeLaws}
 use Rattle.cad_parse_type.proofs.Heads.{some_same, head_of, head, head_strength, read_head, keyword_head, after_strength, after_shorter, after_left, keyword_shorter, keyword_left, name_shorter, name_left, read_shorter, read_left, opened_is, opening_shorter}
 use Rattle.cad_parse_expr.proofs.ExpressionLaws.{ExpressionLaws}
-use Rattle.cad_parse_statement.specs.Reading.{NamedValue}
+use Rattle.cad_parse_statement.specs.Code.Reading.{NamedValue}
 use Rattle.cad_parse_statement.proofs.PartLaws.{Valued, valued}
 
 -- ---- what stands behind a statement

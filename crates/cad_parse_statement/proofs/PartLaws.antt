@@ -1,7 +1,7 @@
 -- The parts of statements: what is read is spelled, and what is spelled is read.
 use Rattle.std.proofs.Common.{◌≡◌, Option, Some}
-use Rattle.cad_syntax.specs.declared.token.Sign.TheVariants as s
-use Rattle.cad_syntax.specs.declared.token.Keyword.TheVariants as k
+use Rattle.cad_grammar.specs.declared.token.Sign.TheVariants as s
+use Rattle.cad_syntax.specs.declared.keyword.Keyword.TheVariants as k
 use Rattle.cad_syntax.specs.declared.text.Name.{Name}
 use Rattle.cad_grammar.specs.declared.statement.VariableKind.{VariableKind}
 use Rattle.cad_grammar.specs.declared.statement.Transfer.{Transfer}
@@ -12,14 +12,14 @@ use Rattle.cad_grammar.specs.TypeGrammar.{Annotated}
 use Rattle.cad_grammar.specs.ExpressionGrammar.{Expression}
 use Rattle.cad_grammar.specs.StatementGrammar.{MaybeAnnotated, Tested, Seconded, Loops, ReadsStmt, variable_word, variable_kind_of, transfer, transfer_of}
 use Rattle.cad_grammar.specs.StatementGrammar as g
-use Rattle.cad_parse_type.specs.Reading.{annotation}
+use Rattle.cad_parse_type.specs.Code.Reading.{annotation}
 use Rattle.cad_parse_type.proofs.TypeLaws.{TypeLaws}
 use Rattle.cad_parse_type.proofs.Climbs.{IfFound, then_found, either_found, found_is}
 use Rattle.cad_parse_type.proofs.ListLaws.{maybe_sound}
-use Rattle.cad_parse_expr.specs.Reading.{expression}
+use Rattle.cad_parse_expr.specs.Code.Reading.{expression}
 use Rattle.cad_parse_expr.proofs.ExpressionLaws.{ExpressionLaws}
-use Rattle.cad_parse_statement.specs.Reading.{NamedValue}
-use Rattle.cad_parse_statement.specs.Reading as r
+use Rattle.cad_parse_statement.specs.Code.Reading.{NamedValue}
+use Rattle.cad_parse_statement.specs.Code.Reading as r
 
 -- Name [ ":" TypeAnnotation ] Transfer Expression
 pub data Valued : Spot → NamedValue → Spot → Type 0 where

@@ -1,20 +1,20 @@
 -- What is read is spelled so.
 use Rattle.std.proofs.Common.{◌≡◌, ℕ, zero, suc, Bool, true, false, if◌then◌else◌, List, [], ◌∷◌, ◌++◌, length, Option, Some, refl, sym, ◌∙◌, subst, append-nil, append_assoc}
-use Rattle.cad_syntax.specs.declared.token.Sign.TheVariants as s
-use Rattle.cad_syntax.specs.declared.token.Keyword.TheVariants as k
+use Rattle.cad_grammar.specs.declared.token.Sign.TheVariants as s
+use Rattle.cad_syntax.specs.declared.keyword.Keyword.TheVariants as k
 use Rattle.cad_grammar.specs.declared.statement.VariableKind.{VariableKind}
 use Rattle.cad_grammar.specs.Trees.{StmtTree, OtherwiseTree, CaseTree, Default}
 use Rattle.cad_grammar.specs.Spots.{Spot, after, keyword, opened, opening}
 use Rattle.cad_grammar.specs.ExpressionGrammar.{Expression}
 use Rattle.cad_grammar.specs.StatementGrammar.{ReadsStmt, ReadsIf, ReadsOtherwise, ReadsCases, ReadsDefault, Block, Statements, variable_word, transfer, begins_plainly, ends, parted, value_follows}
 use Rattle.cad_grammar.specs.StatementGrammar as g
-use Rattle.cad_parse_type.specs.Reading.{Reader}
+use Rattle.cad_parse_type.specs.Code.Reading.{Reader}
 use Rattle.cad_parse_type.proofs.TypeLaws.{TypeLaws}
 use Rattle.cad_parse_type.proofs.Climbs.{IfFound, then_found, either_found, found_is, found_weaker}
-use Rattle.cad_parse_expr.specs.Reading.{expression}
+use Rattle.cad_parse_expr.specs.Code.Reading.{expression}
 use Rattle.cad_parse_expr.proofs.ExpressionLaws.{ExpressionLaws}
-use Rattle.cad_parse_statement.specs.Reading.{Sort, a_statement, an_if}
-use Rattle.cad_parse_statement.specs.Reading as r
+use Rattle.cad_parse_statement.specs.Code.Reading.{Sort, a_statement, an_if}
+use Rattle.cad_parse_statement.specs.Code.Reading as r
 use Rattle.cad_parse_statement.proofs.PartLaws.{ValuedAs, TestedAs, SecondedAs, LoopsAs, variable_made, loops_sound, named_value_sound, tested_sound, seconded_sound}
 
 if_found : {A : Type 0} (P : A → Type 0) (b : Bool) (x y : Option A) → (b ≡ true → IfFound P x) → (b ≡ false → IfFound P y) → IfFound P (if b then x else y)

@@ -3,7 +3,7 @@ use Rattle.std.proofs.Common.{◌≡◌, ◌<◌, ◌≤◌, List, length, Some}
 use Rattle.cad_grammar.specs.Trees.{StmtTree}
 use Rattle.cad_grammar.specs.Spots.{Spot}
 use Rattle.cad_grammar.specs.StatementGrammar.{Block, Statements}
-use Rattle.cad_parse_statement.specs.Reading.{statements_in, block_in}
+use Rattle.cad_parse_statement.specs.Code.Reading.{statements_in, block_in}
 
 -- what stands between the readers of statements and the grammar
 pub record StatementLaws : Type 0 where

@@ -1,30 +1,31 @@
 -- The readers, a step at a time, over any reader of what stands one nesting deeper.
 use Rattle.std.proofs.Common.{◌≡◌, ℕ, zero, suc, ◌<◌, ◌≤◌, Bool, true, false, if◌then◌else◌, List, [], ◌∷◌, ◌++◌, length, Option, Some, None, refl, sym, ap, ◌∙◌, arith}
-use Rattle.cad_syntax.specs.declared.token.Sign.TheVariants as s
-use Rattle.cad_syntax.specs.declared.token.Keyword.{Keyword}
-use Rattle.cad_syntax.specs.declared.token.Keyword.TheVariants as k
-use Rattle.cad_syntax.specs.declared.token.TokenKind.{TokenKind}
-use Rattle.cad_syntax.specs.declared.token.TokenKind.TheVariants as kind
-use Rattle.cad_syntax.specs.declared.token.Token.{Token}
+use Rattle.cad_grammar.specs.declared.token.Sign.TheVariants as s
+use Rattle.cad_syntax.specs.declared.keyword.Keyword.{Keyword}
+use Rattle.cad_syntax.specs.declared.keyword.Keyword.TheVariants as k
+use Rattle.cad_grammar.specs.declared.token.TokenKind.{TokenKind}
+use Rattle.cad_grammar.specs.declared.token.TokenKind.TheVariants as kind
+use Rattle.cad_grammar.specs.declared.token.Token.{Token}
 use Rattle.cad_syntax.specs.declared.text.Name.{Name}
 use Rattle.cad_grammar.specs.declared.statement.VariableKind.{VariableKind}
 use Rattle.cad_grammar.specs.declared.statement.Transfer.{Transfer}
 use Rattle.cad_grammar.specs.Trees.{Annotation, ExprTree, TestTree, SecondTree, StmtTree, OtherwiseTree, CaseTree, stmts_of, cases_of, Default}
 use Rattle.cad_grammar.specs.Trees as tree
 use Rattle.cad_grammar.specs.Spots.{Spot, back, behind, only_if, next_of, next, is_keyword, after, keyword, name, opened, opening}
-use Rattle.cad_grammar.specs.Levels.{token_strength, keyword_start, start}
+use Rattle.cad_grammar.specs.Levels.{keyword_start}
+use Rattle.cad_parse_type.specs.Code.Levels.{token_strength, start}
 use Rattle.cad_grammar.specs.StatementGrammar.{Tested, Seconded, Loops, MaybeAnnotated, variable_word, variable_kind_of, transfer, begins_plainly, parted, ends, value_follows}
 use Rattle.cad_grammar.specs.StatementGrammar as g
 use Rattle.cad_grammar.specs.Lists as lists
-use Rattle.cad_parse_type.specs.Reading.{Reader, annotation}
+use Rattle.cad_parse_type.specs.Code.Reading.{Reader, annotation}
 use Rattle.cad_parse_type.proofs.TypeLaws.{TypeLaws}
 use Rattle.cad_parse_type.proofs.Heads.{none_of, some_same, keyword_head, head_start, read_not, keyword_no_sign, opened_is}
 use Rattle.cad_parse_type.proofs.Climbs.{then_is, either_is, either_not}
 use Rattle.cad_parse_type.proofs.ListLaws.{maybe_exact}
-use Rattle.cad_parse_expr.specs.Reading.{expression}
+use Rattle.cad_parse_expr.specs.Code.Reading.{expression}
 use Rattle.cad_parse_expr.proofs.ExpressionLaws.{ExpressionLaws}
-use Rattle.cad_parse_statement.specs.Reading.{Sort, a_statement, an_if, NamedValue}
-use Rattle.cad_parse_statement.specs.Reading as r
+use Rattle.cad_parse_statement.specs.Code.Reading.{Sort, a_statement, an_if, NamedValue}
+use Rattle.cad_parse_statement.specs.Code.Reading as r
 use Rattle.cad_parse_statement.proofs.PartLaws.{Valued, valued}
 use Rattle.cad_parse_statement.proofs.Facts.{transfer_weak, variable_start}
 

@@ -5,7 +5,7 @@ use Rattle.cad_grammar.specs.Spots.{Spot}
 use Rattle.cad_grammar.specs.StatementGrammar.{Block, Statements}
 use Rattle.cad_parse_type.proofs.Whole.{type_laws}
 use Rattle.cad_parse_expr.proofs.Whole.{expression_laws}
-use Rattle.cad_parse_statement.specs.Reading.{statements_in, block_in, read}
+use Rattle.cad_parse_statement.specs.Code.Reading.{statements_in, block_in, read}
 use Rattle.cad_parse_statement.proofs.StatementLaws.{StatementLaws}
 use Rattle.cad_parse_statement.proofs.Sound as sound
 use Rattle.cad_parse_statement.proofs.Facts as facts

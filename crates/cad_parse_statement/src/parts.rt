@@ -1,15 +1,15 @@
 // The parts of statements.
 ghost use Rattle.std.specs.Prelude.{◌≡◌, IfOk, option_map};
 ghost use Rattle.cad_grammar.specs.Views.{annotation_of, test_of};
-ghost use Rattle.cad_parse_statement.specs.Reading as spec;
-ghost use Rattle.cad_parse_statement.specs.Views.{named_value_of, second_in};
-ghost use Rattle.cad_parse_type.specs.Views.{seen, seen_with};
+ghost use Rattle.cad_parse_statement.specs.Code.Reading as spec;
+ghost use Rattle.cad_parse_statement.specs.Code.Views.{named_value_of, second_in};
+ghost use Rattle.cad_parse_type.specs.Code.Views.{seen, seen_with};
 
 use crate::words::{transfer, variable_word};
-use cad_grammar::{Expr, Test, Transfer, TypeAnnotation, VariableKind};
+use cad_grammar::{Expr, Sign, Test, Transfer, TypeAnnotation, VariableKind};
 use cad_parse_expr::expression;
 use cad_parse_type::{Spot, annotation};
-use cad_syntax::{Keyword, Name, Sign};
+use cad_syntax::{Keyword, Name};
 use std::alloc::{AllocError, Global};
 
 /// A name with its value, as it stands behind `let` or `var`.
@@ -22,7 +22,7 @@ pub struct NamedValue {
 }
 
 /// `: T` or nothing, and the spot behind it; None where no type annotation stands behind the `:`.
-#[tactic(auto, unfolding(crate::specs::Reading::maybe_annotated, cad_parse_type::specs::Reading::maybe))]
+#[tactic(auto, unfolding(crate::specs::Code::Reading::maybe_annotated, cad_parse_type::specs::Code::Reading::maybe))]
 pub fn maybe_annotated(
     alloc: Global,
     spot: Spot<'_>,
@@ -39,7 +39,7 @@ pub fn maybe_annotated(
 }
 
 /// A name, its type or none, and its value, and the spot behind it; None where they don't stand there.
-#[tactic(auto, unfolding(crate::specs::Reading::named_value))]
+#[tactic(auto, unfolding(crate::specs::Code::Reading::named_value))]
 pub fn named_value(
     alloc: Global,
     spot: Spot<'_>,
@@ -80,7 +80,7 @@ fn binding(kind: VariableKind, first: NamedValue) -> Test
 }
 
 /// The test of an `if`, and the spot behind it; None where none stands there.
-#[tactic(auto, unfolding(crate::specs::Reading::tested))]
+#[tactic(auto, unfolding(crate::specs::Code::Reading::tested))]
 pub fn tested(alloc: Global, spot: Spot<'_>) -> Result<Option<(Test, Spot<'_>)>, AllocError>
     ensures { IfOk result (λ o. option_map (seen_with test_of) o ≡ spec.tested (seen spot.entry)) }
 {
@@ -97,7 +97,7 @@ pub fn tested(alloc: Global, spot: Spot<'_>) -> Result<Option<(Test, Spot<'_>)>,
 }
 
 /// A second transfer with its value, or nothing, and the spot behind it; None where no value stands behind the transfer.
-#[tactic(auto, unfolding(crate::specs::Reading::seconded))]
+#[tactic(auto, unfolding(crate::specs::Code::Reading::seconded))]
 pub fn seconded(
     alloc: Global,
     spot: Spot<'_>,
@@ -114,7 +114,7 @@ pub fn seconded(
 }
 
 /// The names of a `for`, that of the index or none, and the spot behind the `in`; None where they don't stand there.
-#[tactic(auto, unfolding(crate::specs::Reading::loops))]
+#[tactic(auto, unfolding(crate::specs::Code::Reading::loops))]
 pub fn loops(spot: Spot<'_>) -> Result<Option<((Option<Name>, Name), Spot<'_>)>, AllocError>
     ensures { IfOk result (λ o. option_map (seen_with (λ n. n)) o ≡ spec.loops (seen spot.entry)) }
 {

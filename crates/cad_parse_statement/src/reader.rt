@@ -1,17 +1,17 @@
 // The readers of statements and blocks. `depth` bounds how deep they call each other.
 ghost use Rattle.std.specs.Prelude.{◌≡◌, suc, IfOk, option_map};
 ghost use Rattle.cad_grammar.specs.Views.{stmt_of, otherwise_of, case_of};
-ghost use Rattle.cad_parse_statement.specs.Reading as spec;
-ghost use Rattle.cad_parse_statement.specs.Views.{stmts_in, cases_in, default_in, branches_in, sections_in};
-ghost use Rattle.cad_parse_type.specs.Views.{seen, seen_with};
+ghost use Rattle.cad_parse_statement.specs.Code.Reading as spec;
+ghost use Rattle.cad_parse_statement.specs.Code.Views.{stmts_in, cases_in, default_in, branches_in, sections_in};
+ghost use Rattle.cad_parse_type.specs.Code.Views.{seen, seen_with};
 
 use crate::parts::{loops, tested};
 use crate::simple::{unnested, variable};
 use crate::words::{ends, parted, variable_word};
-use cad_grammar::{Case, Otherwise, Stmt};
+use cad_grammar::{Case, Otherwise, Sign, Stmt};
 use cad_parse_expr::expression;
 use cad_parse_type::Spot;
-use cad_syntax::{Keyword, Sign};
+use cad_syntax::Keyword;
 use std::alloc::{AllocError, Global};
 
 #[cycle(read)]
@@ -42,7 +42,7 @@ fn body(
 }
 
 #[cycle(read)]
-#[tactic(auto, unfolding(crate::specs::Reading::block))]
+#[tactic(auto, unfolding(crate::specs::Code::Reading::block))]
 fn block_at(
     alloc: Global,
     depth: u64,
@@ -64,7 +64,7 @@ fn block_at(
 
 // behind `else`
 #[cycle(read)]
-#[tactic(auto, unfolding(crate::specs::Reading::alternative))]
+#[tactic(auto, unfolding(crate::specs::Code::Reading::alternative))]
 fn alternative(
     alloc: Global,
     depth: u64,
@@ -88,7 +88,7 @@ fn alternative(
 }
 
 #[cycle(read)]
-#[tactic(auto, unfolding(crate::specs::Reading::otherwise))]
+#[tactic(auto, unfolding(crate::specs::Code::Reading::otherwise))]
 fn otherwise(
     alloc: Global,
     depth: u64,
@@ -104,7 +104,7 @@ fn otherwise(
 
 // the block behind a test, and what is done otherwise
 #[cycle(read)]
-#[tactic(auto, unfolding(crate::specs::Reading::branches))]
+#[tactic(auto, unfolding(crate::specs::Code::Reading::branches))]
 fn branches(
     alloc: Global,
     depth: u64,
@@ -123,7 +123,7 @@ fn branches(
 
 // behind `if`
 #[cycle(read)]
-#[tactic(auto, unfolding(crate::specs::Reading::conditional))]
+#[tactic(auto, unfolding(crate::specs::Code::Reading::conditional))]
 fn conditional(
     alloc: Global,
     depth: u64,
@@ -147,7 +147,7 @@ fn conditional(
 
 // behind `while`
 #[cycle(read)]
-#[tactic(auto, unfolding(crate::specs::Reading::while_loop))]
+#[tactic(auto, unfolding(crate::specs::Code::Reading::while_loop))]
 fn while_loop(
     alloc: Global,
     depth: u64,
@@ -166,7 +166,7 @@ fn while_loop(
 
 // behind `for`
 #[cycle(read)]
-#[tactic(auto, unfolding(crate::specs::Reading::for_loop))]
+#[tactic(auto, unfolding(crate::specs::Code::Reading::for_loop))]
 fn for_loop(
     alloc: Global,
     depth: u64,
@@ -194,7 +194,7 @@ fn for_loop(
 
 // behind `case`
 #[cycle(read)]
-#[tactic(auto, unfolding(crate::specs::Reading::one_case))]
+#[tactic(auto, unfolding(crate::specs::Code::Reading::one_case))]
 fn one_case(
     alloc: Global,
     depth: u64,
@@ -239,7 +239,7 @@ fn all_cases(
 }
 
 #[cycle(read)]
-#[tactic(auto, unfolding(crate::specs::Reading::default))]
+#[tactic(auto, unfolding(crate::specs::Code::Reading::default))]
 fn default(
     alloc: Global,
     depth: u64,
@@ -261,7 +261,7 @@ fn default(
 
 // behind the `{` of a `switch`, up to its `}`
 #[cycle(read)]
-#[tactic(auto, unfolding(crate::specs::Reading::sections))]
+#[tactic(auto, unfolding(crate::specs::Code::Reading::sections))]
 fn sections(
     alloc: Global,
     depth: u64,
@@ -283,7 +283,7 @@ fn sections(
 
 // behind the `switch` at `start`
 #[cycle(read)]
-#[tactic(auto, unfolding(crate::specs::Reading::switch))]
+#[tactic(auto, unfolding(crate::specs::Code::Reading::switch))]
 fn switch<'a>(
     alloc: Global,
     depth: u64,
@@ -310,7 +310,7 @@ fn switch<'a>(
 }
 
 #[cycle(read)]
-#[tactic(auto, unfolding(crate::specs::Reading::statement))]
+#[tactic(auto, unfolding(crate::specs::Code::Reading::statement))]
 fn statement(
     alloc: Global,
     depth: u64,
@@ -340,7 +340,7 @@ fn statement(
 }
 
 #[cycle(read)]
-#[tactic(auto, unfolding(crate::specs::Reading::read))]
+#[tactic(auto, unfolding(crate::specs::Code::Reading::read))]
 fn read_statement(
     alloc: Global,
     depth: u64,
@@ -355,7 +355,7 @@ fn read_statement(
 }
 
 #[cycle(read)]
-#[tactic(auto, unfolding(crate::specs::Reading::whole_if))]
+#[tactic(auto, unfolding(crate::specs::Code::Reading::whole_if))]
 fn whole_if(
     alloc: Global,
     depth: u64,
@@ -370,7 +370,7 @@ fn whole_if(
 }
 
 #[cycle(read)]
-#[tactic(auto, unfolding(crate::specs::Reading::read))]
+#[tactic(auto, unfolding(crate::specs::Code::Reading::read))]
 fn read_if(
     alloc: Global,
     depth: u64,
@@ -385,7 +385,7 @@ fn read_if(
 }
 
 // How deep the readers may call each other from a spot on: once more than nestings may be opened.
-#[tactic(auto, unfolding(cad_parse_type::specs::Views::seen))]
+#[tactic(auto, unfolding(cad_parse_type::specs::Code::Views::seen))]
 fn depth_at(spot: Spot<'_>) -> u64
     ensures { result ≡ suc (seen spot.entry).left }
 {
@@ -393,7 +393,7 @@ fn depth_at(spot: Spot<'_>) -> u64
 }
 
 /// The statements from a spot on up to where they end, and the spot there; None where none stand there that end.
-#[tactic(auto, unfolding(crate::specs::Reading::statements_in))]
+#[tactic(auto, unfolding(crate::specs::Code::Reading::statements_in))]
 pub fn statements(
     alloc: Global,
     spot: Spot<'_>,
@@ -404,7 +404,7 @@ pub fn statements(
 }
 
 /// The block that begins at a spot, and the spot behind it; None where none begins.
-#[tactic(auto, unfolding(crate::specs::Reading::block_in))]
+#[tactic(auto, unfolding(crate::specs::Code::Reading::block_in))]
 pub fn block(alloc: Global, spot: Spot<'_>) -> Result<Option<(Vec<Stmt>, Spot<'_>)>, AllocError>
     ensures { IfOk result (λ o. option_map (seen_with stmts_in) o ≡ spec.block_in (seen spot.entry)) }
 {

@@ -1,19 +1,19 @@
 // The statements in which no statements stand.
 ghost use Rattle.std.specs.Prelude.{◌≡◌, IfOk, option_map};
 ghost use Rattle.cad_grammar.specs.Views.{stmt_of};
-ghost use Rattle.cad_parse_statement.specs.Reading as spec;
-ghost use Rattle.cad_parse_type.specs.Views.{seen, seen_with};
+ghost use Rattle.cad_parse_statement.specs.Code.Reading as spec;
+ghost use Rattle.cad_parse_type.specs.Code.Views.{seen, seen_with};
 
 use crate::parts::{named_value, seconded};
 use crate::words::{begins_plainly, transfer, value_follows};
-use cad_grammar::{Stmt, VariableKind};
+use cad_grammar::{Sign, Stmt, VariableKind};
 use cad_parse_expr::expression;
 use cad_parse_type::Spot;
-use cad_syntax::{Keyword, Sign};
+use cad_syntax::Keyword;
 use std::alloc::{AllocError, Global};
 
 /// A variable behind its `let` or `var`, and the spot behind it; None where none stands there.
-#[tactic(auto, unfolding(crate::specs::Reading::variable))]
+#[tactic(auto, unfolding(crate::specs::Code::Reading::variable))]
 pub fn variable(
     alloc: Global,
     kind: VariableKind,
@@ -39,7 +39,7 @@ pub fn variable(
 }
 
 /// What stands behind `return`, and the spot behind it; None where an expression begins that can't be read.
-#[tactic(auto, unfolding(crate::specs::Reading::returned))]
+#[tactic(auto, unfolding(crate::specs::Code::Reading::returned))]
 pub fn returned(alloc: Global, spot: Spot<'_>) -> Result<Option<(Stmt, Spot<'_>)>, AllocError>
     ensures { IfOk result (λ o. option_map (seen_with stmt_of) o ≡ spec.returned (seen spot.entry)) }
 {
@@ -53,7 +53,7 @@ pub fn returned(alloc: Global, spot: Spot<'_>) -> Result<Option<(Stmt, Spot<'_>)
 }
 
 /// What stands behind `emit`, and the spot behind it; None where no expression stands there.
-#[tactic(auto, unfolding(crate::specs::Reading::emitted))]
+#[tactic(auto, unfolding(crate::specs::Code::Reading::emitted))]
 pub fn emitted(alloc: Global, spot: Spot<'_>) -> Result<Option<(Stmt, Spot<'_>)>, AllocError>
     ensures { IfOk result (λ o. option_map (seen_with stmt_of) o ≡ spec.emitted (seen spot.entry)) }
 {
@@ -64,7 +64,7 @@ pub fn emitted(alloc: Global, spot: Spot<'_>) -> Result<Option<(Stmt, Spot<'_>)>
 }
 
 /// A statement that begins with an expression, and the spot behind it; None where none stands there.
-#[tactic(auto, unfolding(crate::specs::Reading::plain))]
+#[tactic(auto, unfolding(crate::specs::Code::Reading::plain))]
 pub fn plain(alloc: Global, spot: Spot<'_>) -> Result<Option<(Stmt, Spot<'_>)>, AllocError>
     ensures { IfOk result (λ o. option_map (seen_with stmt_of) o ≡ spec.plain (seen spot.entry)) }
 {
@@ -91,7 +91,7 @@ pub fn plain(alloc: Global, spot: Spot<'_>) -> Result<Option<(Stmt, Spot<'_>)>, 
 
 /// A statement in which no statements stand and that doesn't begin with `let` or `var`, and the spot behind it; None where
 /// none stands there.
-#[tactic(auto, unfolding(crate::specs::Reading::unnested))]
+#[tactic(auto, unfolding(crate::specs::Code::Reading::unnested))]
 pub fn unnested(alloc: Global, spot: Spot<'_>) -> Result<Option<(Stmt, Spot<'_>)>, AllocError>
     ensures { IfOk result (λ o. option_map (seen_with stmt_of) o ≡ spec.unnested (seen spot.entry)) }
 {

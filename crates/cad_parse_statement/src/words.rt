@@ -2,11 +2,11 @@
 ghost use Rattle.std.specs.Prelude.{◌≡◌, option_map};
 ghost use Rattle.cad_grammar.specs.StatementGrammar as spec;
 ghost use Rattle.cad_grammar.specs.Levels as levels;
-ghost use Rattle.cad_parse_type.specs.Views.{seen, seen_with};
+ghost use Rattle.cad_parse_type.specs.Code.Views.{seen, seen_with};
 
-use cad_grammar::{Transfer, VariableKind};
+use cad_grammar::{Sign, TokenKind, Transfer, VariableKind};
 use cad_parse_type::Spot;
-use cad_syntax::{Keyword, Sign, TokenKind};
+use cad_syntax::Keyword;
 
 fn variable_kind_of(kind: &TokenKind) -> Option<VariableKind>
     ensures { result ≡ spec.variable_kind_of kind.now }
@@ -19,7 +19,7 @@ fn variable_kind_of(kind: &TokenKind) -> Option<VariableKind>
 }
 
 /// The `let` or `var` that comes next, and the spot behind it; None where another token does.
-#[tactic(auto, unfolding(cad_grammar::specs::Spots::read, cad_parse_type::specs::Views::seen))]
+#[tactic(auto, unfolding(cad_grammar::specs::Spots::read, cad_parse_type::specs::Code::Views::seen))]
 pub fn variable_word(spot: Spot<'_>) -> Option<(VariableKind, Spot<'_>)>
     ensures { option_map (seen_with (λ kind. kind)) result ≡ spec.variable_word (seen spot.entry) }
 {
@@ -44,7 +44,7 @@ fn transfer_of(kind: &TokenKind) -> Option<Transfer>
 }
 
 /// The `=`, `<-` or `<-!` that comes next, and the spot behind it; None where another token does.
-#[tactic(auto, unfolding(cad_grammar::specs::Spots::read, cad_parse_type::specs::Views::seen))]
+#[tactic(auto, unfolding(cad_grammar::specs::Spots::read, cad_parse_type::specs::Code::Views::seen))]
 pub fn transfer(spot: Spot<'_>) -> Option<(Transfer, Spot<'_>)>
     ensures { option_map (seen_with (λ t. t)) result ≡ spec.transfer (seen spot.entry) }
 {
@@ -69,7 +69,7 @@ fn begins_no_statement(kind: &TokenKind) -> bool
 }
 
 /// Whether a token comes next with which a statement or a condition may begin.
-#[tactic(auto, unfolding(cad_grammar::specs::Spots::holds, cad_parse_type::specs::Views::seen))]
+#[tactic(auto, unfolding(cad_grammar::specs::Spots::holds, cad_parse_type::specs::Code::Views::seen))]
 pub fn begins_plainly(spot: Spot<'_>) -> bool
     ensures { result ≡ spec.begins_plainly (seen spot.entry) }
 {
@@ -89,7 +89,7 @@ fn ends_statements(kind: &TokenKind) -> bool
 }
 
 /// Whether statements end before the next token.
-#[tactic(auto, unfolding(cad_grammar::specs::Spots::holds, cad_parse_type::specs::Views::seen))]
+#[tactic(auto, unfolding(cad_grammar::specs::Spots::holds, cad_parse_type::specs::Code::Views::seen))]
 pub fn ends(spot: Spot<'_>) -> bool
     ensures { result ≡ spec.ends (seen spot.entry) }
 {
@@ -99,7 +99,7 @@ pub fn ends(spot: Spot<'_>) -> bool
     }
 }
 
-#[tactic(auto, unfolding(cad_grammar::specs::Spots::holds, cad_parse_type::specs::Views::seen))]
+#[tactic(auto, unfolding(cad_grammar::specs::Spots::holds, cad_parse_type::specs::Code::Views::seen))]
 fn breaks_or_ends(spot: Spot<'_>) -> bool
     ensures { result ≡ spec.breaks_or_ends (seen spot.entry) }
 {
@@ -155,7 +155,7 @@ fn begins_expression(kind: &TokenKind) -> bool
 }
 
 /// Whether an expression may begin at the next token, with no line break before it.
-#[tactic(auto, unfolding(cad_grammar::specs::Spots::holds, cad_parse_type::specs::Views::seen))]
+#[tactic(auto, unfolding(cad_grammar::specs::Spots::holds, cad_parse_type::specs::Code::Views::seen))]
 pub fn value_follows(spot: Spot<'_>) -> bool
     ensures { result ≡ spec.value_follows (seen spot.entry) }
 {

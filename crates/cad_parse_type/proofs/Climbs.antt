@@ -1,7 +1,7 @@
 -- Options, and chains of tails.
 use Rattle.std.proofs.Common.{◌≡◌, ℕ, zero, suc, ◌<◌, ◌≤◌, length, Option, Some, None, refl, sym, ap, ◌∙◌, subst, ◌⊎◌, inl, inr, arith}
 use Rattle.cad_grammar.specs.Spots.{Spot, then, either}
-use Rattle.cad_parse_type.specs.Reading.{Reader, climb}
+use Rattle.cad_parse_type.specs.Code.Reading.{Reader, climb}
 use Rattle.cad_parse_type.proofs.Heads.{none_of}
 
 pub then_is : {A B : Type 0} (o : Option A) (f : A → Option B) (x : A) → o ≡ Some x → then o f ≡ f x

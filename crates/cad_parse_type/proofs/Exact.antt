@@ -1,21 +1,21 @@
 -- What is spelled as a type is read, where nothing follows that goes on after it.
 use Rattle.std.proofs.Common.{◌≡◌, Bool, true, false, ℕ, zero, suc, ◌<◌, ◌≤◌, List, [], ◌∷◌, length, Some, None, sym, ap, ◌∙◌, arith}
-use Rattle.cad_syntax.specs.declared.token.Sign.{Sign}
-use Rattle.cad_syntax.specs.declared.token.Sign.TheVariants as s
-use Rattle.cad_syntax.specs.declared.token.Keyword.TheVariants as k
+use Rattle.cad_grammar.specs.declared.token.Sign.{Sign}
+use Rattle.cad_grammar.specs.declared.token.Sign.TheVariants as s
+use Rattle.cad_syntax.specs.declared.keyword.Keyword.TheVariants as k
 use Rattle.cad_syntax.specs.declared.text.Name.{Name}
 use Rattle.cad_grammar.specs.declared.level.TypePosition.{TypePosition}
 use Rattle.cad_grammar.specs.declared.level.TypePosition.TheVariants as position
 use Rattle.cad_grammar.specs.Trees.{TypeTree, Annotation, annotations_of}
 use Rattle.cad_grammar.specs.Trees as tree
 use Rattle.cad_grammar.specs.Spots.{Spot, back, after, opening, resumed}
-use Rattle.cad_grammar.specs.Levels.{token_strength}
+use Rattle.cad_parse_type.specs.Code.Levels.{token_strength}
 use Rattle.cad_grammar.specs.Lists.{Listed}
 use Rattle.cad_grammar.specs.Lists as l
 use Rattle.cad_grammar.specs.TypeGrammar.{Dotted, ReadsType, ReadsCore, ReadsAnnotation, AnnotationList, Annotated}
 use Rattle.cad_grammar.specs.TypeGrammar as g
-use Rattle.cad_parse_type.specs.Reading.{Reader, climb, filled, marked, dotted, dotted_list}
-use Rattle.cad_parse_type.specs.Reading as r
+use Rattle.cad_parse_type.specs.Code.Reading.{Reader, climb, filled, marked, dotted, dotted_list}
+use Rattle.cad_parse_type.specs.Code.Reading as r
 use Rattle.cad_parse_type.proofs.Heads.{after_head, keyword_head, after_shorter, after_left, resumed_is, resumed_head, resumed_left, opening_is, opening_left, opened_is, not_resumed, other, keyword_no_sign, name_no_sign}
 use Rattle.cad_parse_type.proofs.Climbs.{then_is, Shrinks, climb_stops, climb_more}
 use Rattle.cad_parse_type.proofs.ListLaws.{IsRead, listed_exact}

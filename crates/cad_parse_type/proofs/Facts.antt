@@ -1,7 +1,7 @@
 -- What holds of all types that are spelled.
 use Rattle.std.proofs.Common.{◌≡◌, ◌<◌, ◌≤◌, List, length, Option, Some, refl, ap, ◌∙◌, arith}
-use Rattle.cad_syntax.specs.declared.token.Sign.TheVariants as s
-use Rattle.cad_syntax.specs.declared.token.Keyword.TheVariants as k
+use Rattle.cad_grammar.specs.declared.token.Sign.TheVariants as s
+use Rattle.cad_syntax.specs.declared.keyword.Keyword.TheVariants as k
 use Rattle.cad_grammar.specs.declared.level.TypePosition.{TypePosition}
 use Rattle.cad_grammar.specs.declared.type_expr.Entitlements.{Entitlements}
 use Rattle.cad_grammar.specs.Trees.{TypeTree, Annotation}

@@ -1,16 +1,17 @@
 -- What the tests on the next token tell.
 use Rattle.std.proofs.Common.{◌≡◌, ℕ, zero, suc, ◌<◌, ◌≤◌, Bool, true, false, not, ◌&&◌, List, [], ◌∷◌, ◌++◌, length, Option, Some, None, refl, sym, ap, ◌∙◌, arith, rules, append_assoc}
 use denote.Enum.Bare.{same_true}
-use Rattle.cad_syntax.specs.contracts.token.Sign.{the_type as sign_type}
-use Rattle.cad_syntax.specs.contracts.token.Keyword.{the_type as keyword_type}
-use Rattle.cad_syntax.specs.declared.token.Sign.{Sign}
-use Rattle.cad_syntax.specs.declared.token.Keyword.{Keyword}
-use Rattle.cad_syntax.specs.declared.token.TokenKind.{TokenKind}
-use Rattle.cad_syntax.specs.declared.token.TokenKind.TheVariants as kind
-use Rattle.cad_syntax.specs.declared.token.Token.{Token}
+use Rattle.cad_grammar.specs.contracts.token.Sign.{the_type as sign_type}
+use Rattle.cad_syntax.specs.contracts.keyword.Keyword.{the_type as keyword_type}
+use Rattle.cad_grammar.specs.declared.token.Sign.{Sign}
+use Rattle.cad_syntax.specs.declared.keyword.Keyword.{Keyword}
+use Rattle.cad_grammar.specs.declared.token.TokenKind.{TokenKind}
+use Rattle.cad_grammar.specs.declared.token.TokenKind.TheVariants as kind
+use Rattle.cad_grammar.specs.declared.token.Token.{Token}
 use Rattle.cad_syntax.specs.declared.text.Name.{Name}
 use Rattle.cad_grammar.specs.Spots.{Spot, behind, back, then, only_if, next_of, next, read_of, read, same_sign, same_keyword, is_sign, is_keyword, after, joined, keyword, name_of, name, opened_of, opened, opening, resumed}
-use Rattle.cad_grammar.specs.Levels.{sign_strength, kind_strength, strength_of, token_strength, kind_start, start_of, start}
+use Rattle.cad_grammar.specs.Levels.{kind_start}
+use Rattle.cad_parse_type.specs.Code.Levels.{sign_strength, kind_strength, strength_of, token_strength, start_of, start}
 
 pub none_of : {A : Type 0} (o : Option A) → ((x : A) → o ≡ Some x → ⊥) → o ≡ None
 none_of None h = refl

@@ -1,11 +1,11 @@
 -- Lists and options of any production: what is read is spelled, and what is spelled is read.
 use Rattle.std.proofs.Common.{◌≡◌, ℕ, zero, suc, ◌<◌, ◌≤◌, List, [], ◌∷◌, ◌++◌, length, Option, Some, refl, sym, ap, ◌∙◌, subst, arith, append-nil, append_assoc}
-use Rattle.cad_syntax.specs.declared.token.Sign.{Sign}
-use Rattle.cad_syntax.specs.declared.token.Sign.TheVariants as s
+use Rattle.cad_grammar.specs.declared.token.Sign.{Sign}
+use Rattle.cad_grammar.specs.declared.token.Sign.TheVariants as s
 use Rattle.cad_grammar.specs.Spots.{Spot, after, resumed}
 use Rattle.cad_grammar.specs.Lists.{Listed, Maybe}
 use Rattle.cad_grammar.specs.Lists as l
-use Rattle.cad_parse_type.specs.Reading.{Reader, listed, maybe}
+use Rattle.cad_parse_type.specs.Code.Reading.{Reader, listed, maybe}
 use Rattle.cad_parse_type.proofs.Heads.{none_of, after_shorter, after_left, after_ends, resumed_is, resumed_left, resumed_shorter, resumed_ends, not_resumed, resumed_head, Ends, ends_same, ends_trans}
 use Rattle.cad_parse_type.proofs.Climbs.{then_is, either_is, either_not, IfFound, then_found, either_found, found_is, found_weaker}
 

@@ -1,8 +1,8 @@
 -- Dotted names, lists of them and entitlements.
 use Rattle.std.proofs.Common.{◌≡◌, ℕ, zero, suc, ◌<◌, ◌≤◌, List, [], ◌∷◌, ◌++◌, length, Some, None, refl, sym, ap, ◌∙◌, subst, arith, append_assoc, ◌⊎◌, inl, inr}
-use Rattle.cad_syntax.specs.declared.token.Sign.{Sign}
-use Rattle.cad_syntax.specs.declared.token.Sign.TheVariants as s
-use Rattle.cad_syntax.specs.declared.token.TokenKind.TheVariants as kind
+use Rattle.cad_grammar.specs.declared.token.Sign.{Sign}
+use Rattle.cad_grammar.specs.declared.token.Sign.TheVariants as s
+use Rattle.cad_grammar.specs.declared.token.TokenKind.TheVariants as kind
 use Rattle.cad_syntax.specs.declared.text.Name.{Name}
 use Rattle.cad_grammar.specs.declared.type_expr.Entitlements.{Entitlements}
 use Rattle.cad_grammar.specs.declared.type_expr.Entitlements.TheVariants as entitlements
@@ -11,8 +11,8 @@ use Rattle.cad_grammar.specs.Lists.{Listed}
 use Rattle.cad_grammar.specs.Lists as l
 use Rattle.cad_grammar.specs.TypeGrammar.{dot_name, Dotted, Alternatives, Entitled, Authorized}
 use Rattle.cad_grammar.specs.TypeGrammar as g
-use Rattle.cad_parse_type.specs.Reading.{Found, Reader, climb, appended, filled, dotted, dotted_list, entitled}
-use Rattle.cad_parse_type.specs.Reading as r
+use Rattle.cad_parse_type.specs.Code.Reading.{Found, Reader, climb, appended, filled, dotted, dotted_list, entitled}
+use Rattle.cad_parse_type.specs.Code.Reading as r
 use Rattle.cad_parse_type.proofs.Heads.{some_same, then_some, head, name_head, other, name_no_sign, resumed_is, after_shorter, after_left, after_ends, name_shorter, name_left, name_ends, opening_is, opening_shorter, opening_ends, Ends, ends_trans}
 use Rattle.cad_parse_type.proofs.Climbs.{then_is, then_not, either_is, either_not, IfFound, then_found, either_found, found_is, found_weaker, Shrinks, climb_stops, climb_more, climb_gives, climb_over, climb_keeps}
 use Rattle.cad_parse_type.proofs.ListLaws.{ReadBefore, AllShorter, AllEnd, listed_sound, listed_read, listed_exact, listed_shorter, listed_left, listed_ends}

@@ -1,11 +1,12 @@
 -- The `?` behind a type, and where a type is over.
 use Rattle.std.proofs.Common.{◌≡◌, Bool, true, false, if◌then◌else◌, Option, Some, None, sym, ap, ◌∙◌, arith}
-use Rattle.cad_syntax.specs.declared.token.Sign.{Sign}
-use Rattle.cad_syntax.specs.declared.token.Sign.TheVariants as s
-use Rattle.cad_syntax.specs.declared.token.TokenKind.TheVariants as kind
+use Rattle.cad_grammar.specs.declared.token.Sign.{Sign}
+use Rattle.cad_grammar.specs.declared.token.Sign.TheVariants as s
+use Rattle.cad_grammar.specs.declared.token.TokenKind.TheVariants as kind
 use Rattle.cad_grammar.specs.declared.level.TypePosition.{TypePosition}
 use Rattle.cad_grammar.specs.Spots.{Spot, after}
-use Rattle.cad_grammar.specs.Levels.{belongs_of, if_belongs, question, questions, token_strength}
+use Rattle.cad_grammar.specs.Levels.{belongs_of, if_belongs, question, questions}
+use Rattle.cad_parse_type.specs.Code.Levels.{token_strength}
 use Rattle.cad_parse_type.proofs.Heads.{none_of, some_same, head, not_after, weak_after}
 use Rattle.cad_parse_type.proofs.TypeLaws.{TypeOver}
 

@@ -1,7 +1,7 @@
 -- What is read as a type is spelled so.
 use Rattle.std.proofs.Common.{◌≡◌, ℕ, zero, suc, Bool, true, false, List, [], ◌∷◌, length, Option, Some, None, refl, ap, ◌∙◌}
-use Rattle.cad_syntax.specs.declared.token.Sign.TheVariants as s
-use Rattle.cad_syntax.specs.declared.token.Keyword.TheVariants as k
+use Rattle.cad_grammar.specs.declared.token.Sign.TheVariants as s
+use Rattle.cad_syntax.specs.declared.keyword.Keyword.TheVariants as k
 use Rattle.cad_syntax.specs.declared.text.Name.{Name}
 use Rattle.cad_grammar.specs.declared.level.TypePosition.{TypePosition}
 use Rattle.cad_grammar.specs.declared.level.TypePosition.TheVariants as position
@@ -14,8 +14,8 @@ use Rattle.cad_grammar.specs.Lists.{Listed, Maybe}
 use Rattle.cad_grammar.specs.Lists as l
 use Rattle.cad_grammar.specs.TypeGrammar.{Dotted, Authorized, Intersected, ReadsType, ReadsCore, ReadsAnnotation, AnnotationList, Annotated}
 use Rattle.cad_grammar.specs.TypeGrammar as g
-use Rattle.cad_parse_type.specs.Reading.{Found, Reader, filled, marked, dotted, dotted_list}
-use Rattle.cad_parse_type.specs.Reading as r
+use Rattle.cad_parse_type.specs.Code.Reading.{Found, Reader, filled, marked, dotted, dotted_list}
+use Rattle.cad_parse_type.specs.Code.Reading as r
 use Rattle.cad_parse_type.proofs.Heads.{then_some}
 use Rattle.cad_parse_type.proofs.Climbs.{then_is, IfFound, then_found, either_found, found_is, climb_keeps}
 use Rattle.cad_parse_type.proofs.ListLaws.{IsSound, listed_sound}

@@ -1,8 +1,8 @@
 -- The readers of types, a step at a time, over any reader of what stands one nesting deeper.
 use Rattle.std.proofs.Common.{◌≡◌, true, false, List, length, Option, Some, None, ◌∙◌}
-use Rattle.cad_syntax.specs.declared.token.Sign.{Sign}
-use Rattle.cad_syntax.specs.declared.token.Sign.TheVariants as s
-use Rattle.cad_syntax.specs.declared.token.Keyword.TheVariants as k
+use Rattle.cad_grammar.specs.declared.token.Sign.{Sign}
+use Rattle.cad_grammar.specs.declared.token.Sign.TheVariants as s
+use Rattle.cad_syntax.specs.declared.keyword.Keyword.TheVariants as k
 use Rattle.cad_syntax.specs.declared.text.Name.{Name}
 use Rattle.cad_grammar.specs.declared.level.TypePosition.{TypePosition}
 use Rattle.cad_grammar.specs.declared.level.TypePosition.TheVariants as position
@@ -12,8 +12,8 @@ use Rattle.cad_grammar.specs.Trees as tree
 use Rattle.cad_grammar.specs.Spots.{Spot, back, then, either, after, keyword, opened, opening, resumed}
 use Rattle.cad_grammar.specs.Levels.{question, questions}
 use Rattle.cad_grammar.specs.TypeGrammar.{dot_name, Dotted, Authorized}
-use Rattle.cad_parse_type.specs.Reading.{Reader, climb, marked, dotted, dotted_list}
-use Rattle.cad_parse_type.specs.Reading as r
+use Rattle.cad_parse_type.specs.Code.Reading.{Reader, climb, marked, dotted, dotted_list}
+use Rattle.cad_parse_type.specs.Code.Reading as r
 use Rattle.cad_parse_type.proofs.Heads.{after_head, opening_is, opening_head, other, sign_no_keyword, name_no_keyword, name_no_sign}
 use Rattle.cad_parse_type.proofs.Climbs.{then_is, then_not, either_is, either_not, climb_stops}
 use Rattle.cad_parse_type.proofs.NameLaws.{dotted_exact, dotted_whole, dotted_head, authorized_exact}

@@ -1,16 +1,17 @@
 -- What is read is spelled, and what is spelled is read.
 use Rattle.std.proofs.Common.{◌≡◌, ◌<◌, ◌≤◌, List, [], ◌∷◌, length, Some, None, ◌⊎◌}
-use Rattle.cad_syntax.specs.declared.token.Sign.{Sign}
-use Rattle.cad_syntax.specs.declared.token.Sign.TheVariants as s
+use Rattle.cad_grammar.specs.declared.token.Sign.{Sign}
+use Rattle.cad_grammar.specs.declared.token.Sign.TheVariants as s
 use Rattle.cad_syntax.specs.declared.text.Name.{Name}
 use Rattle.cad_grammar.specs.declared.level.TypePosition.{TypePosition}
 use Rattle.cad_grammar.specs.declared.type_expr.Entitlements.{Entitlements}
 use Rattle.cad_grammar.specs.Trees.{TypeTree, Annotation}
 use Rattle.cad_grammar.specs.Spots.{Spot, after}
 use Rattle.cad_grammar.specs.Lists.{Listed}
-use Rattle.cad_grammar.specs.Levels.{question, questions, token_strength}
+use Rattle.cad_grammar.specs.Levels.{question, questions}
+use Rattle.cad_parse_type.specs.Code.Levels.{token_strength}
 use Rattle.cad_grammar.specs.TypeGrammar.{Dotted, Entitled, ReadsType, ReadsAnnotation, AnnotationList, Annotated}
-use Rattle.cad_parse_type.specs.Reading.{Found, dotted, dotted_list, entitled, type_at, annotation_at, arguments_at, annotation}
+use Rattle.cad_parse_type.specs.Code.Reading.{Found, dotted, dotted_list, entitled, type_at, annotation_at, arguments_at, annotation}
 use Rattle.cad_parse_type.proofs.Heads.{Ends}
 
 -- the same, or what takes more tokens

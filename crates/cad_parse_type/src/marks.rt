@@ -1,13 +1,13 @@
 // The `?` behind a type.
 ghost use Rattle.std.specs.Prelude.{◌≡◌, option_map};
-ghost use Rattle.cad_syntax.specs.declared.token.TokenKind.TheVariants as kind;
+ghost use Rattle.cad_grammar.specs.declared.token.TokenKind.TheVariants as kind;
 ghost use Rattle.cad_grammar.specs.Levels as levels;
-ghost use Rattle.cad_parse_type.specs.Reading as spec;
-ghost use Rattle.cad_parse_type.specs.Views.{seen, seen_with};
+ghost use Rattle.cad_parse_type.specs.Code.Reading as spec;
+ghost use Rattle.cad_parse_type.specs.Code.Views.{seen, seen_with};
 
 use crate::spot::Spot;
-use cad_grammar::TypePosition;
-use cad_syntax::{Keyword, Sign, Token, TokenKind};
+use cad_grammar::{Sign, Token, TokenKind, TypePosition};
+use cad_syntax::Keyword;
 
 fn sign_begins(sign: Sign) -> bool
     ensures { result ≡ levels.begins_expression (kind.Sign sign) }
@@ -74,7 +74,7 @@ fn belongs(position: TypePosition, tokens: &[Token]) -> bool
 }
 
 /// The spot behind a `?` that belongs to the type before it.
-#[tactic(auto, unfolding(cad_grammar::specs::Levels::question, crate::specs::Views::seen))]
+#[tactic(auto, unfolding(cad_grammar::specs::Levels::question, crate::specs::Code::Views::seen))]
 pub fn question(position: TypePosition, spot: Spot<'_>) -> Option<Spot<'_>>
     ensures { option_map seen result ≡ levels.question position (seen spot.entry) }
 {
@@ -87,7 +87,7 @@ pub fn question(position: TypePosition, spot: Spot<'_>) -> Option<Spot<'_>>
 }
 
 /// The spot behind a `??` that belongs to the type before it.
-#[tactic(auto, unfolding(cad_grammar::specs::Levels::questions, crate::specs::Views::seen))]
+#[tactic(auto, unfolding(cad_grammar::specs::Levels::questions, crate::specs::Code::Views::seen))]
 pub fn questions(position: TypePosition, spot: Spot<'_>) -> Option<Spot<'_>>
     ensures { option_map seen result ≡ levels.questions position (seen spot.entry) }
 {
@@ -100,7 +100,7 @@ pub fn questions(position: TypePosition, spot: Spot<'_>) -> Option<Spot<'_>>
 }
 
 /// Whether `??` or else `?` stands behind a type, and the spot behind it; None where neither belongs to the type.
-#[tactic(auto, unfolding(crate::specs::Reading::type_tail))]
+#[tactic(auto, unfolding(crate::specs::Code::Reading::type_tail))]
 pub fn type_tail(position: TypePosition, spot: Spot<'_>) -> Option<(bool, Spot<'_>)>
     ensures { option_map (seen_with (λ b. b)) result ≡ spec.type_tail position (seen spot.entry) }
 {

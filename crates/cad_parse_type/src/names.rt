@@ -1,12 +1,12 @@
 // Dotted names, lists of them, and entitlements.
 ghost use Rattle.std.specs.Prelude.{◌≡◌, [], length, IfOk, Some, option_map};
 ghost use Rattle.cad_grammar.specs.TypeGrammar.{dot_name};
-ghost use Rattle.cad_parse_type.specs.Reading as spec;
-ghost use Rattle.cad_parse_type.specs.Views.{seen, seen_with, seen_name};
+ghost use Rattle.cad_parse_type.specs.Code.Reading as spec;
+ghost use Rattle.cad_parse_type.specs.Code.Views.{seen, seen_with, seen_name};
 
 use crate::spot::Spot;
-use cad_grammar::{Dotted, Entitlements};
-use cad_syntax::{Items, Name, Sign};
+use cad_grammar::{Dotted, Entitlements, Sign};
+use cad_syntax::{Items, Name};
 use std::alloc::{AllocError, Global};
 
 // The name behind a `.`, and the spot behind it; None where none stands there.
@@ -18,7 +18,7 @@ fn further(spot: Spot<'_>) -> Option<(&Name, Spot<'_>)>
 }
 
 // The names with all that stand behind them, each behind a `.`, and the spot behind the last.
-#[tactic(auto, unfolding(crate::specs::Reading::climb))]
+#[tactic(auto, unfolding(crate::specs::Code::Reading::climb))]
 fn with_further(mut names: Dotted, spot: Spot<'_>) -> Result<(Dotted, Spot<'_>), AllocError>
     ensures { IfOk result (λ x. spec.climb spec.appended dot_name (length spot.entry.tokens.now) names (seen spot.entry) ≡ Some (seen_with (λ n. n) x)) }
 {
@@ -34,7 +34,7 @@ fn with_further(mut names: Dotted, spot: Spot<'_>) -> Result<(Dotted, Spot<'_>),
 }
 
 /// The longest dotted name from a spot on, and the spot behind it; None where none begins.
-#[tactic(auto, unfolding(crate::specs::Reading::dotted, crate::specs::Views::seen))]
+#[tactic(auto, unfolding(crate::specs::Code::Reading::dotted, crate::specs::Code::Views::seen))]
 pub fn dotted(alloc: Global, spot: Spot<'_>) -> Result<Option<(Dotted, Spot<'_>)>, AllocError>
     ensures { IfOk result (λ o. option_map (seen_with (λ n. n)) o ≡ spec.dotted (seen spot.entry)) }
 {
@@ -47,7 +47,7 @@ pub fn dotted(alloc: Global, spot: Spot<'_>) -> Result<Option<(Dotted, Spot<'_>)
 }
 
 // The dotted names with commas between them, and the spot behind the closing sign; None where they don't go on up to it.
-#[tactic(auto, unfolding(crate::specs::Reading::listed))]
+#[tactic(auto, unfolding(crate::specs::Code::Reading::listed))]
 fn listed(
     alloc: Global,
     closing: Sign,
@@ -90,7 +90,7 @@ fn filled(all: Items<Dotted>, end: Spot<'_>) -> Option<(Items<Dotted>, Spot<'_>)
 
 /// One dotted name or more, with commas between them, and the spot behind the closing sign, before which one more comma may
 /// stand; None where no such list stands there.
-#[tactic(auto, unfolding(crate::specs::Reading::dotted_list, crate::specs::Views::seen))]
+#[tactic(auto, unfolding(crate::specs::Code::Reading::dotted_list, crate::specs::Code::Views::seen))]
 pub fn dotted_list(
     alloc: Global,
     closing: Sign,
@@ -106,7 +106,7 @@ pub fn dotted_list(
 
 // Those found and the dotted names from a spot on, with `|` between them, and the spot behind the `)`; None where they don't
 // go on up to it.
-#[tactic(auto, unfolding(crate::specs::Reading::alternatives))]
+#[tactic(auto, unfolding(crate::specs::Code::Reading::alternatives))]
 fn alternatives(
     alloc: Global,
     mut found: Items<Dotted>,
@@ -133,7 +133,7 @@ fn alternatives(
 }
 
 // Two dotted names or more with `|` between them, and the spot behind the `)`; None where no such list stands there.
-#[tactic(auto, unfolding(crate::specs::Reading::any_of, crate::specs::Views::seen))]
+#[tactic(auto, unfolding(crate::specs::Code::Reading::any_of, crate::specs::Code::Views::seen))]
 fn any_of(alloc: Global, spot: Spot<'_>) -> Result<Option<(Entitlements, Spot<'_>)>, AllocError>
     ensures { IfOk result (λ o. option_map (seen_with (λ e. e)) o ≡ spec.any_of (seen spot.entry)) }
 {
@@ -152,7 +152,7 @@ fn any_of(alloc: Global, spot: Spot<'_>) -> Result<Option<(Entitlements, Spot<'_
 }
 
 /// Entitlements, and the spot behind the `)` that closes them; None where there are none.
-#[tactic(auto, unfolding(crate::specs::Reading::entitled))]
+#[tactic(auto, unfolding(crate::specs::Code::Reading::entitled))]
 pub fn entitled(
     alloc: Global,
     spot: Spot<'_>,
@@ -169,7 +169,7 @@ pub fn entitled(
 }
 
 /// Entitlements in parentheses, and the spot behind the `)`; None where there are none.
-#[tactic(auto, unfolding(crate::specs::Reading::authorized))]
+#[tactic(auto, unfolding(crate::specs::Code::Reading::authorized))]
 pub fn authorized(
     alloc: Global,
     spot: Spot<'_>,

@@ -1,8 +1,8 @@
 // The readers of types.
 ghost use Rattle.std.specs.Prelude.{◌≡◌, suc, IfOk, option_map};
 ghost use Rattle.cad_grammar.specs.Views.{type_of, annotation_of};
-ghost use Rattle.cad_parse_type.specs.Reading as spec;
-ghost use Rattle.cad_parse_type.specs.Views.{seen, seen_with, annotations_in};
+ghost use Rattle.cad_parse_type.specs.Code.Reading as spec;
+ghost use Rattle.cad_parse_type.specs.Code.Views.{seen, seen_with, annotations_in};
 
 use crate::spot::Spot;
 use crate::types::{annotated, annotation_list, whole};
@@ -10,7 +10,7 @@ use cad_grammar::{TypeAnnotation, TypeExpr, TypePosition};
 use std::alloc::{AllocError, Global};
 
 // How deep the readers may call themselves from a spot on: once more than nestings may be opened.
-#[tactic(auto, unfolding(crate::specs::Views::seen))]
+#[tactic(auto, unfolding(crate::specs::Code::Views::seen))]
 fn depth_at(spot: Spot<'_>) -> u64
     ensures { result ≡ suc (seen spot.entry).left }
 {
@@ -18,7 +18,7 @@ fn depth_at(spot: Spot<'_>) -> u64
 }
 
 /// The longest type from a spot on, and the spot behind it; None where none begins.
-#[tactic(auto, unfolding(crate::specs::Reading::type_at))]
+#[tactic(auto, unfolding(crate::specs::Code::Reading::type_at))]
 pub fn type_at(
     alloc: Global,
     position: TypePosition,
@@ -30,7 +30,7 @@ pub fn type_at(
 }
 
 /// The longest type annotation from a spot on, and the spot behind it; None where none begins.
-#[tactic(auto, unfolding(crate::specs::Reading::annotation_at))]
+#[tactic(auto, unfolding(crate::specs::Code::Reading::annotation_at))]
 pub fn annotation_at(
     alloc: Global,
     position: TypePosition,
@@ -42,7 +42,7 @@ pub fn annotation_at(
 }
 
 /// The type arguments behind a `<`, and the spot behind the `>`; None where there are none.
-#[tactic(auto, unfolding(crate::specs::Reading::arguments_at))]
+#[tactic(auto, unfolding(crate::specs::Code::Reading::arguments_at))]
 pub fn arguments_at(
     alloc: Global,
     spot: Spot<'_>,
@@ -53,7 +53,7 @@ pub fn arguments_at(
 }
 
 /// The longest type annotation that stands by itself, and the spot behind it; None where none begins.
-#[tactic(auto, unfolding(crate::specs::Reading::annotation))]
+#[tactic(auto, unfolding(crate::specs::Code::Reading::annotation))]
 pub fn annotation(
     alloc: Global,
     spot: Spot<'_>,

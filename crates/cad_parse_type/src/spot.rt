@@ -2,9 +2,10 @@
 ghost use Rattle.std.specs.Prelude.{◌≡◌, ◌==◌, option_map};
 ghost use Rattle.std.specs.Cmp.Lexicographic.{pointwise};
 ghost use Rattle.cad_grammar.specs.Spots as spec;
-ghost use Rattle.cad_parse_type.specs.Views.{seen, seen_with, seen_name};
+ghost use Rattle.cad_parse_type.specs.Code.Views.{seen, seen_with, seen_name};
 
-use cad_syntax::{Keyword, Name, Sign, Token, TokenKind};
+use cad_grammar::{Sign, Token, TokenKind};
+use cad_syntax::{Keyword, Name};
 
 /// Where reading stands: how many nestings may still be opened, whether the name of an expression or of a member was read
 /// last, and the tokens that are left.
@@ -44,7 +45,7 @@ fn is_word(text: &str, kind: &TokenKind) -> bool
     }
 }
 
-#[tactic(auto, unfolding(cad_grammar::specs::Spots::next, crate::specs::Views::seen))]
+#[tactic(auto, unfolding(cad_grammar::specs::Spots::next, crate::specs::Code::Views::seen))]
 impl<'a> Spot<'a> {
     /// The spot behind this sign, where it comes next.
     pub fn after(self, sign: Sign) -> Option<Spot<'a>>
@@ -89,7 +90,7 @@ impl<'a> Spot<'a> {
     }
 
     /// The name that comes next, and the spot behind it.
-    #[tactic(auto, unfolding(cad_grammar::specs::Spots::read, crate::specs::Views::seen))]
+    #[tactic(auto, unfolding(cad_grammar::specs::Spots::read, crate::specs::Code::Views::seen))]
     pub fn name(self) -> Option<(&'a Name, Spot<'a>)>
         ensures { option_map (seen_with seen_name) result ≡ spec.name (seen self.entry) }
     {
@@ -136,7 +137,7 @@ impl<'a> Spot<'a> {
     }
 
     /// One nesting is opened, if there is one left.
-    #[tactic(auto, unfolding(cad_grammar::specs::Spots::opened, crate::specs::Views::seen))]
+    #[tactic(auto, unfolding(cad_grammar::specs::Spots::opened, crate::specs::Code::Views::seen))]
     pub fn opened(self) -> Option<Spot<'a>>
         ensures { option_map seen result ≡ spec.opened (seen self.entry) }
     {

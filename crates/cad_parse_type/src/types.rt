@@ -1,16 +1,16 @@
 // Types, by how deep the reader may call itself.
 ghost use Rattle.std.specs.Prelude.{◌≡◌, [], length, map, IfOk, Some, option_map};
-ghost use Rattle.cad_syntax.specs.declared.token.Sign.TheVariants as s;
+ghost use Rattle.cad_grammar.specs.declared.token.Sign.TheVariants as s;
 ghost use Rattle.cad_grammar.specs.Views.{type_of, annotation_of};
 ghost use Rattle.cad_grammar.specs.declared.level.TypePosition.TheVariants as position;
-ghost use Rattle.cad_parse_type.specs.Reading as spec;
-ghost use Rattle.cad_parse_type.specs.Views.{seen, seen_with, annotations_in};
+ghost use Rattle.cad_parse_type.specs.Code.Reading as spec;
+ghost use Rattle.cad_parse_type.specs.Code.Views.{seen, seen_with, annotations_in};
 
 use crate::marks::type_tail;
 use crate::names::{authorized, dotted, dotted_list};
 use crate::spot::Spot;
-use cad_grammar::{Dotted, Entitlements, TypeAnnotation, TypeExpr, TypePosition};
-use cad_syntax::{Keyword, Sign};
+use cad_grammar::{Dotted, Entitlements, Sign, TypeAnnotation, TypeExpr, TypePosition};
+use cad_syntax::Keyword;
 use std::alloc::{AllocError, Global};
 
 fn marked(alloc: Global, written: TypeExpr, twice: bool) -> Result<TypeExpr, AllocError>
@@ -25,7 +25,7 @@ fn marked(alloc: Global, written: TypeExpr, twice: bool) -> Result<TypeExpr, All
 }
 
 // A type with all `?` behind it, and the spot behind them.
-#[tactic(auto, unfolding(crate::specs::Reading::climb))]
+#[tactic(auto, unfolding(crate::specs::Code::Reading::climb))]
 fn with_marks(
     alloc: Global,
     position: TypePosition,
@@ -58,7 +58,7 @@ fn filled(all: Vec<TypeAnnotation>, end: Spot<'_>) -> Option<(Vec<TypeAnnotation
 
 /// The longest type from a spot on, and the spot behind it; None where none begins.
 #[cycle(types)]
-#[tactic(auto, unfolding(crate::specs::Reading::whole, crate::specs::Views::seen))]
+#[tactic(auto, unfolding(crate::specs::Code::Reading::whole, crate::specs::Code::Views::seen))]
 pub fn whole(
     alloc: Global,
     depth: u64,
@@ -75,7 +75,7 @@ pub fn whole(
 
 /// The longest type annotation from a spot on, and the spot behind it; None where none begins.
 #[cycle(types)]
-#[tactic(auto, unfolding(crate::specs::Reading::annotated))]
+#[tactic(auto, unfolding(crate::specs::Code::Reading::annotated))]
 pub fn annotated(
     alloc: Global,
     depth: u64,
@@ -112,7 +112,7 @@ pub fn annotated(
 
 // A reference, behind the `&`.
 #[cycle(types)]
-#[tactic(auto, unfolding(crate::specs::Reading::referenced))]
+#[tactic(auto, unfolding(crate::specs::Code::Reading::referenced))]
 fn referenced(
     alloc: Global,
     depth: u64,
@@ -139,7 +139,7 @@ fn referenced(
 
 // A reference, behind the `auth`.
 #[cycle(types)]
-#[tactic(auto, unfolding(crate::specs::Reading::authorized_reference))]
+#[tactic(auto, unfolding(crate::specs::Code::Reading::authorized_reference))]
 fn authorized_reference(
     alloc: Global,
     depth: u64,
@@ -158,7 +158,7 @@ fn authorized_reference(
 
 // A type in parentheses, from `(` at the start on, behind which the spot `inside` is.
 #[cycle(types)]
-#[tactic(auto, unfolding(crate::specs::Reading::grouped))]
+#[tactic(auto, unfolding(crate::specs::Code::Reading::grouped))]
 fn grouped<'a>(
     alloc: Global,
     depth: u64,
@@ -181,7 +181,7 @@ fn grouped<'a>(
 
 // An array, from `[` at the start on, behind which the spot `inside` is.
 #[cycle(types)]
-#[tactic(auto, unfolding(crate::specs::Reading::array))]
+#[tactic(auto, unfolding(crate::specs::Code::Reading::array))]
 fn array<'a>(
     alloc: Global,
     depth: u64,
@@ -204,7 +204,7 @@ fn array<'a>(
 
 // A dictionary, from `{` at the start on, in which the spot `inside` is.
 #[cycle(types)]
-#[tactic(auto, unfolding(crate::specs::Reading::dictionary))]
+#[tactic(auto, unfolding(crate::specs::Code::Reading::dictionary))]
 fn dictionary<'a>(
     alloc: Global,
     depth: u64,
@@ -232,7 +232,7 @@ fn dictionary<'a>(
 
 // A dictionary or an intersection, from `{` at the start on, behind which the spot `inside` is.
 #[cycle(types)]
-#[tactic(auto, unfolding(crate::specs::Reading::braced))]
+#[tactic(auto, unfolding(crate::specs::Code::Reading::braced))]
 fn braced<'a>(
     alloc: Global,
     depth: u64,
@@ -255,7 +255,7 @@ fn braced<'a>(
 
 // Annotations with commas between them, and the spot behind the `>`; None where they don't go on up to it.
 #[cycle(types)]
-#[tactic(auto, unfolding(crate::specs::Reading::listed))]
+#[tactic(auto, unfolding(crate::specs::Code::Reading::listed))]
 fn listed(
     alloc: Global,
     depth: u64,
@@ -288,7 +288,7 @@ fn listed(
 
 /// One annotation or more, with commas between them, and the spot behind the `>`; None where no such list stands there.
 #[cycle(types)]
-#[tactic(auto, unfolding(crate::specs::Reading::annotation_list, crate::specs::Views::seen))]
+#[tactic(auto, unfolding(crate::specs::Code::Reading::annotation_list, crate::specs::Code::Views::seen))]
 pub fn annotation_list(
     alloc: Global,
     depth: u64,
@@ -304,7 +304,7 @@ pub fn annotation_list(
 
 // A name with type arguments, from the spot behind the name on; the spot `inside` is behind the `<`.
 #[cycle(types)]
-#[tactic(auto, unfolding(crate::specs::Reading::applied))]
+#[tactic(auto, unfolding(crate::specs::Code::Reading::applied))]
 fn applied<'a>(
     alloc: Global,
     depth: u64,
@@ -325,7 +325,7 @@ fn applied<'a>(
 
 // A name, with type arguments where a `<` follows.
 #[cycle(types)]
-#[tactic(auto, unfolding(crate::specs::Reading::named_type))]
+#[tactic(auto, unfolding(crate::specs::Code::Reading::named_type))]
 fn named_type(
     alloc: Global,
     depth: u64,
@@ -345,7 +345,7 @@ fn named_type(
 
 // A type that begins with a sign, or a name.
 #[cycle(types)]
-#[tactic(auto, unfolding(crate::specs::Reading::core_of))]
+#[tactic(auto, unfolding(crate::specs::Code::Reading::core_of))]
 fn core_of(
     alloc: Global,
     depth: u64,

@@ -7,9 +7,9 @@ use Rattle.cad_wire.specs.declared.entry.Entry.{Entry}
 use Rattle.cad_wire.specs.Body.{are_ascending}
 use Rattle.cad_accounts.specs.declared.row.Row.{Row}
 use Rattle.cad_accounts.specs.Registers.{Map, same_key, at, are_rising, changed, applied, size_of}
-use Rattle.cad_accounts.specs.Rows.{row_size}
+use Rattle.cad_accounts.specs.Code.Rows.{row_size}
 use Rattle.cad_accounts.proofs.Keys.{same_is, is_same, itself, passes, behind_differs}
-use Rattle.cad_accounts.specs.Places.{row_key, before}
+use Rattle.cad_accounts.specs.KeyOrder.{row_key, before}
 use Rattle.cad_accounts.proofs.Order.{both_left, both_right, tail_rises, first_before}
 use Rattle.cad_accounts.proofs.RowLaws.{none_behind}
 use Rattle.cad_accounts.proofs.Places.{size_is}

@@ -15,7 +15,8 @@ use Rattle.std.specs.List.{flat_map, list_all, slice_split, join_with_byte, All}
 use Rattle.std.specs.Str.Parse.{digits_value, digits_value_after}
 use Rattle.cad_syntax.specs.Addresses.{hex_digits, hex_number}
 use Rattle.cad_syntax.specs.Names.{is_name_text, is_word, is_first_of_name, is_part_of_name, is_keyword}
-use Rattle.cad_syntax.specs.TypeIds.{dotted, type_text, HasNames, Spells, is_lower_digit, full_number, names_of, id_from, id_of}
+use Rattle.cad_syntax.specs.TypeIds.{dotted, type_text, HasNames, Spells}
+use Rattle.cad_syntax.specs.Code.TypeIds.{is_lower_digit, full_number, names_of, id_from, id_of}
 use Rattle.cad_syntax.specs.declared.text.Name.{Name}
 use Rattle.cad_syntax.specs.declared.type_id.TypeId.{TypeId}
 use Rattle.cad_syntax.proofs.Hex.{length_hex_digits, value_hex_digits, all_hex_digits, hex_digits_none}

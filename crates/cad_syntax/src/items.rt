@@ -4,7 +4,6 @@ ghost use Rattle.std.specs.Cmp.{on_per};
 ghost use Rattle.std.specs.Cmp.Lexicographic.{pointwise, lists_per, lists_equiv};
 
 use crate::text::Name;
-use crate::token::Token;
 use std::alloc::{AllocError, Global};
 use std::marker::Model;
 
@@ -17,8 +16,6 @@ pub struct Items<T> {
 pub type Bytes = Items<u8>;
 
 pub type Names = Items<Name>;
-
-pub type Tokens = Items<Token>;
 
 impl<T> Model for Items<T> {
     ghost use Rattle.std.specs.Prelude.{List};

@@ -1,6 +1,6 @@
 // Laws of the definitions, which hold of every value.
 ghost use Rattle.std.specs.Prelude.{◌≡◌, ◌<◌, ◌^◌, ◌↔◌, ℕ, List, Some, true};
-ghost use Rattle.cad_syntax.specs.declared.token.Keyword.{Keyword};
+ghost use Rattle.cad_syntax.specs.declared.keyword.Keyword.{Keyword};
 ghost use Rattle.cad_syntax.specs.Addresses.{address_of, address_text};
 ghost use Rattle.cad_syntax.specs.Keywords.{keyword_spelling};
 ghost use Rattle.cad_syntax.specs.Names.{is_keyword};

@@ -3,6 +3,7 @@ ghost use Rattle.std.specs.Prelude.{◌≡◌, ◌==◌, ◌↔◌, IsTrue, IfOk
 ghost use Rattle.std.specs.List.{list_all, slice_split};
 ghost use Rattle.cad_syntax.specs.declared.type_id.TypeId.{TypeId};
 ghost use Rattle.cad_syntax.specs.TypeIds as spec;
+ghost use Rattle.cad_syntax.specs.Code.TypeIds as reading;
 
 use crate::address::{Address, hex_number, push_hex};
 use crate::items::{Items, Names};
@@ -94,7 +95,7 @@ fn parts(alloc: Global, text: &str) -> Result<Vec<&str>, AllocError>
 
 /// The identifier whose text has these parts between its dots.
 fn from_parts(alloc: Global, parts: &[&str]) -> Result<Option<TypeId>, AllocError>
-    ensures { IfOk result (λ id. id ≡ spec.id_of (map (λ part. part.now) parts.now)) }
+    ensures { IfOk result (λ id. id ≡ reading.id_of (map (λ part. part.now) parts.now)) }
 {
     if parts.len() < 2 || parts[0] != "A" {
         return Ok(None);
@@ -111,7 +112,7 @@ fn from_parts(alloc: Global, parts: &[&str]) -> Result<Option<TypeId>, AllocErro
 
 /// The number that 16 hexadecimal digits in lower case write.
 fn full_number(digits: &[u8]) -> Option<u64>
-    ensures { result ≡ spec.full_number digits.now }
+    ensures { result ≡ reading.full_number digits.now }
 {
     if digits.len() != 16 || !are_lower_digits(digits) {
         return None;
@@ -120,7 +121,7 @@ fn full_number(digits: &[u8]) -> Option<u64>
 }
 
 fn are_lower_digits(digits: &[u8]) -> bool
-    ensures { result ≡ list_all spec.is_lower_digit digits.now }
+    ensures { result ≡ list_all reading.is_lower_digit digits.now }
 {
     digits
         .iter()
@@ -129,7 +130,7 @@ fn are_lower_digits(digits: &[u8]) -> bool
 
 /// The names, if all of the texts are names.
 fn names_from(alloc: Global, texts: &[&str]) -> Result<Option<Names>, AllocError>
-    ensures { IfOk result (λ names. names ≡ spec.names_of (map (λ text. text.now) texts.now)) }
+    ensures { IfOk result (λ names. names ≡ reading.names_of (map (λ text. text.now) texts.now)) }
 {
     let mut names = Names::new(alloc);
     for text in texts {

@@ -7,7 +7,8 @@ use Rattle.cad_syntax.specs.declared.type_id.TypeId.{TypeId}
 use Rattle.cad_syntax.proofs.Members.{contains_first, contains_later, each_passes, passes_each}
 use Rattle.cad_syntax.proofs.Same.{ids_tell}
 use Rattle.cad_auth.proofs.Covers.{has_to, to_has}
-use Rattle.cad_types.specs.Declarations.{Declaration, found, interfaces_in, interfaces_of, IsClosed, closed_at, all_closed}
+use Rattle.cad_types.specs.Declarations.{Declaration, found, interfaces_in, interfaces_of, IsClosed}
+use Rattle.cad_types.specs.Code.Declarations.{closed_at, all_closed}
 
 -- what is found is in the list, with that identifier
 found_there : (k : List Declaration) (id : TypeId) → ((d : Declaration) × Contains k d × (d.id ≡ id)) ⊎ (found k id ≡ None)

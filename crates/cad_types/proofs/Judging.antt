@@ -8,7 +8,7 @@ use Rattle.cad_syntax.specs.declared.type_id.TypeId.{TypeId}
 use Rattle.cad_syntax.proofs.Members.{and_both, or_cases, or_right}
 use Rattle.cad_types.specs.Declarations.{Declaration, declaration_of, found}
 use Rattle.cad_types.specs.Classes.{fields_in, has_sort, is_data_sort, is_carried_sort, is_void, storable_rule, importable_rule, carried_rule, exportable_rule, Keeps, Storable, Importable, Exportable}
-use Rattle.cad_types.specs.Judged.{unmarked, marked, storable_by, importable_by, carried_by, exportable_by, is_importable_data, is_exportable_carried, kept, each_kept, refined, IsGreatest, IsJudged}
+use Rattle.cad_types.specs.Code.Judged.{unmarked, marked, storable_by, importable_by, carried_by, exportable_by, is_importable_data, is_exportable_carried, kept, each_kept, refined, IsGreatest, IsJudged}
 use Rattle.cad_types.specs.declared.declared.Declared.{Declared}
 use Rattle.cad_types.specs.declared.marks.Marks.{Marks}
 

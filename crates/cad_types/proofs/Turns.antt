@@ -9,7 +9,7 @@ use Rattle.cad_syntax.proofs.Same.{Tells}
 use Rattle.cad_syntax.specs.declared.type_id.TypeId.{TypeId}
 use Rattle.cad_types.specs.Declarations.{Declaration, declaration_of, interfaces_of}
 use Rattle.cad_types.specs.Below.{has_interface}
-use Rattle.cad_types.specs.Judged.{marked, unmarked}
+use Rattle.cad_types.specs.Code.Judged.{marked, unmarked}
 use Rattle.cad_types.specs.declared.declared.Declared.{Declared}
 use Rattle.cad_types.specs.declared.marks.Marks.{Marks}
 

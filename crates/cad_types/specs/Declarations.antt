@@ -1,7 +1,6 @@
 -- Declarations of types, and what is found in a list of them.
-use Rattle.std.specs.Prelude.{◌≡◌, Bool, true, false, not, ◌&&◌, List, [], ◌∷◌, Option, Some, None, map, nat_le, if◌then◌else◌}
+use Rattle.std.specs.Prelude.{◌≡◌, Bool, true, false, List, [], ◌∷◌, Option, Some, None, map, nat_le, if◌then◌else◌}
 use Rattle.std.specs.List.{list_any, list_all}
-use Rattle.std.specs.Option.{is_some}
 use Rattle.cad_syntax.specs.TypeIds.{same_id, has}
 use Rattle.cad_syntax.specs.Types.{PureType, basic, optional, array, dictionary, intersection, declared, reference, capability, capability_of, pure_type, nesting}
 use Rattle.cad_syntax.specs.declared.type_id.TypeId.{TypeId}
@@ -25,14 +24,6 @@ declaration_of d = record { id = d.id; sort = d.sort; fields = map pure_type d.f
 abbrev pub found : List Declaration → TypeId → Option Declaration
 found [] id = None
 found (d ∷ ds) id = if same_id d.id id then Some d else found ds id
-
-abbrev pub is_declared : List Declaration → TypeId → Bool
-is_declared k id = is_some (found k id)
-
--- no identifier is declared twice
-abbrev pub all_distinct : List Declaration → Bool
-all_distinct [] = true
-all_distinct (d ∷ ds) = not (is_declared ds d.id) && all_distinct ds
 
 abbrev pub interfaces_in : Option Declaration → List TypeId
 interfaces_in None = []
@@ -75,13 +66,6 @@ resource k (capability_of t) = false
 -- the interfaces of an interface that a type has are its own too
 abbrev pub IsClosed : List Declaration → Type 0
 IsClosed k = (i j m : TypeId) → has (interfaces_of k i) j ≡ true → has (interfaces_of k j) m ≡ true → has (interfaces_of k i) m ≡ true
-
--- the same of one identifier, as a test
-abbrev pub closed_at : List Declaration → TypeId → Bool
-closed_at k id = list_all (λ j. list_all (has (interfaces_of k id)) (interfaces_of k j)) (interfaces_of k id)
-
-abbrev pub all_closed : List Declaration → Bool
-all_closed k = list_all (λ d. closed_at k d.id) k
 
 -- no field's type nests more than 512 deep
 abbrev pub fields_nest : Declaration → Bool

@@ -1,7 +1,7 @@
 pub mod Below
 pub mod Classes
+pub mod Code
 pub mod Declarations
-pub mod Judged
 pub mod Laws
 pub mod Sub
 pub mod Views

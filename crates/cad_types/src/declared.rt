@@ -4,6 +4,7 @@ ghost use Rattle.std.specs.List.{list_all};
 ghost use Rattle.cad_syntax.specs.TypeIds.{has};
 ghost use Rattle.cad_syntax.specs.Types.{nesting, pure_type};
 ghost use Rattle.cad_types.specs.Declarations as spec;
+ghost use Rattle.cad_types.specs.Code.Declarations as tests;
 
 use cad_syntax::{CadType, TypeId, TypeIds, Types, contains};
 
@@ -45,7 +46,7 @@ pub(crate) fn find<'a>(declared: &'a [Declared], id: &TypeId) -> Option<&'a Decl
 }
 
 fn is_declared(declared: &[Declared], id: &TypeId) -> bool
-    ensures { result ≡ spec.is_declared (map spec.declaration_of declared.now) id.now }
+    ensures { result ≡ tests.is_declared (map spec.declaration_of declared.now) id.now }
 {
     match find(declared, id) {
         Some(_) => true,
@@ -55,7 +56,7 @@ fn is_declared(declared: &[Declared], id: &TypeId) -> bool
 
 /// Whether no identifier is declared twice.
 pub(crate) fn are_distinct(declared: &[Declared]) -> bool
-    ensures { result ≡ spec.all_distinct (map spec.declaration_of declared.now) }
+    ensures { result ≡ tests.all_distinct (map spec.declaration_of declared.now) }
 {
     let mut left = declared;
     while let [first, others @ ..] = left {
@@ -74,7 +75,7 @@ pub(crate) fn find_at<'a>(
     place: usize,
     id: &TypeId,
 ) -> Option<&'a Declared>
-    requires distinct { spec.all_distinct (map spec.declaration_of declared.now) ≡ true }
+    requires distinct { tests.all_distinct (map spec.declaration_of declared.now) ≡ true }
     ensures { IfSome result (λ d. spec.found (map spec.declaration_of declared.now) id.now ≡ Some (spec.declaration_of d.now)) }
 {
     if place < declared.len() && declared[place].id.same(id) {
@@ -101,7 +102,7 @@ pub fn is_closed(declared: &[Declared]) -> bool
 }
 
 fn all_closed(declared: &[Declared]) -> bool
-    ensures { result ≡ spec.all_closed (map spec.declaration_of declared.now) }
+    ensures { result ≡ tests.all_closed (map spec.declaration_of declared.now) }
 {
     for d in declared {
         if !closed_at(declared, &d.id) {
@@ -112,7 +113,7 @@ fn all_closed(declared: &[Declared]) -> bool
 }
 
 fn closed_at(declared: &[Declared], id: &TypeId) -> bool
-    ensures { result ≡ spec.closed_at (map spec.declaration_of declared.now) id.now }
+    ensures { result ≡ tests.closed_at (map spec.declaration_of declared.now) id.now }
 {
     let own = interfaces(declared, id);
     own.iter().all(|j| includes(own, interfaces(declared, j)))

@@ -1,8 +1,9 @@
 // The declared types that an order of types is judged by.
 ghost use Rattle.std.specs.Prelude.{◌≡◌, map};
-ghost use Rattle.cad_types.specs.Declarations.{IsClosed, declaration_of, all_distinct};
+ghost use Rattle.cad_types.specs.Declarations.{IsClosed, declaration_of};
+ghost use Rattle.cad_types.specs.Code.Declarations.{all_distinct};
 ghost use Rattle.cad_types.specs.Declarations as spec;
-ghost use Rattle.cad_types.specs.Judged.{IsJudged};
+ghost use Rattle.cad_types.specs.Code.Judged.{IsJudged};
 
 use crate::declared::{Declared, Sort, are_distinct, find, find_at};
 use crate::marks::{Marks, is_exportable_by, is_importable_by, is_storable_by, judge};

@@ -9,8 +9,6 @@ pub mod laws;
 mod marks;
 mod places;
 mod subtype;
-#[cfg(test)]
-mod tests;
 
 pub use builtin::Builtin;
 pub use classes::{is_exportable, is_importable, is_storable};

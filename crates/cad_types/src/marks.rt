@@ -4,7 +4,7 @@ ghost use Rattle.std.specs.List.{list_all};
 ghost use Rattle.cad_syntax.specs.Types.{pure_type};
 ghost use Rattle.cad_types.specs.Classes as class;
 ghost use Rattle.cad_types.specs.Declarations.{declaration_of};
-ghost use Rattle.cad_types.specs.Judged as spec;
+ghost use Rattle.cad_types.specs.Code.Judged as spec;
 
 use crate::declared::{Declared, Sort};
 use cad_syntax::{Basic, CadType, TypeId};

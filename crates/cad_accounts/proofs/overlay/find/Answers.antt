@@ -1,6 +1,6 @@
 use Rattle.std.proofs.Common.{List, ℕ, sym, ap, subst, ◌∙◌}
 use Rattle.cad_wire.specs.declared.entry.Entry.{Entry}
-use Rattle.cad_accounts.specs.Places.{entry_key, StandsAt, BelongsAt}
+use Rattle.cad_accounts.specs.Code.Places.{entry_key, StandsAt, BelongsAt}
 use Rattle.cad_accounts.proofs.Maps.{applied_free}
 use Rattle.cad_accounts.proofs.EntryPlaces.{rising, value_there, belongs_free}
 use Rattle.cad_accounts.proofs.overlay.find.Goals as goal

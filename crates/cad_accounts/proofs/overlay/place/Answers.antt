@@ -1,6 +1,6 @@
 use Rattle.std.proofs.Common.{◌≡◌, ◌-◌, suc, length, arith}
 use Rattle.std.proofs.lemmas.Bool.Decides.{nat_tests}
-use Rattle.cad_accounts.specs.Places.{entry_key}
+use Rattle.cad_accounts.specs.Code.Places.{entry_key}
 use Rattle.cad_accounts.proofs.EntryPlaces.{rising}
 use Rattle.cad_accounts.proofs.Order.{behind_last, stands_at}
 use Rattle.cad_accounts.proofs.overlay.place.Goals as goal

@@ -1,6 +1,6 @@
 use Rattle.std.proofs.Common.{List, ℕ, subst, arith}
 use Rattle.cad_wire.specs.declared.entry.Entry.{Entry}
-use Rattle.cad_accounts.specs.Places.{entry_key, StandsAt, BelongsAt}
+use Rattle.cad_accounts.specs.Code.Places.{entry_key, StandsAt, BelongsAt}
 use Rattle.cad_accounts.proofs.EntryPlaces.{put_there, put_more}
 use Rattle.cad_accounts.proofs.overlay.put.Goals as goal
 

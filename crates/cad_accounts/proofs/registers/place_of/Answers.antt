@@ -1,6 +1,6 @@
 use Rattle.std.proofs.Common.{◌≡◌, ◌-◌, suc, length, arith}
 use Rattle.std.proofs.lemmas.Bool.Decides.{nat_tests}
-use Rattle.cad_accounts.specs.Places.{row_key}
+use Rattle.cad_accounts.specs.KeyOrder.{row_key}
 use Rattle.cad_accounts.proofs.Order.{behind_last, stands_at}
 use Rattle.cad_accounts.proofs.registers.place_of.Goals as goal
 

@@ -1,5 +1,5 @@
 use Rattle.std.proofs.Common.{◌-◌, ◌↔◌, length, drop}
-use Rattle.cad_accounts.specs.InOrder.{Follow}
+use Rattle.cad_accounts.specs.Code.InOrder.{Follow}
 use Rattle.cad_accounts.proofs.sound.follow.Given as goal
 
 abbrev pub invariant-loop-key : goal.invariant-loop-key

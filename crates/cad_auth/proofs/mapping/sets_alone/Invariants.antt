@@ -1,5 +1,6 @@
 use Rattle.std.proofs.Common.{◌≡◌, [], take, fold, map}
-use Rattle.cad_auth.specs.Images.{with_set, alone}
+use Rattle.cad_auth.specs.Images.{with_set}
+use Rattle.cad_auth.specs.Code.Tests.{alone}
 use Rattle.cad_auth.proofs.mapping.sets_alone.Given as goal
 
 abbrev pub invariant-loop-entitlement : goal.invariant-loop-entitlement

@@ -1,6 +1,6 @@
 use Rattle.std.proofs.Common.{◌∙◌, sym, arith}
 use Rattle.std.proofs.lemmas.Bool.{false≢true}
-use Rattle.cad_syntax.specs.declared.token.Keyword.TheVariants.{Access}
+use Rattle.cad_syntax.specs.declared.keyword.Keyword.TheVariants.{Access}
 use Rattle.cad_forms.specs.declared.mark.Mark.TheVariants.{Keyword}
 use Rattle.cad_forms.proofs.Marked.{asked_other}
 use Rattle.cad_forms.proofs.mark.behind.Goals as goal

@@ -1,6 +1,6 @@
 use Rattle.std.proofs.Common.{◌∷◌, ◌++◌, ◌∙◌, sym}
 use Rattle.cad_forms.specs.Sums.{name}
-use Rattle.cad_forms.specs.Marks.{kinds_asked}
+use Rattle.cad_forms.specs.Code.Marks.{kinds_asked}
 use Rattle.cad_forms.proofs.Marked.{no_front, front_rest, first_and_rest, none_first}
 use Rattle.cad_forms.proofs.mark.name_between.Goals as goal
 

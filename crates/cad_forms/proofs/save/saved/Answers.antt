@@ -1,5 +1,5 @@
 use Rattle.std.proofs.Common.{◌∙◌, Err, ap, subst, sym}
-use Rattle.cad_syntax.specs.Lexes.{Lexes}
+use Rattle.cad_grammar.specs.Lexes.{Lexes}
 use Rattle.cad_forms.specs.Views.{save_of}
 use Rattle.cad_forms.proofs.Scripts.{lexed_as}
 use Rattle.cad_forms.proofs.Saving.{save_exactly}

@@ -1,5 +1,5 @@
 use Rattle.std.proofs.Common.{◌∙◌, Err, ap, subst, sym}
-use Rattle.cad_syntax.specs.Lexes.{Lexes}
+use Rattle.cad_grammar.specs.Lexes.{Lexes}
 use Rattle.cad_forms.specs.Views.{products_of}
 use Rattle.cad_forms.proofs.Scripts.{code_exactly, lexed_as}
 use Rattle.cad_forms.proofs.script.script_sum.Goals as goal

@@ -1,6 +1,6 @@
 use Rattle.std.proofs.Common.{length}
 use Rattle.cad_forms.specs.Sums.{kinds_of}
-use Rattle.cad_forms.specs.Parts.{Multiplies}
+use Rattle.cad_forms.specs.Code.Parts.{Multiplies}
 use Rattle.cad_forms.proofs.sum.factors.Given as goal
 
 abbrev pub invariant-factors : goal.invariant-factors

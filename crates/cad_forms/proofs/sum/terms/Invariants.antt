@@ -1,6 +1,6 @@
 use Rattle.std.proofs.Common.{length}
 use Rattle.cad_forms.specs.Sums.{kinds_of}
-use Rattle.cad_forms.specs.Parts.{Adds}
+use Rattle.cad_forms.specs.Code.Parts.{Adds}
 use Rattle.cad_forms.specs.Views.{products_of}
 use Rattle.cad_forms.proofs.sum.terms.Given as goal
 

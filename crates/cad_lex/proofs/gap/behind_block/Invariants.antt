@@ -1,5 +1,5 @@
 use Rattle.std.proofs.Common.{◌≡◌, false, ◌+◌, ◌≤◌, length}
-use Rattle.cad_lex.specs.Reading.{block}
+use Rattle.cad_lex.specs.Code.Reading.{block}
 use Rattle.cad_lex.proofs.gap.behind_block.Given as goal
 
 -- a comment that opens takes two bytes

@@ -1,7 +1,7 @@
 use Rattle.std.proofs.Common.{◌≡◌, ◌-◌, None, refl, length, sym, ap, ◌∙◌, arith, subst, option_map, false-eqb, rules}
-use Rattle.cad_syntax.specs.declared.token.Token.{Token}
-use Rattle.cad_syntax.specs.Lexes.{Stops}
-use Rattle.cad_lex.specs.Reading.{seen, gap}
+use Rattle.cad_grammar.specs.declared.token.Token.{Token}
+use Rattle.cad_grammar.specs.Lexes.{Stops}
+use Rattle.cad_lex.specs.Code.Reading.{seen, gap}
 use Rattle.cad_lex.proofs.Turns.{read_begun, read_gap, read_token, read_stops, stops_alone, told, told_shorter, gap_told_shorter}
 use Rattle.cad_lex.proofs.lexer.lex.Goals as goal
 

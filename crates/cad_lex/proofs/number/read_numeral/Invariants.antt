@@ -1,5 +1,5 @@
 use Rattle.std.proofs.Common.{◌≡◌, ◌+◌, length, Some}
-use Rattle.cad_lex.specs.Reading.{digits_from, number_from}
+use Rattle.cad_lex.specs.Code.Reading.{digits_from, number_from}
 use Rattle.cad_lex.proofs.number.read_numeral.Given as goal
 
 -- what was read, with the digits ahead, is what all digits make

@@ -1,6 +1,6 @@
 use Rattle.std.proofs.Common.{◌≡◌, length}
-use Rattle.cad_syntax.specs.Lexes.{is_hexadecimal}
-use Rattle.cad_lex.specs.Reading.{behind}
+use Rattle.cad_grammar.specs.Lexes.{is_hexadecimal}
+use Rattle.cad_lex.specs.Code.Reading.{behind}
 use Rattle.cad_lex.proofs.quotation.behind_hexadecimal.Given as goal
 
 abbrev pub invariant-loop-bytes : goal.invariant-loop-bytes

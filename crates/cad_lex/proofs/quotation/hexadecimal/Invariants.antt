@@ -1,5 +1,5 @@
 use Rattle.std.proofs.Common.{◌≡◌, length, Some}
-use Rattle.cad_lex.specs.Reading.{number_from}
+use Rattle.cad_lex.specs.Code.Reading.{number_from}
 use Rattle.cad_lex.proofs.quotation.hexadecimal.Given as goal
 
 abbrev pub invariant-loop-digits : goal.invariant-loop-digits

@@ -1,5 +1,5 @@
 use Rattle.std.proofs.Common.{◌≡◌, get_or, drop, Some, option_map, sym, ap, ◌∙◌}
-use Rattle.cad_lex.specs.Reading.{escape, seen}
+use Rattle.cad_lex.specs.Code.Reading.{escape, seen}
 use Rattle.cad_lex.proofs.Quotes.{next_turn, next_utf8, whole_tail}
 use Rattle.cad_lex.proofs.quotation.quotation.Goals as goal
 

@@ -1,5 +1,5 @@
 use Rattle.std.proofs.Common.{◌≡◌, ◌-◌, length, IsUtf8}
-use Rattle.cad_lex.specs.Reading.{quoted, with_content}
+use Rattle.cad_lex.specs.Code.Reading.{quoted, with_content}
 use Rattle.cad_lex.proofs.quotation.quotation.Given as goal
 
 -- the content so far, with what is still to be read

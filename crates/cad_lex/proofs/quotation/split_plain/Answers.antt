@@ -1,5 +1,5 @@
 use Rattle.std.proofs.Common.{IsUtf8, sym, ap, ◌∙◌, subst, take, length, ◌-◌}
-use Rattle.cad_syntax.specs.Lexes.{is_plain}
+use Rattle.cad_grammar.specs.Lexes.{is_plain}
 use Rattle.cad_lex.proofs.Runs.{take_behind}
 use Rattle.cad_lex.proofs.Quotes.{plain_is_utf8}
 use Rattle.cad_lex.proofs.quotation.split_plain.Goals as goal

@@ -1,6 +1,6 @@
 use Rattle.std.proofs.Common.{◌≡◌, length}
 use Rattle.cad_syntax.specs.Names.{is_part_of_name}
-use Rattle.cad_lex.specs.Reading.{behind}
+use Rattle.cad_lex.specs.Code.Reading.{behind}
 use Rattle.cad_lex.proofs.word.behind_word.Given as goal
 
 abbrev pub invariant-loop-bytes : goal.invariant-loop-bytes

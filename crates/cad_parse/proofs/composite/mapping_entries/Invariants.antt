@@ -1,9 +1,9 @@
 use Rattle.std.proofs.Common.{◌≡◌, [], length, ◌-◌}
-use Rattle.cad_syntax.specs.declared.token.Sign.TheVariants as s
-use Rattle.cad_parse.specs.Reading.{repeated}
-use Rattle.cad_parse.specs.Reading as spec
-use Rattle.cad_parse.specs.Views.{items_in}
-use Rattle.cad_parse_type.specs.Views.{seen}
+use Rattle.cad_grammar.specs.declared.token.Sign.TheVariants as s
+use Rattle.cad_parse.specs.Code.Reading.{repeated}
+use Rattle.cad_parse.specs.Code.Reading as spec
+use Rattle.cad_parse.specs.Code.Views.{items_in}
+use Rattle.cad_parse_type.specs.Code.Views.{seen}
 use Rattle.cad_parse.proofs.composite.mapping_entries.Given as goal
 
 abbrev pub invariant-loop-turn : goal.invariant-loop-turn

@@ -1,9 +1,9 @@
 use Rattle.std.proofs.Common.{◌≡◌, ap, arith, rules}
 use Rattle.std.proofs.lemmas.Grind.{common_steps}
-use Rattle.cad_parse.specs.Reading.{chain}
-use Rattle.cad_parse.specs.Reading as spec
-use Rattle.cad_parse.specs.Views.{declarations_in}
-use Rattle.cad_parse_type.specs.Views.{seen}
+use Rattle.cad_parse.specs.Code.Reading.{chain}
+use Rattle.cad_parse.specs.Code.Reading as spec
+use Rattle.cad_parse.specs.Code.Views.{declarations_in}
+use Rattle.cad_parse_type.specs.Code.Views.{seen}
 use Rattle.cad_parse_type.proofs.Turns.{one_more}
 use Rattle.cad_parse.proofs.declaration.declarations.Goals as goal
 

@@ -1,8 +1,8 @@
 use Rattle.std.proofs.Common.{◌≡◌, [], length, ◌-◌}
-use Rattle.cad_parse.specs.Reading.{chain}
-use Rattle.cad_parse.specs.Reading as spec
-use Rattle.cad_parse.specs.Views.{declarations_in}
-use Rattle.cad_parse_type.specs.Views.{seen}
+use Rattle.cad_parse.specs.Code.Reading.{chain}
+use Rattle.cad_parse.specs.Code.Reading as spec
+use Rattle.cad_parse.specs.Code.Views.{declarations_in}
+use Rattle.cad_parse_type.specs.Code.Views.{seen}
 use Rattle.cad_parse.proofs.declaration.declarations.Given as goal
 
 abbrev pub invariant-loop-turn : goal.invariant-loop-turn

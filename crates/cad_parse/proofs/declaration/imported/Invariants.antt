@@ -1,6 +1,6 @@
 use Rattle.std.proofs.Common.{◌≡◌, length, ◌-◌}
-use Rattle.cad_parse.specs.Reading.{imported}
-use Rattle.cad_parse_type.specs.Views.{seen}
+use Rattle.cad_parse.specs.Code.Reading.{imported}
+use Rattle.cad_parse_type.specs.Code.Views.{seen}
 use Rattle.cad_parse.proofs.declaration.imported.Given as goal
 
 abbrev pub invariant-loop-turn : goal.invariant-loop-turn

@@ -1,5 +1,5 @@
 use Rattle.std.proofs.Common.{Err, ap, subst, sym}
-use Rattle.cad_syntax.specs.Lexes.{Lexes, Stops}
+use Rattle.cad_grammar.specs.Lexes.{Lexes, Stops}
 use Rattle.cad_parse.proofs.Programs.{never_refused}
 use Rattle.cad_parse.proofs.Answering.{parsed, accepted, stopped, stopped_lexing}
 use Rattle.cad_parse.proofs.Whole.{declaration_laws}

@@ -1,5 +1,5 @@
 use Rattle.cad_grammar.specs.Views.{program_of}
-use Rattle.cad_parse_type.specs.Views.{seen, seen_with}
+use Rattle.cad_parse_type.specs.Code.Views.{seen, seen_with}
 use Rattle.cad_parse.proofs.Programs.{read_whole, not_spelled, ends_there}
 use Rattle.cad_parse.proofs.Answering.{no_tokens, stopped_parsing}
 use Rattle.cad_parse.proofs.Whole.{declaration_laws}

@@ -1,8 +1,8 @@
 use Rattle.std.proofs.Common.{◌≡◌, ap, arith, rules}
 use Rattle.std.proofs.lemmas.Grind.{common_steps}
-use Rattle.cad_parse.specs.Reading.{fields}
-use Rattle.cad_parse.specs.Views.{fields_in}
-use Rattle.cad_parse_type.specs.Views.{seen}
+use Rattle.cad_parse.specs.Code.Reading.{fields}
+use Rattle.cad_parse.specs.Code.Views.{fields_in}
+use Rattle.cad_parse_type.specs.Code.Views.{seen}
 use Rattle.cad_parse_type.proofs.Turns.{one_more}
 use Rattle.cad_parse.proofs.transaction.fields.Goals as goal
 

@@ -1,7 +1,7 @@
 use Rattle.std.proofs.Common.{◌≡◌, [], length, ◌-◌}
-use Rattle.cad_parse.specs.Reading.{fields}
-use Rattle.cad_parse.specs.Views.{fields_in}
-use Rattle.cad_parse_type.specs.Views.{seen}
+use Rattle.cad_parse.specs.Code.Reading.{fields}
+use Rattle.cad_parse.specs.Code.Views.{fields_in}
+use Rattle.cad_parse_type.specs.Code.Views.{seen}
 use Rattle.cad_parse.proofs.transaction.fields.Given as goal
 
 abbrev pub invariant-loop-turn : goal.invariant-loop-turn

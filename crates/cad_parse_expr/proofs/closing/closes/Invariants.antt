@@ -1,5 +1,5 @@
 use Rattle.std.proofs.Common.{◌≡◌, ◌+◌, false, length}
-use Rattle.cad_parse_expr.specs.Closing.{walk}
+use Rattle.cad_parse_expr.specs.Code.Closing.{walk}
 use Rattle.cad_parse_expr.proofs.closing.closes.Given as goal
 
 -- the `<` that are nested, and those that may still be, are as many as at first

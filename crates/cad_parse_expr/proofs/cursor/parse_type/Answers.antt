@@ -1,8 +1,8 @@
 use Rattle.std.proofs.Common.{◌≡◌, ◌-◌, ◌<◌, ◌⊎◌, length, drop, Some, None, option_map, sym, ap, ◌∙◌, subst}
 use Rattle.cad_grammar.specs.Views.{type_of}
 use Rattle.cad_grammar.specs.declared.level.TypePosition.TheVariants as position
-use Rattle.cad_parse_type.specs.Reading.{type_at}
-use Rattle.cad_parse_type.specs.Views.{seen, seen_with}
+use Rattle.cad_parse_type.specs.Code.Reading.{type_at}
+use Rattle.cad_parse_type.specs.Code.Views.{seen, seen_with}
 use Rattle.cad_parse_expr.specs.Cursor.{before}
 use Rattle.cad_parse_expr.proofs.Whole as whole
 use Rattle.cad_parse_expr.proofs.cursor.parse_type.Goals as goal

@@ -1,15 +1,15 @@
 use Rattle.std.proofs.Common.{◌≡◌, ap, arith, rules}
 use Rattle.std.proofs.lemmas.Grind.{common_steps}
-use Rattle.cad_syntax.specs.declared.token.Sign.TheVariants as s
+use Rattle.cad_grammar.specs.declared.token.Sign.TheVariants as s
 use Rattle.cad_grammar.specs.declared.level.Level.TheVariants as level
 use Rattle.cad_grammar.specs.Levels.{tighter}
 use Rattle.cad_grammar.specs.ExpressionGrammar.{extend}
 use Rattle.cad_grammar.specs.Views.{expr_of}
-use Rattle.cad_parse_type.specs.Reading.{climb, listed}
-use Rattle.cad_parse_type.specs.Views.{seen}
-use Rattle.cad_parse_expr.specs.Reading as spec
-use Rattle.cad_parse_expr.specs.Reading.{read}
-use Rattle.cad_parse_expr.specs.Views.{exprs_in, arguments_in, entries_in}
+use Rattle.cad_parse_type.specs.Code.Reading.{climb, listed}
+use Rattle.cad_parse_type.specs.Code.Views.{seen}
+use Rattle.cad_parse_expr.specs.Code.Reading as spec
+use Rattle.cad_parse_expr.specs.Code.Reading.{read}
+use Rattle.cad_parse_expr.specs.Code.Views.{exprs_in, arguments_in, entries_in}
 use Rattle.cad_parse_type.proofs.Turns.{deeper, one_more, no_more}
 use Rattle.cad_parse_expr.proofs.reader.+read.Goals as goal
 

@@ -1,5 +1,5 @@
 use Rattle.std.proofs.Common.{option_map, sym, ap, ◌∙◌}
-use Rattle.cad_parse_type.specs.Views.{seen}
+use Rattle.cad_parse_type.specs.Code.Views.{seen}
 use Rattle.cad_parse_expr.proofs.Closed.{none_close}
 use Rattle.cad_parse_expr.proofs.tail.type_arguments.Goals as goal
 

@@ -1,9 +1,9 @@
 use Rattle.std.proofs.Common.{arith, rules}
 use Rattle.std.proofs.lemmas.Grind.{common_steps}
-use Rattle.cad_parse_type.specs.Views.{seen}
+use Rattle.cad_parse_type.specs.Code.Views.{seen}
 use Rattle.cad_parse_type.proofs.Turns.{deeper, one_more, no_more}
-use Rattle.cad_parse_statement.specs.Reading.{a_statement, an_if, read, body, statements, cases, all_cases}
-use Rattle.cad_parse_statement.specs.Views.{stmts_in, cases_in}
+use Rattle.cad_parse_statement.specs.Code.Reading.{a_statement, an_if, read, body, statements, cases, all_cases}
+use Rattle.cad_parse_statement.specs.Code.Views.{stmts_in, cases_in}
 use Rattle.cad_parse_statement.proofs.reader.+read.Goals as goal
 
 pub read_statement-returns : goal.read_statement-returns

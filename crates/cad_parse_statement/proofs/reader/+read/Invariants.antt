@@ -1,7 +1,7 @@
 use Rattle.std.proofs.Common.{◌≡◌, ◌+◌, ◌-◌, ◌*◌}
-use Rattle.cad_parse_type.specs.Views.{seen}
-use Rattle.cad_parse_statement.specs.Views.{stmts_in, cases_in}
-use Rattle.cad_parse_statement.specs.Reading as spec
+use Rattle.cad_parse_type.specs.Code.Views.{seen}
+use Rattle.cad_parse_statement.specs.Code.Views.{stmts_in, cases_in}
+use Rattle.cad_parse_statement.specs.Code.Reading as spec
 use Rattle.cad_parse_statement.proofs.reader.+read.Given as goal
 
 abbrev pub decreases-read_statement : goal.decreases-read_statement

@@ -1,7 +1,7 @@
 use Rattle.std.proofs.Common.{arith, rules}
 use Rattle.std.proofs.lemmas.Grind.{common_steps}
-use Rattle.cad_parse_type.specs.Reading.{alternatives}
-use Rattle.cad_parse_type.specs.Views.{seen}
+use Rattle.cad_parse_type.specs.Code.Reading.{alternatives}
+use Rattle.cad_parse_type.specs.Code.Views.{seen}
 use Rattle.cad_parse_type.proofs.Turns.{one_more}
 use Rattle.cad_parse_type.proofs.names.alternatives.Goals as goal
 

@@ -1,6 +1,6 @@
 use Rattle.std.proofs.Common.{◌≡◌, length, ◌-◌}
-use Rattle.cad_parse_type.specs.Reading as spec
-use Rattle.cad_parse_type.specs.Views.{seen}
+use Rattle.cad_parse_type.specs.Code.Reading as spec
+use Rattle.cad_parse_type.specs.Code.Views.{seen}
 use Rattle.cad_parse_type.proofs.names.alternatives.Given as goal
 
 abbrev pub invariant-loop-turn : goal.invariant-loop-turn

@@ -1,8 +1,8 @@
 use Rattle.std.proofs.Common.{arith, rules}
 use Rattle.std.proofs.lemmas.Grind.{common_steps}
-use Rattle.cad_parse_type.specs.Reading as spec
-use Rattle.cad_parse_type.specs.Reading.{listed}
-use Rattle.cad_parse_type.specs.Views.{seen}
+use Rattle.cad_parse_type.specs.Code.Reading as spec
+use Rattle.cad_parse_type.specs.Code.Reading.{listed}
+use Rattle.cad_parse_type.specs.Code.Views.{seen}
 use Rattle.cad_parse_type.proofs.Turns.{one_more}
 use Rattle.cad_parse_type.proofs.names.listed.Goals as goal
 

@@ -1,9 +1,9 @@
 use Rattle.std.proofs.Common.{arith, rules}
 use Rattle.std.proofs.lemmas.Grind.{common_steps}
 use Rattle.cad_grammar.specs.TypeGrammar.{dot_name}
-use Rattle.cad_parse_type.specs.Reading as spec
-use Rattle.cad_parse_type.specs.Reading.{climb}
-use Rattle.cad_parse_type.specs.Views.{seen}
+use Rattle.cad_parse_type.specs.Code.Reading as spec
+use Rattle.cad_parse_type.specs.Code.Reading.{climb}
+use Rattle.cad_parse_type.specs.Code.Views.{seen}
 use Rattle.cad_parse_type.proofs.Turns.{one_more}
 use Rattle.cad_parse_type.proofs.names.with_further.Goals as goal
 

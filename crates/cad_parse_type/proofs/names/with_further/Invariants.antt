@@ -1,7 +1,7 @@
 use Rattle.std.proofs.Common.{◌≡◌, length, ◌-◌}
 use Rattle.cad_grammar.specs.TypeGrammar.{dot_name}
-use Rattle.cad_parse_type.specs.Reading as spec
-use Rattle.cad_parse_type.specs.Views.{seen}
+use Rattle.cad_parse_type.specs.Code.Reading as spec
+use Rattle.cad_parse_type.specs.Code.Views.{seen}
 use Rattle.cad_parse_type.proofs.names.with_further.Given as goal
 
 abbrev pub invariant-loop-turn : goal.invariant-loop-turn

@@ -1,12 +1,12 @@
 use Rattle.std.proofs.Common.{◌≡◌, ap, arith, rules}
 use Rattle.std.proofs.lemmas.Grind.{common_steps}
 use Rattle.std.proofs.Common.{map}
-use Rattle.cad_syntax.specs.declared.token.Sign.TheVariants as s
+use Rattle.cad_grammar.specs.declared.token.Sign.TheVariants as s
 use Rattle.cad_grammar.specs.Views.{annotation_of}
 use Rattle.cad_grammar.specs.declared.level.TypePosition.TheVariants as position
-use Rattle.cad_parse_type.specs.Reading as spec
-use Rattle.cad_parse_type.specs.Reading.{listed, read_core}
-use Rattle.cad_parse_type.specs.Views.{seen}
+use Rattle.cad_parse_type.specs.Code.Reading as spec
+use Rattle.cad_parse_type.specs.Code.Reading.{listed, read_core}
+use Rattle.cad_parse_type.specs.Code.Views.{seen}
 use Rattle.cad_parse_type.proofs.Turns.{deeper, one_more}
 use Rattle.cad_parse_type.proofs.types.+types.Goals as goal
 

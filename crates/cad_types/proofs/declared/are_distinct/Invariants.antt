@@ -1,5 +1,6 @@
 use Rattle.std.proofs.Common.{◌≡◌, length, map}
-use Rattle.cad_types.specs.Declarations.{declaration_of, all_distinct}
+use Rattle.cad_types.specs.Declarations.{declaration_of}
+use Rattle.cad_types.specs.Code.Declarations.{all_distinct}
 use Rattle.cad_types.proofs.declared.are_distinct.Given as goal
 
 abbrev pub invariant-loop-left : goal.invariant-loop-left

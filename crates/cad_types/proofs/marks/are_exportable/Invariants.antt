@@ -2,7 +2,7 @@ use Rattle.std.proofs.Common.{◌≡◌, drop, map}
 use Rattle.std.specs.List.{list_all}
 use Rattle.cad_syntax.specs.Types.{pure_type}
 use Rattle.cad_types.specs.Declarations.{declaration_of}
-use Rattle.cad_types.specs.Judged.{exportable_by}
+use Rattle.cad_types.specs.Code.Judged.{exportable_by}
 use Rattle.cad_types.proofs.marks.are_exportable.Given as goal
 
 abbrev pub invariant-loop-t : goal.invariant-loop-t

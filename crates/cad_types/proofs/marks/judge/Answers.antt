@@ -1,7 +1,7 @@
 use Rattle.std.proofs.Common.{◌≡◌, ◌≢◌, ◌<◌, List, length, map, sym, ap, ◌∙◌, subst}
 use Rattle.std.proofs.lemmas.Bool.{false≢true}
 use Rattle.cad_types.specs.Declarations.{declaration_of}
-use Rattle.cad_types.specs.Judged.{refined, IsGreatest}
+use Rattle.cad_types.specs.Code.Judged.{refined, IsGreatest}
 use Rattle.cad_types.specs.declared.marks.Marks.{Marks}
 use Rattle.cad_types.proofs.Judging.{greatest_first, whole_first, greatest_after, whole_after, fewer_after, trues}
 use Rattle.cad_types.proofs.marks.judge.Goals as goal

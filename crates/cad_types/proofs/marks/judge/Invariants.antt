@@ -1,6 +1,6 @@
 use Rattle.std.proofs.Common.{◌≡◌, length, map}
 use Rattle.cad_types.specs.Declarations.{declaration_of}
-use Rattle.cad_types.specs.Judged.{IsGreatest}
+use Rattle.cad_types.specs.Code.Judged.{IsGreatest}
 use Rattle.cad_types.proofs.Judging.{trues}
 use Rattle.cad_types.proofs.marks.judge.Given as goal
 

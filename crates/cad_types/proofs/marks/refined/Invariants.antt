@@ -1,6 +1,6 @@
 use Rattle.std.proofs.Common.{◌≡◌, ◌++◌, drop, map}
 use Rattle.cad_types.specs.Declarations.{declaration_of}
-use Rattle.cad_types.specs.Judged.{kept, each_kept, refined}
+use Rattle.cad_types.specs.Code.Judged.{kept, each_kept, refined}
 use Rattle.cad_types.proofs.marks.refined.Given as goal
 
 abbrev pub invariant-loop-i : goal.invariant-loop-i

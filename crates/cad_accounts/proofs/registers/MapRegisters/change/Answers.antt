@@ -1,4 +1,4 @@
-use Rattle.cad_accounts.specs.Places.{row_key}
+use Rattle.cad_accounts.specs.KeyOrder.{row_key}
 use Rattle.cad_accounts.proofs.Order.{stands_there, belongs_there}
 use Rattle.cad_accounts.proofs.Places.{replaced, inserted, removed, unchanged}
 use Rattle.cad_accounts.proofs.registers.MapRegisters.change.Goals as goal

@@ -1,5 +1,5 @@
 use Rattle.std.proofs.Common.{sym}
-use Rattle.cad_accounts.specs.Places.{row_key}
+use Rattle.cad_accounts.specs.KeyOrder.{row_key}
 use Rattle.cad_accounts.proofs.Order.{stands_there, belongs_there}
 use Rattle.cad_accounts.proofs.Places.{found_value, absent}
 use Rattle.cad_accounts.proofs.registers.MapRegistersRegisters.get.Goals as goal

@@ -2,7 +2,7 @@ use Rattle.std.proofs.Common.{◌≡◌, length, List, ap, ◌∙◌, arith}
 use Rattle.std.proofs.lemmas.Bool.Decides.{nat_tests}
 use Rattle.cad_wire.specs.declared.entry.Entry.{Entry}
 use Rattle.cad_accounts.specs.Registers.{applied, changed}
-use Rattle.cad_accounts.specs.Places.{entry_key}
+use Rattle.cad_accounts.specs.Code.Places.{entry_key}
 use Rattle.cad_accounts.proofs.Order.{stands_there, belongs_there}
 use Rattle.cad_accounts.proofs.LateEntries.{takes_there, takes_behind, takes_late}
 use Rattle.cad_accounts.proofs.sifting.Sifted.take.Goals as goal

@@ -1,6 +1,6 @@
 use Rattle.std.proofs.Common.{ℕ, List, map, ap, ◌∙◌}
 use Rattle.std.specs.Borrow.{Bor}
-use Rattle.cad_syntax.specs.TypeIds.{id_of}
+use Rattle.cad_syntax.specs.Code.TypeIds.{id_of}
 use Rattle.cad_syntax.proofs.DottedTexts.{found}
 use Rattle.cad_syntax.proofs.type_id.TypeId.from_text.Goals as goal
 

@@ -1,7 +1,7 @@
 use Rattle.std.proofs.Common.{List, map, ap, ◌∙◌}
 use Rattle.cad_syntax.specs.Types.{pure_type}
 use Rattle.cad_types.specs.Declarations.{declaration_of}
-use Rattle.cad_types.specs.Judged.{importable_by}
+use Rattle.cad_types.specs.Code.Judged.{importable_by}
 use Rattle.cad_types.specs.Views.{declarations}
 use Rattle.cad_types.specs.declared.declared.Declared.{Declared}
 use Rattle.cad_types.specs.declared.marks.Marks.{Marks}

@@ -1,0 +1,5 @@
+//! Tests of arithmetic and decimal texts.
+#![tactic(auto)]
+
+#[cfg(test)]
+mod tests;
