@@ -5,5 +5,5 @@ use Rattle.cad_types.proofs.subtype.is_subtype.Goals as goal
 
 pub returns : goal.returns
 returns c =
-    let kinds = c.args.kinds.now in
-    tells_sub (declarations kinds) c.is_below.result (pure_type c.args.a.now) (pure_type c.args.b.now) kinds.closed c.is_below.ensures
+    let declared_types = c.args.declared_types.now in
+    tells_sub (declarations declared_types) c.is_below.result (pure_type c.args.a.now) (pure_type c.args.b.now) declared_types.closed c.is_below.ensures
