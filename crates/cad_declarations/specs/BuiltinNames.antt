@@ -151,9 +151,8 @@ storage_members =
     ∷ member_named (codes "copy") m.StorageCopy ∷ member_named (codes "borrow") m.StorageBorrow
     ∷ member_named (codes "check") m.StorageCheck ∷ member_named (codes "type") m.StorageType ∷ []
 
--- no expression calls `update` yet
 abbrev pub contracts_members : List MemberName
-contracts_members = member_named (codes "add") m.ContractsAdd ∷ []
+contracts_members = member_named (codes "add") m.ContractsAdd ∷ member_named (codes "update") m.ContractsUpdate ∷ []
 
 abbrev pub capabilities_members : List MemberName
 capabilities_members =

@@ -3,7 +3,9 @@ pub mod Builtins
 pub mod Formed
 pub mod Kinds
 pub mod Names
+pub mod Reached
 pub mod Scopes
 pub mod Tables
 pub mod Typed
 pub mod Views
+pub mod Written
