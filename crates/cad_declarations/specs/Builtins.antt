@@ -278,7 +278,7 @@ takes_more _ = false
 abbrev pub own_account : PureType
 own_account =
     reference (a.All (built_in (codes "Storage") ∷ built_in (codes "Contracts") ∷ built_in (codes "Keys") ∷ built_in (codes "Inbox") ∷ built_in (codes "Capabilities") ∷ []))
-        (basic b.Account)
+    (basic b.Account)
 
 -- The result of a member, by what the reference grants through which it is met, the type on which it stands, and its type
 -- argument. The parts of an account carry the account's authorization.

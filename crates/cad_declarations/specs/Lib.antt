@@ -1,8 +1,15 @@
+pub mod Build
 pub mod BuiltinNames
 pub mod Builtins
+pub mod Entries
 pub mod Formed
+pub mod Imports
 pub mod Kinds
+pub mod Meets
+pub mod Members
 pub mod Names
+pub mod Own
+pub mod Points
 pub mod Reached
 pub mod Scopes
 pub mod Tables

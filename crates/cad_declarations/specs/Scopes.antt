@@ -62,13 +62,13 @@ meaning_in scope contract (name ∷ []) = meaning_of scope (inside contract name
 meaning_in scope contract (name ∷ other ∷ more) = None
 
 -- a contract has one name
+abbrev pub is_one_name : List Name → Name → Bool
+is_one_name [] name = false
+is_one_name (own ∷ []) name = same_name own name
+is_one_name (own ∷ other ∷ more) name = false
+
 abbrev pub is_contract_name : Name → TypeId → Bool
-is_contract_name name id = same_name_only id.names name
-  where
-    same_name_only : List Name → Name → Bool
-    same_name_only [] n = false
-    same_name_only (own ∷ []) n = same_name own n
-    same_name_only (own ∷ other ∷ more) n = false
+is_contract_name name id = is_one_name id.names name
 
 -- the program's contract and those that it imports
 abbrev pub contracts_in : Scope → List TypeId
