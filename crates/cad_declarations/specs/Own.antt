@@ -10,7 +10,6 @@ use Rattle.cad_types.specs.Declarations.{Declaration}
 use Rattle.cad_types.specs.declared.declared.Sort.{Sort}
 use Rattle.cad_types.specs.declared.declared.Sort.TheVariants as s
 use Rattle.cad_declarations.specs.Imports.{ContractEntry, all_imported, contract_id}
-use Rattle.cad_declarations.specs.Kinds.{declaration_of}
 use Rattle.cad_declarations.specs.Reached.{Link}
 use Rattle.cad_declarations.specs.Scopes.{Scope, inside, resolved_interface}
 
@@ -80,7 +79,7 @@ abbrev pub program_scope : List ContractEntry → t.ProgramTree → Option OwnCo
 program_scope imports program own = record {
   contract = option_map (λ o. o.id) own;
   imports = all_imported program.imports;
-  types = flat_map (λ c. map declaration_of c.types) imports ++ flat_map named_in (option_to_list own);
+  types = flat_map (λ c. map (λ t. named t.id t.sort) c.types) imports ++ flat_map named_in (option_to_list own);
   entitlements = flat_map (λ c. c.entitlements) imports ++ flat_map entitlements_in (option_to_list own);
   mappings = flat_map (λ c. map (λ m. m.id) c.mappings) imports ++ flat_map mappings_in (option_to_list own);
 }
