@@ -6,6 +6,7 @@ mod body;
 mod member;
 mod program;
 mod statement;
+mod stop;
 mod tables;
 mod term;
 
@@ -16,5 +17,6 @@ pub use body::{
 pub use member::{Member, MemberAccess, MemberKind, Parameter, Signature};
 pub use program::{Checked, Deployed, Installed};
 pub use statement::{TypedBlock, TypedCase, TypedStatement, Variable};
+pub use stop::{Refused, Rejected, Stop};
 pub use tables::{MappingDeclaration, Tables, TypeDeclaration};
 pub use term::{Argument, Place, Term, TermEntry, Use};
