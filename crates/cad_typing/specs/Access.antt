@@ -1,5 +1,5 @@
 -- Where a member is served, and where it is written.
-use Rattle.std.specs.Prelude.{ℕ, Bool, true, false, ◌&&◌, ◌||◌, ◌==◌, Option, Some, None, List, [], ◌∷◌, option_map, take, if◌then◌else◌}
+use Rattle.std.specs.Prelude.{Bool, true, false, ◌&&◌, ◌==◌, Option, Some, None, List, [], ◌∷◌, take}
 use Rattle.std.specs.List.{list_any}
 use Rattle.cad_syntax.specs.TypeIds.{same_id}
 use Rattle.cad_syntax.specs.Types.{PureType, declared}

@@ -1,9 +1,8 @@
 -- What stands under `before` in an expression.
-use Rattle.std.specs.Prelude.{ℕ, ◌+◌, Bool, true, false, Option, Some, None, List, [], ◌∷◌, ◌++◌, codes, length, if◌then◌else◌}
-use Rattle.cad_syntax.specs.declared.text.Name.{Name}
+use Rattle.std.specs.Prelude.{ℕ, ◌+◌, Bool, false, Some, List, [], ◌∷◌, ◌++◌, codes, length, if◌then◌else◌}
 use Rattle.cad_grammar.specs.Trees as s
 use Rattle.cad_declarations.specs.Names.{is_spelled}
-use Rattle.cad_typing.specs.Environments.{Environment, Local, Part, postcondition, before_value}
+use Rattle.cad_typing.specs.Environments.{Environment, Part, postcondition, before_value}
 
 abbrev pub is_before : s.ExprTree → Bool
 is_before (s.name n) = is_spelled (codes "before") n

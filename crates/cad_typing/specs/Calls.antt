@@ -1,9 +1,7 @@
 -- What is called, with its parameters and its result.
-use Rattle.std.specs.Prelude.{ℕ, Bool, true, false, not, ◌&&◌, ◌||◌, Option, Some, None, List, [], ◌∷◌, ◌++◌, codes, drop, map, option_map, option_and_then, if◌then◌else◌}
+use Rattle.std.specs.Prelude.{ℕ, Bool, true, false, not, ◌&&◌, Option, Some, None, List, [], ◌∷◌, drop, map, option_map, if◌then◌else◌}
 use Rattle.std.specs.Option.{option_or}
-use Rattle.std.specs.List.{list_any}
-use Rattle.cad_syntax.specs.TypeIds.{same_id}
-use Rattle.cad_syntax.specs.Types.{PureType, basic, declared, reference}
+use Rattle.cad_syntax.specs.Types.{PureType, declared}
 use Rattle.cad_syntax.specs.declared.text.Name.{Name}
 use Rattle.cad_syntax.specs.declared.type_id.TypeId.{TypeId}
 use Rattle.cad_syntax.specs.declared.types.Authorization.TheVariants as a
@@ -25,9 +23,9 @@ use Rattle.cad_typing.specs.Access.{rights, stands_in_contract}
 use Rattle.cad_typing.specs.Environments.{Environment, Typing, kinds, scope, typed, when, ◌>=>◌}
 use Rattle.cad_typing.specs.Fields.{Found, declared_member, built_in_member, found_member, serves, grant_of}
 use Rattle.cad_typing.specs.Members.{type_entry}
-use Rattle.cad_typing.specs.Names.{Head, local, function, contract_head, type_head, builtin_head, type_inside, is_postcondition}
+use Rattle.cad_typing.specs.Names.{Head, function, type_head, builtin_head, type_inside, is_postcondition}
 use Rattle.cad_typing.specs.Receivers.{Receiver, Hidden, Base, value, contract, type_name, transaction, closed, of_contract}
-use Rattle.cad_typing.specs.Types.{void, is_never_type, is_optional_type, is_storable, optional_once}
+use Rattle.cad_typing.specs.Types.{void, is_never_type, is_storable}
 
 -- ---- parameters
 

@@ -1,6 +1,6 @@
 -- `a?.n` and its calls.
-use Rattle.std.specs.Prelude.{Bool, true, false, not, ◌&&◌, Option, Some, None}
-use Rattle.cad_syntax.specs.Types.{PureType, optional, reference}
+use Rattle.std.specs.Prelude.{not, Option, Some}
+use Rattle.cad_syntax.specs.Types.{PureType, reference}
 use Rattle.cad_syntax.specs.declared.text.Name.{Name}
 use Rattle.cad_grammar.specs.Trees as s
 use Rattle.cad_types.specs.Declarations.{resource}

@@ -1,5 +1,5 @@
 -- What typing knows where an expression stands, and what it answers.
-use Rattle.std.specs.Prelude.{ℕ, suc, ◌+◌, Bool, true, false, Option, Some, None, List, [], ◌∷◌, find, nat_le, option_map, option_and_then, if◌then◌else◌}
+use Rattle.std.specs.Prelude.{ℕ, Bool, Option, Some, None, List, [], ◌∷◌, find, nat_le, if◌then◌else◌}
 use Rattle.std.specs.Option.{option_or}
 use Rattle.cad_syntax.specs.Types.{PureType, intersection, declared, nesting}
 use Rattle.cad_syntax.specs.declared.text.Name.{Name}

@@ -1,8 +1,8 @@
 -- Members that are read, and elements.
-use Rattle.std.specs.Prelude.{ℕ, Bool, true, false, not, ◌&&◌, ◌||◌, Option, Some, None, List, [], ◌∷◌, option_map, if◌then◌else◌}
+use Rattle.std.specs.Prelude.{Bool, true, false, not, ◌&&◌, ◌||◌, Option, Some, None, [], option_map, if◌then◌else◌}
 use Rattle.std.specs.Option.{option_or}
 use Rattle.cad_syntax.specs.TypeIds.{same_id}
-use Rattle.cad_syntax.specs.Types.{PureType, basic, optional, array, dictionary, declared, reference}
+use Rattle.cad_syntax.specs.Types.{PureType, optional, array, dictionary, declared}
 use Rattle.cad_syntax.specs.declared.text.Name.{Name}
 use Rattle.cad_syntax.specs.declared.type_id.TypeId.{TypeId}
 use Rattle.cad_syntax.specs.declared.types.Authorization.{Authorization}
@@ -19,7 +19,7 @@ use Rattle.cad_typing.specs.Environments.{Environment, Position, Typing, kinds, 
 use Rattle.cad_typing.specs.Members.{member, case_number}
 use Rattle.cad_typing.specs.Names.{type_inside, transaction_field, variable_value, variable_base}
 use Rattle.cad_typing.specs.Order.{fits, reading}
-use Rattle.cad_typing.specs.Receivers.{Receiver, Base, value, contract, type_name, transaction, closed, owned, receiver_at, held, of_contract, beside}
+use Rattle.cad_typing.specs.Receivers.{Receiver, Base, value, contract, type_name, transaction, closed, receiver_at, held, of_contract}
 use Rattle.cad_typing.specs.Types.{void, is_integer_type}
 
 -- ---- members

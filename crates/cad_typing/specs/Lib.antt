@@ -11,6 +11,7 @@ pub mod Members
 pub mod Names
 pub mod Operators
 pub mod Order
+pub mod Places
 pub mod Receivers
 pub mod References
 pub mod Types

@@ -1,5 +1,5 @@
 -- Literals.
-use Rattle.std.specs.Prelude.{◌≡◌, refl, ℕ, Bool, true, false, ◌&&◌, ◌||◌, ◌==◌, Option, Some, None, List, length, nat_lt, option_map, if◌then◌else◌}
+use Rattle.std.specs.Prelude.{◌≡◌, refl, ℕ, Bool, true, false, ◌&&◌, ◌||◌, ◌==◌, Option, Some, None, List, length, nat_lt, if◌then◌else◌}
 use Rattle.cad_syntax.specs.Kinds.{is_kept}
 use Rattle.cad_syntax.specs.Types.{PureType, basic, optional}
 use Rattle.cad_syntax.specs.declared.kind.Kind.{Kind}

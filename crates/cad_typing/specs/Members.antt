@@ -1,5 +1,5 @@
 -- The declared members of types, the cases of enums, and mappings.
-use Rattle.std.specs.Prelude.{ℕ, Bool, true, false, ◌&&◌, Option, Some, None, List, [], ◌∷◌, ◌++◌, find, flat_map, option_map, option_and_then, position, if◌then◌else◌}
+use Rattle.std.specs.Prelude.{ℕ, Bool, true, false, Option, Some, None, List, [], ◌∷◌, find, flat_map, option_map, position, if◌then◌else◌}
 use Rattle.std.specs.Option.{option_or}
 use Rattle.cad_syntax.specs.TypeIds.{same_id}
 use Rattle.cad_syntax.specs.Types.{PureType, intersection, declared}

@@ -1,10 +1,9 @@
 -- What a name in an expression stands for, and variables as values and as receivers.
-use Rattle.std.specs.Prelude.{Bool, true, false, not, ◌&&◌, ◌||◌, Option, Some, None, List, [], ◌∷◌, find, option_map, option_and_then, if◌then◌else◌}
+use Rattle.std.specs.Prelude.{Bool, true, false, not, ◌&&◌, Option, Some, None, List, [], ◌∷◌, find, option_map, option_and_then, if◌then◌else◌}
 use Rattle.std.specs.Option.{option_or}
 use Rattle.cad_syntax.specs.Types.{PureType, basic, declared}
 use Rattle.cad_syntax.specs.declared.text.Name.{Name}
 use Rattle.cad_syntax.specs.declared.type_id.TypeId.{TypeId}
-use Rattle.cad_syntax.specs.declared.types.Basic.{Basic}
 use Rattle.cad_types.specs.Classes.{has_sort}
 use Rattle.cad_types.specs.Declarations.{found, resource}
 use Rattle.cad_types.specs.declared.builtin.Builtin.{Builtin}
@@ -15,7 +14,7 @@ use Rattle.cad_declarations.specs.Names.{same_name, basic_type}
 use Rattle.cad_declarations.specs.Scopes.{Meaning, type_meaning, meaning, meaning_of, inside, is_interface_sort}
 use Rattle.cad_declarations.specs.Tables.{MemberEntry}
 use Rattle.cad_declarations.specs.Typed as e
-use Rattle.cad_typing.specs.Environments.{Environment, Local, Part, precondition, postcondition, before_value, Position, moved, Typing, kinds, scope, local_named, result_in, type_of_self, typed, when, ◌>=>◌}
+use Rattle.cad_typing.specs.Environments.{Environment, Local, Part, precondition, postcondition, before_value, Position, moved, Typing, kinds, scope, local_named, type_of_self, typed, when, ◌>=>◌}
 use Rattle.cad_typing.specs.Receivers.{Base, value, contract, type_name, transaction, owned, receiver_at}
 
 -- ---- names

@@ -1,6 +1,5 @@
 -- Operators, and forms that choose.
 use Rattle.std.specs.Prelude.{Bool, true, false, not, ◌&&◌, ◌||◌, Option, Some, None, List, if◌then◌else◌}
-use Rattle.std.specs.Option.{option_or}
 use Rattle.cad_syntax.specs.Types.{PureType, optional}
 use Rattle.cad_grammar.specs.Trees as s
 use Rattle.cad_grammar.specs.declared.expression.BinaryOperator.{BinaryOperator}
@@ -9,12 +8,12 @@ use Rattle.cad_grammar.specs.declared.expression.UnaryOperator.TheVariants as un
 use Rattle.cad_types.specs.Declarations.{Declaration, resource}
 use Rattle.cad_declarations.specs.BuiltinNames.{is_comparable}
 use Rattle.cad_declarations.specs.Typed as e
-use Rattle.cad_typing.specs.Environments.{Environment, Position, ordinary, moved, Typing, kinds, typed, when, ◌>=>◌}
+use Rattle.cad_typing.specs.Environments.{Environment, Typing, kinds, typed, when, ◌>=>◌}
 use Rattle.cad_typing.specs.Fields.{is_owned}
 use Rattle.cad_typing.specs.Literals.{signed_whole, signed_fixed}
 use Rattle.cad_typing.specs.Order.{below, fits}
-use Rattle.cad_typing.specs.Receivers.{Receiver, Base, receiver_in, closed, is_nil}
-use Rattle.cad_typing.specs.Types.{bool, void, content, is_never_type, is_optional_type, is_number_type, is_integer_type, is_signed_type, is_same_basic, is_ordered}
+use Rattle.cad_typing.specs.Receivers.{Receiver, Base, receiver_in, closed}
+use Rattle.cad_typing.specs.Types.{bool, void, content, is_never_type, is_optional_type, is_signed_type, is_same_basic, is_ordered}
 
 -- ---- one operand
 

@@ -1,12 +1,12 @@
 -- What stands before `.`, `?.` and `[`: a value or place, a contract, a type, or a transaction.
-use Rattle.std.specs.Prelude.{ℕ, ◌+◌, Bool, true, false, not, Option, Some, None, List, [], ◌∷◌, if◌then◌else◌}
+use Rattle.std.specs.Prelude.{ℕ, ◌+◌, Bool, true, false, not, Option, Some, None}
 use Rattle.cad_syntax.specs.Types.{PureType, declared, reference}
 use Rattle.cad_syntax.specs.declared.type_id.TypeId.{TypeId}
 use Rattle.cad_syntax.specs.declared.types.Authorization.{Authorization}
 use Rattle.cad_grammar.specs.Trees as s
 use Rattle.cad_types.specs.Declarations.{resource}
 use Rattle.cad_declarations.specs.Typed as e
-use Rattle.cad_typing.specs.Environments.{Environment, Typing, kinds, typed, when}
+use Rattle.cad_typing.specs.Environments.{Environment, Typing, kinds, when}
 
 -- a hidden variable with this number, and its value
 pub record Hidden : Type 0 where

@@ -14,7 +14,7 @@ use Rattle.cad_typing.specs.Fields.{is_owned}
 use Rattle.cad_typing.specs.Names.{is_contract_type}
 use Rattle.cad_typing.specs.Order.{below, core, fits}
 use Rattle.cad_typing.specs.Receivers.{Receiver, Base, receiver_in, closed, is_self}
-use Rattle.cad_typing.specs.Types.{is_optional_type, is_copied}
+use Rattle.cad_typing.specs.Types.{is_copied}
 
 -- ---- `&a as R`
 

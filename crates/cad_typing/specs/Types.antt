@@ -1,5 +1,5 @@
 -- What forms ask of the types of their parts.
-use Rattle.std.specs.Prelude.{ℕ, zero, suc, Bool, true, false, not, ◌&&◌, ◌||◌, Option, Some, None, List, [], ◌∷◌, ◌++◌, filter, length, map, nat_lt, if◌then◌else◌}
+use Rattle.std.specs.Prelude.{ℕ, zero, suc, Bool, true, false, not, ◌&&◌, ◌||◌, Option, Some, None, List, [], filter, length, map, nat_lt}
 use Rattle.std.specs.List.{list_all}
 use Rattle.cad_syntax.specs.Kinds.{depth}
 use Rattle.cad_syntax.specs.TypeIds.{has}
