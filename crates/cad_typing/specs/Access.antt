@@ -17,7 +17,7 @@ use Rattle.cad_declarations.specs.Typed as e
 use Rattle.cad_declarations.specs.declared.member.MemberAccess.{MemberAccess}
 use Rattle.cad_declarations.specs.declared.member.MemberAccess.TheVariants as access
 use Rattle.cad_typing.specs.Environments.{Environment, Part, initializer_body, when, ◌>=>◌}
-use Rattle.cad_typing.specs.Members.{mapping_of}
+use Rattle.cad_declarations.specs.Members.{mapping_of}
 use Rattle.cad_typing.specs.Receivers.{Receiver}
 
 abbrev pub is_front : List Name → List Name → Bool

@@ -22,7 +22,7 @@ use Rattle.cad_declarations.specs.Typed as e
 use Rattle.cad_typing.specs.Access.{rights, stands_in_contract}
 use Rattle.cad_typing.specs.Environments.{Environment, Typing, kinds, scope, typed, when, ◌>=>◌}
 use Rattle.cad_typing.specs.Fields.{Found, declared_member, built_in_member, found_member, serves, grant_of}
-use Rattle.cad_typing.specs.Members.{type_entry}
+use Rattle.cad_declarations.specs.Members.{type_in}
 use Rattle.cad_typing.specs.Names.{Head, function, type_head, builtin_head, type_inside, is_postcondition}
 use Rattle.cad_typing.specs.Receivers.{Receiver, Hidden, Base, value, contract, type_name, transaction, closed, of_contract}
 use Rattle.cad_typing.specs.Types.{void, is_never_type, is_storable}
@@ -202,7 +202,7 @@ abbrev pub call_constructor : Environment → Callee → TypeId → Call
 call_constructor env callee id = record {
   hidden = None;
   callee = callee;
-  parameters = initializer_parameters (type_entry env.tables id);
+  parameters = initializer_parameters (type_in env.tables.types id);
   count = exactly;
   result = declared id;
 }

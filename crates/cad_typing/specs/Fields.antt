@@ -1,5 +1,5 @@
 -- Members that are read, and elements.
-use Rattle.std.specs.Prelude.{Bool, true, false, not, ◌&&◌, ◌||◌, Option, Some, None, [], option_map, if◌then◌else◌}
+use Rattle.std.specs.Prelude.{ℕ, position, Bool, true, false, not, ◌&&◌, ◌||◌, Option, Some, None, [], option_map, if◌then◌else◌}
 use Rattle.std.specs.Option.{option_or}
 use Rattle.cad_syntax.specs.TypeIds.{same_id}
 use Rattle.cad_syntax.specs.Types.{PureType, optional, array, dictionary, declared}
@@ -16,7 +16,8 @@ use Rattle.cad_declarations.specs.Tables.{MemberEntry, MemberForm, field, functi
 use Rattle.cad_declarations.specs.Typed as e
 use Rattle.cad_typing.specs.Access.{rights, is_granted}
 use Rattle.cad_typing.specs.Environments.{Environment, Position, Typing, kinds, typed, when, ◌>=>◌}
-use Rattle.cad_typing.specs.Members.{member, case_number}
+use Rattle.cad_declarations.specs.Members.{member, type_in}
+use Rattle.cad_declarations.specs.Names.{same_name}
 use Rattle.cad_typing.specs.Names.{type_inside, transaction_field, variable_value, variable_base}
 use Rattle.cad_typing.specs.Order.{fits, reading}
 use Rattle.cad_typing.specs.Receivers.{Receiver, Base, value, contract, type_name, transaction, closed, receiver_at, held, of_contract}
@@ -118,8 +119,12 @@ member_of_receiver env r name = found_member env r.type name >=> (λ f. read_fou
 
 -- ---- cases of enums, and members of types
 
+-- the place of a case in its enum
+abbrev pub case_number : Environment → TypeId → Name → Option ℕ
+case_number env id name = type_in env.tables.types id >=> (λ t. position (same_name name) t.cases)
+
 abbrev pub case_value : Environment → PureType → Name → Option Typing
-case_value env (declared id) name = case_number env.tables id name >=> (λ n. typed (e.case id n) (declared id))
+case_value env (declared id) name = case_number env id name >=> (λ n. typed (e.case id n) (declared id))
 case_value env _ name = None
 
 abbrev pub type_constant : Environment → PureType → Name → Option Typing

@@ -7,7 +7,6 @@ pub mod Environments
 pub mod Expressions
 pub mod Fields
 pub mod Literals
-pub mod Members
 pub mod Names
 pub mod Operators
 pub mod Order
