@@ -1,0 +1,16 @@
+pub mod Access
+pub mod Befores
+pub mod Calls
+pub mod Chains
+pub mod Containers
+pub mod Environments
+pub mod Expressions
+pub mod Fields
+pub mod Literals
+pub mod Names
+pub mod Operators
+pub mod Order
+pub mod Places
+pub mod Receivers
+pub mod References
+pub mod Types
