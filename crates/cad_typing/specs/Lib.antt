@@ -7,10 +7,13 @@ pub mod Environments
 pub mod Expressions
 pub mod Fields
 pub mod Literals
+pub mod Locals
 pub mod Names
 pub mod Operators
 pub mod Order
 pub mod Places
 pub mod Receivers
 pub mod References
+pub mod StatementForms
+pub mod Statements
 pub mod Types
