@@ -1,5 +1,5 @@
 -- Variables and their scopes.
-use Rattle.std.specs.Prelude.{ℕ, suc, ◌+◌, Bool, true, false, not, Option, Some, None, List, [], ◌∷◌, length, map}
+use Rattle.std.specs.Prelude.{ℕ, suc, ◌+◌, Bool, true, false, not, List, [], ◌∷◌, length, map}
 use Rattle.std.specs.List.{list_any}
 use Rattle.cad_syntax.specs.Types.{PureType}
 use Rattle.cad_syntax.specs.declared.text.Name.{Name}

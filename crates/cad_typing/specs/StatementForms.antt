@@ -1,6 +1,5 @@
 -- What each form of statement asks of its own parts, and what they are elaborated to.
 use Rattle.std.specs.Prelude.{ℕ, ◌+◌, Bool, true, false, not, ◌&&◌, ◌||◌, Option, Some, None, List, [], ◌∷◌, option_map, if◌then◌else◌}
-use Rattle.std.specs.Option.{is_some}
 use Rattle.cad_syntax.specs.Types.{PureType, optional}
 use Rattle.cad_syntax.specs.declared.kind.Kind.TheVariants as kind
 use Rattle.cad_syntax.specs.declared.text.Name.{Name}
@@ -17,7 +16,7 @@ use Rattle.cad_declarations.specs.Formed.{resolved_annotation}
 use Rattle.cad_declarations.specs.Names.{same_name}
 use Rattle.cad_declarations.specs.Typed as e
 use Rattle.cad_typing.specs.Containers.{targeted}
-use Rattle.cad_typing.specs.Environments.{Environment, Local, Position, ordinary, Typing, kinds, scope, when, ◌>=>◌}
+use Rattle.cad_typing.specs.Environments.{Environment, Local, ordinary, Typing, kinds, scope, when, ◌>=>◌}
 use Rattle.cad_typing.specs.Expressions.{infer}
 use Rattle.cad_typing.specs.Locals.{next_local, entry_of, is_free}
 use Rattle.cad_typing.specs.Operators.{is_test, may_be_equal}

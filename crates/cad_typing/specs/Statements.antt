@@ -1,5 +1,5 @@
 -- Statements: their elaborated trees, or the first that is ill-typed.
-use Rattle.std.specs.Prelude.{ℕ, suc, ◌+◌, Bool, true, false, Option, Some, None, Result, Ok, Err, List, [], ◌∷◌, length, ok_or}
+use Rattle.std.specs.Prelude.{ℕ, suc, ◌+◌, Bool, true, Option, Some, None, Result, Ok, Err, List, [], ◌∷◌, length, ok_or}
 use Rattle.cad_syntax.specs.Types.{PureType}
 use Rattle.cad_grammar.specs.Trees as s
 use Rattle.cad_grammar.specs.Trees.{StmtTree, Stmts, OtherwiseTree, Cases, Default}
@@ -7,8 +7,8 @@ use Rattle.cad_declarations.specs.Typed as e
 use Rattle.cad_declarations.specs.Written.{rows_of, rows_of_stmts, rows_of_otherwise, rows_of_cases}
 use Rattle.cad_typing.specs.Environments.{Environment, Local, when, ◌>=>◌}
 use Rattle.cad_typing.specs.Locals.{declaring, opening}
-use Rattle.cad_typing.specs.Places.{Emission, infer_event}
-use Rattle.cad_typing.specs.StatementForms.{StatementTyping, alone, declaration, test_typing, test_locals, test_tree, infer_test, for_typing, for_locals, for_tree, SwitchTyping, switch_typing, cases_with, assignment, swap, returned, evaluated}
+use Rattle.cad_typing.specs.Places.{infer_event}
+use Rattle.cad_typing.specs.StatementForms.{StatementTyping, alone, declaration, test_typing, test_locals, test_tree, infer_test, for_typing, for_locals, for_tree, switch_typing, cases_with, assignment, swap, returned, evaluated}
 
 infixl 10 ◌>>=◌
 -- what is done with a result, where there is one
