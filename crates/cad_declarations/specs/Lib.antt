@@ -1,3 +1,5 @@
+pub mod BuiltinNames
+pub mod Builtins
 pub mod Formed
 pub mod Kinds
 pub mod Names
