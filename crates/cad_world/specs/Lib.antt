@@ -4,3 +4,8 @@ pub mod State
 pub mod Same
 pub mod Trees
 pub mod Declared
+pub mod Labels
+pub mod OwnTypes
+pub mod Transfers
+pub mod Locations
+pub mod Receivers

@@ -15,7 +15,6 @@ use Rattle.cad_types.specs.Declarations.{Declaration, interfaces_of, resource, i
 abbrev pub grants : Authorization → Authorization → Bool
 grants = tests.grants
 
-
 -- each kind of numbers, and each basic type, has a number of its own
 abbrev pub kind_number : Kind → ℕ
 kind_number n.Int = 0
@@ -61,7 +60,6 @@ basic_number b.StorageCapabilityController = 36
 
 abbrev pub same_basic : Basic → Basic → Bool
 same_basic t u = basic_number t == basic_number u
-
 
 abbrev pub is_never : Basic → Bool
 is_never b.Never = true
@@ -139,7 +137,6 @@ below k (capability_of t) (capability_of u) = below k t u
 below k (capability_of t) capability = true
 below k (capability_of t) (basic u) = by_class false false u
 below k (capability_of t) _ = false
-
 
 -- a type in this many optionals
 abbrev pub optionals : ℕ → PureType → PureType

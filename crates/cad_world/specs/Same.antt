@@ -1,5 +1,5 @@
 -- When two types, two keys of a dictionary and two values are the same, as tests.
-use Rattle.std.specs.Prelude.{ℕ, Bool, true, false, not, ◌&&◌, ◌||◌, ◌==◌, List, [], ◌∷◌, length, Option, Some, None, if◌then◌else◌}
+use Rattle.std.specs.Prelude.{ℕ, Bool, true, false, not, ◌&&◌, ◌==◌, List, length, Option, Some, None, if◌then◌else◌}
 use Rattle.std.specs.Cmp.Lexicographic.{pointwise}
 use Rattle.cad_syntax.specs.TypeIds.{same_id}
 use Rattle.cad_syntax.specs.Types.{PureType}
@@ -14,7 +14,7 @@ use Rattle.cad_syntax.specs.declared.types.Authorization.TheVariants as a
 use Rattle.cad_text.specs.Texts.{normal_form}
 use Rattle.cad_world.specs.Order.{kind_number, same_basic}
 use Rattle.cad_declarations.specs.Names.{same_name}
-use Rattle.cad_values.specs.Values.{PureValue, void, nil, some, bool, number, string, character, address, path, meta, array, dictionary, composite, Values, no_values, values, Entries, no_entries, entries, keys, Fields, no_fields, fields}
+use Rattle.cad_values.specs.Values.{PureValue, nil, some, bool, number, string, character, address, path, meta, array, dictionary, composite, Values, no_values, values, Entries, no_entries, entries, keys, no_fields, fields}
 
 abbrev pub same_truth : Bool → Bool → Bool
 same_truth true x = x
