@@ -10,11 +10,10 @@ use Rattle.cad_syntax.specs.declared.types.Authorization.TheVariants.{Unauthoriz
 use Rattle.cad_syntax.proofs.Members.{contains_nothing, contains_first, contains_later, contains_cases, some_passes, passes_some, each_passes, contains_map, map_contains, and_both}
 use Rattle.cad_auth.specs.declared.mapping.Mapping.{Mapping}
 use Rattle.cad_auth.specs.Grants.{single, sets, Includes, Covers, Grants}
-use Rattle.cad_auth.specs.Images.{includes}
-use Rattle.cad_auth.specs.Images.{targets_of, with_once, replaced, same_set, with_set, distinct, is_least, least, targets, members, is_named, among, conjunction, read, image}
+use Rattle.cad_auth.specs.Images.{includes, targets_of, with_once, replaced, same_set, with_set, distinct, is_least, least, targets, members, is_named, among, conjunction, read, image}
 use Rattle.cad_auth.proofs.Covers.{has_to, to_has, includes_to, to_includes, covers_on, only_one, only_first}
 
-none_some : {A : Type 0} {x : A} → None ≡ Some x → ⊥
+pub none_some : {A : Type 0} {x : A} → None ≡ Some x → ⊥
 none_some e = cc
 
 -- Lists with each member once.
@@ -74,7 +73,7 @@ replaced_grows m set part inside e c = elim (from_once (flat_map (targets_of m) 
       added_once (flat_map (targets_of m) set) [] e (contains_flat_map (targets_of m) set from.0 e (inside from.0 from.1) from.2)
 ]
 
-replaced_covers : (m : Mapping) (a b : List (List TypeId)) → Covers a b → Covers (map (replaced m) a) (map (replaced m) b)
+pub replaced_covers : (m : Mapping) (a b : List (List TypeId)) → Covers a b → Covers (map (replaced m) a) (map (replaced m) b)
 replaced_covers m a b h set c =
     let from = map_contains (replaced m) a set c in
     let to = h from.0 from.1 in
@@ -130,7 +129,7 @@ filter_step p y ys x rest true e c = elim (contains_cases y (filter p ys) x c) [
 ]
 filter_step p y ys x rest false e c = let r = rest c in (contains_later y ys x r.0, r.1)
 
-filter_contains : {A : Type 0} (p : A → Bool) (xs : List A) (x : A) → Contains (filter p xs) x → Contains xs x × (p x ≡ true)
+pub filter_contains : {A : Type 0} (p : A → Bool) (xs : List A) (x : A) → Contains (filter p xs) x → Contains xs x × (p x ≡ true)
 filter_contains p [] x c = absurd (contains_nothing x c)
 filter_contains p (y ∷ ys) x c = filter_step p y ys x (filter_contains p ys x) (p y) refl c
 
@@ -321,7 +320,7 @@ some_set (All l) = (l, contains_first l [])
 some_set (Any []) = ([], contains_first [] [])
 some_set (Any (first ∷ others)) = (single first, contains_first (single first) (map single others))
 
-mapped_targets : (m : Mapping) (a : Authorization) → Alike (map (replaced m) (sets a)) (targets m a)
+pub mapped_targets : (m : Mapping) (a : Authorization) → Alike (map (replaced m) (sets a)) (targets m a)
 mapped_targets m a =
     let all = map (replaced m) (sets a) in (
       covers_on all (distinct all) (least (distinct all)) (covers_distinct all) (covers_least (distinct all)),
@@ -334,7 +333,7 @@ ordered_targets m a set c =
     let from = map_contains (replaced m) (sets a) set (distinct_from all set (least_from (distinct all) set c)) in
     subst (λ s. Includes (replaced m (members a)) s) from.2 (replaced_grows m (members a) from.0 (members_include a from.0 from.1))
 
-image_sets : (m : Mapping) (a y : Authorization) → image m a ≡ Some y → Alike (sets y) (map (replaced m) (sets a))
+pub image_sets : (m : Mapping) (a y : Authorization) → image m a ≡ Some y → Alike (sets y) (map (replaced m) (sets a))
 image_sets m a y e =
     let all = map (replaced m) (sets a) in
     let first = some_set a in
@@ -351,3 +350,9 @@ image_stronger m weak strong x y h of_weak of_strong =
     let between = replaced_covers m (sets strong) (sets weak) h in
     covers_on (sets y) (map (replaced m) (sets strong)) (sets x) of_y.0
     (covers_on (map (replaced m) (sets strong)) (map (replaced m) (sets weak)) (sets x) between of_x.1)
+
+-- what grants another authorization has targets that cover the other's image
+pub targets_cover : (m : Mapping) (weak strong x : Authorization) → Grants strong weak → image m weak ≡ Some x → Covers (targets m strong) (sets x)
+targets_cover m weak strong x h of_weak =
+    covers_on (targets m strong) (map (replaced m) (sets strong)) (sets x) (mapped_targets m strong).1
+    (covers_on (map (replaced m) (sets strong)) (map (replaced m) (sets weak)) (sets x) (replaced_covers m (sets strong) (sets weak) h) (image_sets m weak x of_weak).1)

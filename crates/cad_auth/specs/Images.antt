@@ -1,12 +1,12 @@
 -- The image of an authorization under a mapping of entitlements.
-use Rattle.std.specs.Prelude.{◌≡◌, Bool, ◌&&◌, ◌||◌, ◌==◌, not, if◌then◌else◌, Option, Some, None, List, [], ◌∷◌, ◌++◌, length, map, filter, fold}
+use Rattle.std.specs.Prelude.{◌≡◌, Bool, ◌&&◌, ◌||◌, ◌==◌, not, if◌then◌else◌, Option, Some, None, List, [], ◌∷◌, ◌++◌, length, map, filter, fold, Contains}
 use Rattle.std.specs.List.{flat_map, list_all, list_any}
 use Rattle.cad_syntax.specs.TypeIds.{same_id, has}
 use Rattle.cad_syntax.specs.declared.type_id.TypeId.{TypeId}
 use Rattle.cad_syntax.specs.declared.types.Authorization.{Authorization}
 use Rattle.cad_syntax.specs.declared.types.Authorization.TheVariants.{Unauthorized, All, Any}
 use Rattle.cad_auth.specs.declared.mapping.Mapping.{Mapping}
-use Rattle.cad_auth.specs.Grants.{sets, Grants}
+use Rattle.cad_auth.specs.Grants.{sets, Includes, Covers, Grants}
 
 -- the targets of an entitlement: itself where the mapping includes the identity, and then those of its pairs in their order
 abbrev pub targets_of : Mapping → TypeId → List TypeId
@@ -84,3 +84,25 @@ image mapping a = read (targets mapping a) (replaced mapping (members a))
 -- Law: the image of a stronger authorization is stronger.
 abbrev pub ImageStronger : Type 0
 ImageStronger = (mapping : Mapping) (weak strong x y : Authorization) → Grants strong weak → image mapping weak ≡ Some x → image mapping strong ≡ Some y → Grants y x
+
+-- no entitlement stands there again behind itself
+abbrev pub AreOnce : List TypeId → Type 0
+AreOnce [] = Unit {0}
+AreOnce (entitlement ∷ others) = (Contains others entitlement → ⊥) × AreOnce others
+
+-- The image, told by none of the steps above: its sets and the targets of the authorization's sets contain each other's, no
+-- set of it includes another, each member stands there once, and the members stand in the order of the targets.
+pub record IsImage (mapping : Mapping) (a x : Authorization) : Type 0 where
+  pub covers : Covers (sets x) (map (replaced mapping) (sets a))
+  pub covered : Covers (map (replaced mapping) (sets a)) (sets x)
+  pub apart : (set other : List TypeId) → Contains (sets x) set → Contains (sets x) other → Includes set other → set ≡ other
+  pub once : AreOnce (members x)
+  pub ordered : (test : TypeId → Bool) × (members x ≡ filter test (replaced mapping (members a)))
+
+-- Law: an image is that.
+abbrev pub ImageIsLeast : Type 0
+ImageIsLeast = (mapping : Mapping) (a x : Authorization) → image mapping a ≡ Some x → IsImage mapping a x
+
+-- Law: what grants another authorization has targets that cover the other's image.
+abbrev pub TargetsCover : Type 0
+TargetsCover = (mapping : Mapping) (weak strong x : Authorization) → Grants strong weak → image mapping weak ≡ Some x → Covers (targets mapping strong) (sets x)

@@ -8,8 +8,8 @@ ghost use Rattle.cad_parse.specs.Program.{Parses, Refuses};
 ghost use Rattle.cad_forms.specs.Programs.{is_list, is_whole, absent_or, RunsProgram, IsProgramRequest, IsRefused};
 
 use crate::request::{holds, text_at};
-use cad_grammar::Phase;
-use cad_parse::{ParseStop, parse_program};
+use cad_grammar::{ParseStop, Phase};
+use cad_parse::parse_program;
 use serde_json::Value;
 use std::alloc::{AllocError, Global};
 

@@ -17,7 +17,7 @@ pub use declaration::{
 };
 pub use expression::{Argument, BinaryOperator, CastKind, Entry, Expr, UnaryOperator};
 pub use level::{Level, TypePosition};
-pub use phase::Phase;
+pub use phase::{ParseStop, Phase};
 pub use statement::{Case, Otherwise, Stmt, Test, Transfer, VariableKind};
 pub use token::{Sign, Token, TokenKind, Tokens};
 pub use type_expr::{Dotted, Entitlements, TypeAnnotation, TypeExpr};

@@ -9,8 +9,8 @@ use Rattle.cad_grammar.specs.Trees.{ProgramTree}
 use Rattle.cad_grammar.specs.Views.{program_of}
 use Rattle.cad_grammar.specs.ProgramGrammar.{Spells}
 use Rattle.cad_parse.specs.Program.{Parses, EndsAt, Refuses}
-use Rattle.cad_parse.specs.declared.program.ParseStop.{ParseStop}
-use Rattle.cad_parse.specs.declared.program.ParseStop.TheVariants.{At}
+use Rattle.cad_grammar.specs.declared.phase.ParseStop.{ParseStop}
+use Rattle.cad_grammar.specs.declared.phase.ParseStop.TheVariants.{At}
 
 -- a stop at a place of a phase
 pub phase_same : {phase other : Phase} {m n : ℕ} → ◌≡◌ {A = Result Program ParseStop} (Err (At phase m)) (Err (At other n)) → phase ≡ other

@@ -3,16 +3,27 @@ use Rattle.std.proofs.Common.{◌≡◌, ◌⊎◌, inl, inr, ℕ, ◌<◌, ◌�
 use Rattle.cad_grammar.specs.declared.token.Token.{Token}
 use Rattle.cad_grammar.specs.Lexes.{Lexes, Stops}
 use Rattle.cad_grammar.specs.declared.phase.Phase.{Phase}
-use Rattle.cad_grammar.specs.declared.phase.Phase.TheVariants.{Lex, Parse}
+use Rattle.cad_grammar.specs.declared.phase.Phase.TheVariants.{Lex, Parse, Resolve, Types, Conformance, Moves, Purity, Initialisation}
 use Rattle.cad_grammar.specs.declared.declaration.Import.{Import}
 use Rattle.cad_grammar.specs.Trees.{DeclTree, ProgramTree}
 use Rattle.cad_grammar.specs.Spots.{Spot}
 use Rattle.cad_grammar.specs.ProgramGrammar.{Chain, ReadsImport, ReadsDecl, ReadsProgram, begin, Spells}
 use Rattle.cad_grammar.specs.ProgramGrammar as g
 use Rattle.cad_parse_type.proofs.Climbs.{then_is, Shrinks}
-use Rattle.cad_parse.specs.Program.{Parses, EndsAt, Refuses}
+use Rattle.cad_parse.specs.Program.{Parses, EndsAt, Refuses, Unparsed}
 use Rattle.cad_parse.specs.Code.Reading.{chain, import, declaration, imports, declarations, program}
 use Rattle.cad_parse.proofs.Chains.{chain_extends, chain_exact, chain_sound, chain_gives}
+
+-- a text is refused by the lexer, or by the reader of tokens
+pub refused_by : (text : List ℕ) (phase : Phase) (n : ℕ) → Refuses text phase n → ((phase ≡ Lex) × Stops text n) ⊎ ((phase ≡ Parse) × Unparsed text n)
+refused_by text Lex n a = inl (refl, a)
+refused_by text Parse n a = inr (refl, a)
+refused_by text Resolve n a = absurd a
+refused_by text Types n a = absurd a
+refused_by text Conformance n a = absurd a
+refused_by text Moves n a = absurd a
+refused_by text Purity n a = absurd a
+refused_by text Initialisation n a = absurd a
 
 -- what stands between the readers of imports and declarations and the grammar
 pub record DeclarationLaws : Type 0 where
@@ -145,15 +156,22 @@ module _ (laws : DeclarationLaws) where
 
     module _ (one_stop : (text : List ℕ) (m n : ℕ) → Stops text m → Stops text n → m ≡ n) (no_stop : (text : List ℕ) (tokens : List Token) (n : ℕ) → Lexes text tokens → Stops text n → ⊥) where
       pub one_refused : (text : List ℕ) (phase other : Phase) (m n : ℕ) → Refuses text phase m → Refuses text other n → (phase ≡ other) × (m ≡ n)
-      one_refused text Lex Lex m n a b = (refl, one_stop text m n a b)
-      one_refused text Lex Parse m n a b = absurd (no_stop text b.tokens m b.lexes a)
-      one_refused text Parse Lex m n a b = absurd (no_stop text a.tokens n a.lexes b)
-      one_refused text Parse Parse m n a b = (refl, same_place b.tokens m n (subst (λ ts. EndsAt ts m) (one_lexing text a.tokens b.tokens a.lexes b.lexes) a.ends) b.ends)
+      one_refused text phase other m n a b = both (refused_by text phase m a) (refused_by text other n b)
+        where
+          both : (((phase ≡ Lex) × Stops text m) ⊎ ((phase ≡ Parse) × Unparsed text m)) → (((other ≡ Lex) × Stops text n) ⊎ ((other ≡ Parse) × Unparsed text n)) → (phase ≡ other) × (m ≡ n)
+          both (inl x) (inl y) = (x.0 ∙ sym y.0, one_stop text m n x.1 y.1)
+          both (inl x) (inr y) = absurd (no_stop text y.1.tokens m y.1.lexes x.1)
+          both (inr x) (inl y) = absurd (no_stop text x.1.tokens n x.1.lexes y.1)
+          both (inr x) (inr y) =
+              (x.0 ∙ sym y.0, same_place y.1.tokens m n (subst (λ ts. EndsAt ts m) (one_lexing text x.1.tokens y.1.tokens x.1.lexes y.1.lexes) x.1.ends) y.1.ends)
 
       -- a program is refused nowhere
       pub never_refused : (text : List ℕ) (tree : ProgramTree) → Parses text tree → (phase : Phase) (n : ℕ) → Refuses text phase n → ⊥
-      never_refused text tree a Lex n b = no_stop text a.tokens n a.lexes b
-      never_refused text tree a Parse n b = b.none tree (subst (λ ts. Spells ts tree) (one_lexing text a.tokens b.tokens a.lexes b.lexes) a.spells)
+      never_refused text tree a phase n b = either (refused_by text phase n b)
+        where
+          either : (((phase ≡ Lex) × Stops text n) ⊎ ((phase ≡ Parse) × Unparsed text n)) → ⊥
+          either (inl x) = no_stop text a.tokens n a.lexes x.1
+          either (inr x) = x.1.none tree (subst (λ ts. Spells ts tree) (one_lexing text a.tokens x.1.tokens a.lexes x.1.lexes) a.spells)
 
   -- what is read to the end is the program; else the next token is where it ends
   pub read_whole : (tokens : List Token) (x : ProgramTree × Spot) → program (begin tokens) ≡ Some x → x.1.tokens ≡ [] → Spells tokens x.0

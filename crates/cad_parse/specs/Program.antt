@@ -32,7 +32,8 @@ pub record Unparsed (text : List ℕ) (n : ℕ) : Type 0 where
   pub none : (program : ProgramTree) → Spells tokens program → ⊥
   pub ends : EndsAt tokens n
 
--- The text is no program: this phase stops at this place.
+-- The text is no program: this phase stops at this place. No later one does so.
 abbrev pub Refuses : List ℕ → Phase → ℕ → Type 0
 Refuses text Lex n = Stops text n
 Refuses text Parse n = Unparsed text n
+Refuses text _ n = ⊥

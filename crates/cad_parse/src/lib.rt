@@ -10,4 +10,4 @@ mod member;
 mod program;
 mod transaction;
 
-pub use program::{ParseStop, one_program, one_refusal, parse_program};
+pub use program::{one_program, one_refusal, parse_program};

@@ -9,29 +9,10 @@ ghost use Rattle.cad_grammar.specs.declared.phase.Phase.TheVariants as Phase;
 ghost use Rattle.cad_parse.specs.Program.{Parses, EndsAt, Refuses};
 
 use crate::declaration::program;
-use cad_grammar::{Phase, Program, Token};
+use cad_grammar::{ParseStop, Phase, Program, Token};
 use cad_lex::{LexStop, lex, one_lexing, one_stop};
 use cad_parse_type::Spot;
-use std::alloc::{AllocError, Global};
-
-/// Why nothing was read.
-#[derive(Debug, Drop)]
-pub enum ParseStop {
-    /// This phase stops at this byte.
-    At { phase: Phase, at: usize },
-    /// Memory ran out.
-    Memory,
-}
-
-impl From<AllocError> for ParseStop {
-    ghost use Rattle.cad_parse.specs.declared.program.ParseStop.TheVariants.{Memory};
-
-    ghost from_gives = { λ _ e. e ≡ Memory };
-
-    fn from(_error: AllocError) -> ParseStop {
-        ParseStop::Memory
-    }
-}
+use std::alloc::Global;
 
 // The program that tokens spell.
 fn tokens_program(alloc: Global, tokens: &[Token]) -> Result<Program, ParseStop>

@@ -6,12 +6,11 @@ ghost use Rattle.cad_grammar.specs.Trees.{ExprTree, TypeTree};
 ghost use Rattle.cad_grammar.specs.Views.{expr_of, type_of};
 ghost use Rattle.cad_parse_type.specs.Code.Views.{seen};
 ghost use Rattle.cad_parse_expr.specs.Cursor.{ahead, before, place, last_end, SpellsExpr, SpellsType};
-ghost use Rattle.cad_parse_expr.specs.declared.cursor.ParseStop.TheVariants.{Memory};
 
 use crate::reader::expression_at;
-use cad_grammar::{Expr, Phase, Token, TypeExpr, TypePosition};
+use cad_grammar::{Expr, ParseStop, Phase, Token, TypeExpr, TypePosition};
 use cad_parse_type::{Spot, type_at};
-use std::alloc::{AllocError, Global};
+use std::alloc::Global;
 
 /// How many nestings may be open at once.
 pub const MAX_NESTING: u32 = 128;
@@ -21,22 +20,6 @@ pub const MAX_NESTING: u32 = 128;
 pub struct Cursor<'a> {
     pub tokens: &'a [Token],
     pub at: usize,
-}
-
-/// Why nothing was read.
-#[derive(Debug, Drop)]
-pub enum ParseStop {
-    /// The phase that refuses the tokens, and the place in their text.
-    At { phase: Phase, at: usize },
-    Memory,
-}
-
-impl From<AllocError> for ParseStop {
-    ghost from_gives = { λ _ e. e ≡ Memory };
-
-    fn from(_e: AllocError) -> ParseStop {
-        ParseStop::Memory
-    }
 }
 
 // The tokens from a place on.

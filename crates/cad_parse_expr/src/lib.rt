@@ -8,7 +8,7 @@ mod reader;
 mod tail;
 mod word;
 
-pub use cursor::{Cursor, MAX_NESTING, ParseStop, one_tree, parse_expr, parse_type};
+pub use cursor::{Cursor, MAX_NESTING, one_tree, parse_expr, parse_type};
 
 // For the crates above alone: what is read is told by the definitions that the code follows.
 pub use reader::{expression, expression_at};

@@ -1,7 +1,8 @@
 // Texts with the expressions and types that they begin with.
 use crate::expression_rows::EXPRESSIONS;
 use crate::telling::{Part, differences, shown, tokens, told_expression};
-use cad_parse_expr::{Cursor, MAX_NESTING, ParseStop, parse_type};
+use cad_grammar::ParseStop;
+use cad_parse_expr::{Cursor, MAX_NESTING, parse_type};
 use std::test::Fail;
 
 #[test]

@@ -1,7 +1,7 @@
 // What readers tell of texts, and the rows of tests that they tell otherwise.
-use cad_grammar::{Phase, Tokens, TypePosition};
+use cad_grammar::{ParseStop, Phase, Tokens, TypePosition};
 use cad_lex::lex;
-use cad_parse::{ParseStop, parse_program};
+use cad_parse::parse_program;
 use cad_parse_expr::{Cursor, MAX_NESTING, parse_expr};
 use cad_parse_statement::statements;
 use cad_parse_type::{Spot, annotation_at};
@@ -39,6 +39,7 @@ pub fn told_program(alloc: Global, code: &str) -> Result<String, AllocError> {
         Err(ParseStop::At { phase, at }) => match phase {
             Phase::Lex => format!(in alloc; "lex {at}"),
             Phase::Parse => format!(in alloc; "parse {at}"),
+            _ => format!(in alloc; "later {at}"),
         },
         Err(ParseStop::Memory) => String::from_str(alloc, "memory"),
     }
@@ -87,8 +88,8 @@ pub fn told_expression(alloc: Global, depth: u32, code: &str) -> Result<String, 
             let text = format!(in alloc; "{found:?} {}", all.len().saturating_sub(cursor.at))?;
             shown(alloc, text.as_str(), "'")
         }
-        Err(cad_parse_expr::ParseStop::At { at, .. }) => format!(in alloc; "none {at}"),
-        Err(cad_parse_expr::ParseStop::Memory) => Err(AllocError),
+        Err(ParseStop::At { at, .. }) => format!(in alloc; "none {at}"),
+        Err(ParseStop::Memory) => Err(AllocError),
     }
 }
 

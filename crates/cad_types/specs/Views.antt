@@ -1,7 +1,7 @@
--- What a `Kinds` holds.
+-- What a `DeclaredTypes` holds.
 use Rattle.std.specs.Prelude.{List, map}
 use Rattle.cad_types.specs.Declarations.{Declaration, declaration_of}
-use Rattle.cad_types.specs.declared.kinds.Kinds.{Kinds}
+use Rattle.cad_types.specs.declared.declared_types.DeclaredTypes.{DeclaredTypes}
 
-abbrev pub declarations : Kinds → List Declaration
-declarations kinds = map declaration_of kinds.declared.items
+abbrev pub declarations : DeclaredTypes → List Declaration
+declarations declared_types = map declaration_of declared_types.declared.items

@@ -4,30 +4,30 @@ ghost use Rattle.cad_syntax.specs.Types.{pure_type, nesting};
 ghost use Rattle.cad_types.specs.Classes.{Storable, Importable, Exportable};
 ghost use Rattle.cad_types.specs.Views.{declarations};
 
-use crate::kinds::Kinds;
+use crate::declared_types::DeclaredTypes;
 use cad_syntax::CadType;
 
 /// Whether a value of this type can be stored: no reference, Void, account or controller is in it. The type nests at most
 /// 512 deep.
-pub fn is_storable(kinds: &Kinds, t: &CadType) -> bool
+pub fn is_storable(declared_types: &DeclaredTypes, t: &CadType) -> bool
     requires { nesting (pure_type t.now) ≤ 512 }
-    ensures { IsTrue result ↔ Storable (declarations kinds.now) (pure_type t.now) }
+    ensures { IsTrue result ↔ Storable (declarations declared_types.now) (pure_type t.now) }
 {
-    kinds.is_storable(t)
+    declared_types.is_storable(t)
 }
 
 /// Whether an argument can have this type. It nests at most 512 deep.
-pub fn is_importable(kinds: &Kinds, t: &CadType) -> bool
+pub fn is_importable(declared_types: &DeclaredTypes, t: &CadType) -> bool
     requires { nesting (pure_type t.now) ≤ 512 }
-    ensures { IsTrue result ↔ Importable (declarations kinds.now) (pure_type t.now) }
+    ensures { IsTrue result ↔ Importable (declarations declared_types.now) (pure_type t.now) }
 {
-    kinds.is_importable(t)
+    declared_types.is_importable(t)
 }
 
 /// Whether a value of this type can be handed out. It nests at most 512 deep.
-pub fn is_exportable(kinds: &Kinds, t: &CadType) -> bool
+pub fn is_exportable(declared_types: &DeclaredTypes, t: &CadType) -> bool
     requires { nesting (pure_type t.now) ≤ 512 }
-    ensures { IsTrue result ↔ Exportable (declarations kinds.now) (pure_type t.now) }
+    ensures { IsTrue result ↔ Exportable (declarations declared_types.now) (pure_type t.now) }
 {
-    kinds.is_exportable(t)
+    declared_types.is_exportable(t)
 }

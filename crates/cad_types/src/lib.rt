@@ -4,7 +4,7 @@
 mod builtin;
 mod classes;
 mod declared;
-mod kinds;
+mod declared_types;
 pub mod laws;
 mod marks;
 mod places;
@@ -13,5 +13,5 @@ mod subtype;
 pub use builtin::Builtin;
 pub use classes::{is_exportable, is_importable, is_storable};
 pub use declared::{DEEPEST, Declared, Sort, all_nest, is_closed};
-pub use kinds::Kinds;
+pub use declared_types::DeclaredTypes;
 pub use subtype::{is_resource, is_subtype};

@@ -3,8 +3,8 @@ use cad_syntax::{
     Address, Authorization, Basic, CadType, Kind, Name, Names, Text, TypeId, TypeIds, Types,
 };
 use cad_types::{
-    DEEPEST, Declared, Kinds, Sort, all_nest, is_closed, is_exportable, is_importable, is_resource,
-    is_storable, is_subtype,
+    DEEPEST, Declared, DeclaredTypes, Sort, all_nest, is_closed, is_exportable, is_importable,
+    is_resource, is_storable, is_subtype,
 };
 use std::alloc::{AllocError, Global};
 use std::test::Fail;
@@ -127,10 +127,10 @@ fn declarations(alloc: Global, lines: &str) -> Result<Vec<Declared>, AllocError>
 }
 
 /// The kinds of declarations, if they are closed and nest as they must.
-fn kinds(alloc: Global, lines: &str) -> Result<Option<Kinds>, AllocError> {
+fn declared_types(alloc: Global, lines: &str) -> Result<Option<DeclaredTypes>, AllocError> {
     let declared = declarations(alloc, lines)?;
     if is_closed(declared.as_slice()) && all_nest(declared.as_slice()) {
-        return Ok(Some(Kinds::new(alloc, declared)?));
+        return Ok(Some(DeclaredTypes::new(alloc, declared)?));
     }
     Ok(None)
 }
@@ -143,10 +143,10 @@ SI SI SI\n\
 RI RI RI\n\
 RJ RI RJ,RI";
 
-fn below(kinds: &Kinds, a: &CadType, b: &CadType) -> Option<bool> {
+fn below(declared_types: &DeclaredTypes, a: &CadType, b: &CadType) -> Option<bool> {
     a.nesting(DEEPEST)?;
     b.nesting(DEEPEST)?;
-    Some(is_subtype(kinds, a, b))
+    Some(is_subtype(declared_types, a, b))
 }
 
 /// Types, and for each of them which of them it is below. The rows are those of the least relation with the rules, closed under
@@ -195,9 +195,9 @@ fn types(alloc: Global, lines: &str) -> Result<Vec<CadType>, AllocError> {
     Ok(types)
 }
 
-fn is_row(kinds: &Kinds, a: &CadType, types: &[CadType], row: &str) -> bool {
+fn is_row(declared_types: &DeclaredTypes, a: &CadType, types: &[CadType], row: &str) -> bool {
     for (b, answer) in types.iter().zip(row.as_bytes()) {
-        if below(kinds, a, b) != Some(*answer == b'1') {
+        if below(declared_types, a, b) != Some(*answer == b'1') {
             return false;
         }
     }
@@ -206,25 +206,27 @@ fn is_row(kinds: &Kinds, a: &CadType, types: &[CadType], row: &str) -> bool {
 
 #[test]
 fn types_stand_in_their_order(rt: HostRuntime) -> Result<(), Fail> {
-    let kinds = kinds(rt.alloc(), INTERFACES)?.ok_or("the interfaces are closed")?;
+    let declared_types = declared_types(rt.alloc(), INTERFACES)?.ok_or(
+        "the interfaces are closed",
+    )?;
     let types = types(rt.alloc(), BELOW)?;
     assert_eq!(rt; types.len(), 32);
     for (a, line) in types.iter().zip(BELOW.lines()) {
         let (_word, row) = line.split_once(' ').unwrap_or((line, ""));
-        assert!(rt; is_row(&kinds, a, types.as_slice(), row), "{line}");
+        assert!(rt; is_row(&declared_types, a, types.as_slice(), row), "{line}");
     }
     Ok(())
 }
 
 /// Whether the type is storable, importable and exportable: three digits.
-fn is_judged(kinds: &Kinds, t: &CadType, answers: &str) -> bool {
+fn is_judged(declared_types: &DeclaredTypes, t: &CadType, answers: &str) -> bool {
     if t.nesting(DEEPEST).is_none() {
         return false;
     }
     let judged = [
-        is_storable(kinds, t),
-        is_importable(kinds, t),
-        is_exportable(kinds, t),
+        is_storable(declared_types, t),
+        is_importable(declared_types, t),
+        is_exportable(declared_types, t),
     ];
     for (mark, answer) in judged.iter().zip(answers.as_bytes()) {
         if *mark != (*answer == b'1') {
@@ -276,11 +278,11 @@ C&/Int 100\n\
 
 #[test]
 fn types_are_judged(rt: HostRuntime) -> Result<(), Fail> {
-    let kinds = kinds(rt.alloc(), RECURSIVE)?.ok_or("there are no interfaces")?;
+    let declared_types = declared_types(rt.alloc(), RECURSIVE)?.ok_or("there are no interfaces")?;
     for line in CLASSES.lines() {
         let (word, answers) = line.split_once(' ').unwrap_or((line, ""));
         let t = typed(rt.alloc(), word)?;
-        assert!(rt; is_judged(&kinds, &t, answers), "{line}");
+        assert!(rt; is_judged(&declared_types, &t, answers), "{line}");
     }
     Ok(())
 }
@@ -296,24 +298,30 @@ fn nested(alloc: Global, signs: &[u8; 4], name: &str, depth: usize) -> Result<Ca
 
 #[test]
 fn walks_go_512_deep(rt: HostRuntime) -> Result<(), Fail> {
-    let kinds = kinds(rt.alloc(), RECURSIVE)?.ok_or("there are no interfaces")?;
+    let declared_types = declared_types(rt.alloc(), RECURSIVE)?.ok_or("there are no interfaces")?;
     let ring = nested(rt.alloc(), b"?[:&", "Ring", 512)?;
     let never = nested(rt.alloc(), b"?[:&", "Never", 512)?;
-    assert!(rt; below(&kinds, &never, &ring) == Some(true));
-    assert!(rt; below(&kinds, &ring, &never) == Some(false));
-    assert!(rt; below(&kinds, &ring, &ring) == Some(true));
+    assert!(rt; below(&declared_types, &never, &ring) == Some(true));
+    assert!(rt; below(&declared_types, &ring, &never) == Some(false));
+    assert!(rt; below(&declared_types, &ring, &ring) == Some(true));
     let rings = nested(rt.alloc(), b"[:[:", "Ring", 512)?;
-    assert!(rt; below(&kinds, &rings, &CadType::Basic(Basic::AnyResource)) == Some(true));
-    assert!(rt; below(&kinds, &rings, &CadType::Basic(Basic::AnyStruct)) == Some(false));
-    assert!(rt; is_judged(&kinds, &rings, "100"));
+    assert!(rt; below(&declared_types, &rings, &CadType::Basic(Basic::AnyResource)) == Some(true));
+    assert!(rt; below(&declared_types, &rings, &CadType::Basic(Basic::AnyStruct)) == Some(false));
+    assert!(rt; is_judged(&declared_types, &rings, "100"));
     let nevers = nested(rt.alloc(), b"[:[:", "Never", 512)?;
-    assert!(rt; below(&kinds, &nevers, &CadType::Basic(Basic::AnyResource)) == Some(true));
-    assert!(rt; below(&kinds, &nevers, &CadType::Basic(Basic::AnyStruct)) == Some(true));
+    assert!(rt;
+        below(
+            &declared_types,
+            &nevers,
+            &CadType::Basic(Basic::AnyResource)
+        ) == Some(true)
+    );
+    assert!(rt; below(&declared_types, &nevers, &CadType::Basic(Basic::AnyStruct)) == Some(true));
     let trees = nested(rt.alloc(), b"?[:[", "Tree", 512)?;
-    assert!(rt; is_judged(&kinds, &trees, "111"));
+    assert!(rt; is_judged(&declared_types, &trees, "111"));
     assert_eq!(rt; trees.nesting(DEEPEST), Some(512));
     if rings.nesting(DEEPEST).is_some() {
-        assert!(rt; is_resource(&kinds, &rings));
+        assert!(rt; is_resource(&declared_types, &rings));
     }
     Ok(())
 }
@@ -329,10 +337,10 @@ fn declarations_are_tested(rt: HostRuntime) -> Result<(), Fail> {
         d.fields.push(nested(alloc, b"????", "Int", 513)?)?;
     }
     assert!(rt; !all_nest(high.as_slice()));
-    let kinds = kinds(alloc, INTERFACES)?.ok_or("the interfaces are closed")?;
-    assert!(rt; kinds.find(&id(alloc, "R")?).is_some());
-    assert_eq!(rt; kinds.interfaces(&id(alloc, "R")?).len(), 2);
-    assert_eq!(rt; kinds.declared().len(), 5);
-    assert!(rt; kinds.is_resource(&id(alloc, "RI")?));
+    let declared_types = declared_types(alloc, INTERFACES)?.ok_or("the interfaces are closed")?;
+    assert!(rt; declared_types.find(&id(alloc, "R")?).is_some());
+    assert_eq!(rt; declared_types.interfaces(&id(alloc, "R")?).len(), 2);
+    assert_eq!(rt; declared_types.declared().len(), 5);
+    assert!(rt; declared_types.is_resource(&id(alloc, "RI")?));
     Ok(())
 }

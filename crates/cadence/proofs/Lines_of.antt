@@ -9,7 +9,7 @@ use Rattle.cad_num.specs.Numbers.{is_fixed}
 use Rattle.cad_num.specs.Decimal.{written, magnitude_text, eight_digits}
 use Rattle.cadence.specs.Answer.{Answer, result, address, done, failed, bad, rejected, rejected_tail, answer_line}
 use Rattle.cad_grammar.specs.declared.phase.Phase.{Phase}
-use Rattle.cad_grammar.specs.declared.phase.Phase.TheVariants.{Lex, Parse}
+use Rattle.cad_grammar.specs.declared.phase.Phase.TheVariants.{Lex, Parse, Resolve, Types, Conformance, Moves, Purity, Initialisation}
 use Rattle.cadence.specs.Crashes.{line_feeds}
 use Rattle.cadence.proofs.Feeds.{feeds_append}
 
@@ -80,6 +80,12 @@ alone text h = feeds_append text (10 ∷ []) ∙ omega (arith, h)
 tail_none : (phase : Phase) → line_feeds (rejected_tail phase) ≡ 0
 tail_none Lex = refl
 tail_none Parse = refl
+tail_none Resolve = refl
+tail_none Types = refl
+tail_none Conformance = refl
+tail_none Moves = refl
+tail_none Purity = refl
+tail_none Initialisation = refl
 
 pub one_feed : (a : Answer) → line_feeds (answer_line a) ≡ 1
 one_feed (result n) = wrapped (codes "{\"reply\":\"ok\",\"result\":{\"type\":\"Int\",\"value\":\"") (written n) (codes "\"}}") refl (written_none n) refl

@@ -15,7 +15,7 @@ use Rattle.cad_forms.specs.Saves.{Save, saved_value}
 use Rattle.cad_forms.specs.Request.{Request, script, account, save, Asks}
 use Rattle.cad_forms.specs.Programs.{IsRefused}
 use Rattle.cad_grammar.specs.declared.phase.Phase.{Phase}
-use Rattle.cad_grammar.specs.declared.phase.Phase.TheVariants.{Lex, Parse}
+use Rattle.cad_grammar.specs.declared.phase.Phase.TheVariants.{Lex, Parse, Resolve, Types, Conformance, Moves, Purity, Initialisation}
 use Rattle.cadence.specs.Held.{longest}
 
 pub data Answer : Type 0 where
@@ -97,6 +97,12 @@ pub data Answers (w : Accounts) (line : List ℕ) : Answer → Accounts → Type
 abbrev pub rejected_tail : Phase → List ℕ
 rejected_tail Lex = codes "\",\"in\":\"\",\"phase\":\"lex\",\"reply\":\"rejected\"}"
 rejected_tail Parse = codes "\",\"in\":\"\",\"phase\":\"parse\",\"reply\":\"rejected\"}"
+rejected_tail Resolve = codes "\",\"in\":\"\",\"phase\":\"resolve\",\"reply\":\"rejected\"}"
+rejected_tail Types = codes "\",\"in\":\"\",\"phase\":\"types\",\"reply\":\"rejected\"}"
+rejected_tail Conformance = codes "\",\"in\":\"\",\"phase\":\"conformance\",\"reply\":\"rejected\"}"
+rejected_tail Moves = codes "\",\"in\":\"\",\"phase\":\"moves\",\"reply\":\"rejected\"}"
+rejected_tail Purity = codes "\",\"in\":\"\",\"phase\":\"purity\",\"reply\":\"rejected\"}"
+rejected_tail Initialisation = codes "\",\"in\":\"\",\"phase\":\"initialisation\",\"reply\":\"rejected\"}"
 
 -- the answer's line
 abbrev pub answer_line : Answer → List ℕ

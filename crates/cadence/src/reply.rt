@@ -49,6 +49,13 @@ fn rejected_tail(phase: Phase) -> &'static str
     match phase {
         Phase::Lex => "\",\"in\":\"\",\"phase\":\"lex\",\"reply\":\"rejected\"}",
         Phase::Parse => "\",\"in\":\"\",\"phase\":\"parse\",\"reply\":\"rejected\"}",
+        Phase::Resolve => "\",\"in\":\"\",\"phase\":\"resolve\",\"reply\":\"rejected\"}",
+        Phase::Types => "\",\"in\":\"\",\"phase\":\"types\",\"reply\":\"rejected\"}",
+        Phase::Conformance => "\",\"in\":\"\",\"phase\":\"conformance\",\"reply\":\"rejected\"}",
+        Phase::Moves => "\",\"in\":\"\",\"phase\":\"moves\",\"reply\":\"rejected\"}",
+        Phase::Purity => "\",\"in\":\"\",\"phase\":\"purity\",\"reply\":\"rejected\"}",
+        Phase::Initialisation =>
+            "\",\"in\":\"\",\"phase\":\"initialisation\",\"reply\":\"rejected\"}",
     }
 }
 

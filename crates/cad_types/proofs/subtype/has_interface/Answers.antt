@@ -8,7 +8,7 @@ use Rattle.cad_types.proofs.subtype.has_interface.Goals as goal
 
 pub returns-then-contains : goal.returns-then-contains
 returns-then-contains c =
-    let k = declarations c.args.kinds.now in
+    let k = declarations c.args.declared_types.now in
     let ids = c.args.ids.now in
     let id = c.args.id.now in
     let later = list_any (λ i. has (interfaces_of k i) id) ids in
@@ -16,7 +16,7 @@ returns-then-contains c =
 
 pub returns-else-contains : goal.returns-else-contains
 returns-else-contains c =
-    let k = declarations c.args.kinds.now in
+    let k = declarations c.args.declared_types.now in
     let ids = c.args.ids.now in
     let id = c.args.id.now in
     let later = list_any (λ i. has (interfaces_of k i) id) ids in

@@ -13,7 +13,7 @@ use std::alloc::{AllocError, Global};
 
 /// Declared types, judged for the classes. The interfaces of an interface that a type has are its own too.
 #[derive(Debug, Drop)]
-pub struct Kinds {
+pub struct DeclaredTypes {
     declared: Vec<Declared>,
     marks: Vec<Marks>,
     places: Places,
@@ -23,23 +23,23 @@ pub struct Kinds {
     ghost judged: { IsJudged (map declaration_of declared.items) marks.items },
 }
 
-impl Kinds {
+impl DeclaredTypes {
     ghost use Rattle.std.specs.Prelude.{◌≡◌, ◌↔◌, map, option_map, IsTrue, IfOk, IfSome, Some, true};
     ghost use Rattle.cad_syntax.specs.Types.{pure_type};
     ghost use Rattle.cad_types.specs.Classes.{Storable, Importable, Exportable};
     ghost use Rattle.cad_types.specs.Declarations.{IsClosed, all_nest, declaration_of, found, interfaces_of, is_resource_id};
     ghost use Rattle.cad_types.specs.Views.{declarations};
 
-    /// The kinds of these declarations. No field's type nests more than 512 deep.
-    pub fn new(alloc: Global, declared: Vec<Declared>) -> Result<Kinds, AllocError>
+    /// The types of these declarations. No field's type nests more than 512 deep.
+    pub fn new(alloc: Global, declared: Vec<Declared>) -> Result<DeclaredTypes, AllocError>
         requires closed { IsClosed (map declaration_of declared.items) }
         requires nests { all_nest (map declaration_of declared.items) ≡ true }
-        ensures { IfOk result (λ kinds. declarations kinds ≡ map declaration_of declared.items) }
+        ensures { IfOk result (λ declared_types. declarations declared_types ≡ map declaration_of declared.items) }
     {
         let marks = judge(alloc, declared.as_slice())?;
         let places = Places::new(alloc, declared.as_slice())?;
         let distinct = are_distinct(declared.as_slice());
-        Ok(Kinds {
+        Ok(DeclaredTypes {
             declared,
             marks,
             places,

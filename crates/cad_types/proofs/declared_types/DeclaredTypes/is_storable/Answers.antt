@@ -6,14 +6,14 @@ use Rattle.cad_types.specs.Views.{declarations}
 use Rattle.cad_types.specs.declared.declared.Declared.{Declared}
 use Rattle.cad_types.specs.declared.marks.Marks.{Marks}
 use Rattle.cad_types.proofs.Judging.{storable_tells}
-use Rattle.cad_types.proofs.kinds.Kinds.is_storable.Goals as goal
+use Rattle.cad_types.proofs.declared_types.DeclaredTypes.is_storable.Goals as goal
 
 pub returns : goal.returns
 returns c =
-    let kinds = c.args.self.now in
+    let declared_types = c.args.self.now in
     let t = pure_type c.args.t.now in
     let answer =
     c.is_storable_by.ensures
     ∙ ap (λ (ds : List Declared). storable_by (map declaration_of ds) c.as_slice-2.result.now t) c.as_slice.ensures.value
-    ∙ ap (λ (ms : List Marks). storable_by (declarations kinds) ms t) c.as_slice-2.ensures.value in
-    storable_tells (declarations kinds) kinds.marks.items kinds.judged c.is_storable_by.result t answer
+    ∙ ap (λ (ms : List Marks). storable_by (declarations declared_types) ms t) c.as_slice-2.ensures.value in
+    storable_tells (declarations declared_types) declared_types.marks.items declared_types.judged c.is_storable_by.result t answer
