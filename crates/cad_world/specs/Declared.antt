@@ -7,7 +7,7 @@ use Rattle.cad_syntax.specs.declared.type_id.TypeId.{TypeId}
 use Rattle.cad_auth.specs.declared.mapping.Mapping.{Mapping}
 use Rattle.cad_types.specs.Declarations.{Declaration}
 use Rattle.cad_declarations.specs.Kinds.{declaration_of}
-use Rattle.cad_declarations.specs.Names.{same_name}
+use Rattle.cad_declarations.specs.Names.{same_name, identity_mapping}
 use Rattle.cad_declarations.specs.Tables.{TypeEntry, MappingEntry}
 use Rattle.cad_declarations.specs.Typed.{TypeBody, MemberBody}
 use Rattle.cad_world.specs.State.{Contract, State}
@@ -51,8 +51,13 @@ declarations s = map declaration_of (types_of s.contracts)
 abbrev pub entry_of : State → TypeId → Option TypeEntry
 entry_of s id = find (λ entry. same_id entry.id id) (types_of s.contracts)
 
+abbrev pub identity : Mapping
+identity = record { identity = true; pairs = [] }
+
 abbrev pub mapping_of : State → TypeId → Option Mapping
-mapping_of s id = option_map (λ m. m.mapping) (find (λ m. same_id m.id id) (flat_map own_mappings s.contracts))
+mapping_of s id =
+    if same_id id identity_mapping then Some identity
+    else option_map (λ m. m.mapping) (find (λ m. same_id m.id id) (flat_map own_mappings s.contracts))
 
 abbrev pub type_bodies : List Contract → List TypeBody
 type_bodies contracts = flat_map (λ c. c.program.bodies.types) contracts

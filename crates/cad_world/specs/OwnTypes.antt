@@ -8,7 +8,7 @@ use Rattle.cad_values.specs.Values as v
 use Rattle.cad_values.specs.Types.{type_of_value}
 use Rattle.cad_values.specs.declared.value.Target.{Target}
 use Rattle.cad_values.specs.declared.value.Target.TheVariants as to
-use Rattle.cad_world.specs.Order.{optionals}
+use Rattle.cad_types.specs.Optionals.{optionals}
 use Rattle.cad_world.specs.Rows.{NodeShape, plain, link, array, dictionary, composite, Tree}
 use Rattle.cad_world.specs.State.{Account, Controller, State}
 use Rattle.cad_world.specs.Labels.{at, account_at}

@@ -7,7 +7,7 @@ use Rattle.cad_values.specs.Values.{PureValue}
 use Rattle.cad_values.specs.Values as v
 use Rattle.cad_values.specs.declared.value.Target.{Target}
 use Rattle.cad_values.specs.declared.value.Target.TheVariants as to
-use Rattle.cad_world.specs.Order.{below}
+use Rattle.cad_types.specs.Below.{below}
 use Rattle.cad_world.specs.Rows.{NodeShape, plain, link, stop, Tree, Slot, full}
 use Rattle.cad_world.specs.State.{Action, ◌>>=◌, give, stuck, fail, require, or_fail}
 use Rattle.cad_world.specs.Trees.{nil_tree}

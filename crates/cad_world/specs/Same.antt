@@ -12,7 +12,7 @@ use Rattle.cad_syntax.specs.declared.type_id.TypeId.{TypeId}
 use Rattle.cad_syntax.specs.declared.types.Authorization.{Authorization}
 use Rattle.cad_syntax.specs.declared.types.Authorization.TheVariants as a
 use Rattle.cad_text.specs.Texts.{normal_form}
-use Rattle.cad_world.specs.Order.{kind_number, same_basic}
+use Rattle.cad_types.specs.Basics.{kind_number, same_basic}
 use Rattle.cad_declarations.specs.Names.{same_name}
 use Rattle.cad_values.specs.Values.{PureValue, nil, some, bool, number, string, character, address, path, meta, array, dictionary, composite, Values, no_values, values, Entries, no_entries, entries, keys, no_fields, fields}
 

@@ -1,5 +1,5 @@
 -- The state of a run, and what an action on it comes to.
-use Rattle.std.specs.Prelude.{ℕ, ◌-◌, nat_le, Bool, true, false, List, length, Option, Some, None}
+use Rattle.std.specs.Prelude.{ℕ, ◌-◌, nat_le, Bool, true, false, List, Option, Some, None}
 use Rattle.cad_syntax.specs.Types.{PureType}
 use Rattle.cad_syntax.specs.declared.text.Name.{Name}
 use Rattle.cad_syntax.specs.declared.type_id.TypeId.{TypeId}
@@ -63,6 +63,8 @@ pub record Frame : Type 0 where
   pub within : Option TypeId
   -- the label of the receiver, or of what the initializer makes
   pub self : Option ℕ
+  -- whether it is an initializer's call
+  pub initializes : Bool
   -- by their numbers, hidden ones among them
   pub variables : Row
   -- the values of `before`, those of the conditions that come next first
@@ -90,10 +92,8 @@ pub record State : Type 0 where
   pub next_label : ℕ
   pub next_identity : ℕ
   pub units : ℕ
-
--- how many calls of functions and initializers are in progress
-abbrev pub depth : State → ℕ
-depth s = length s.frames
+  -- how many calls of functions and initializers are in progress
+  pub depth : ℕ
 
 -- ---- outcomes
 

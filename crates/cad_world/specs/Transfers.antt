@@ -7,7 +7,7 @@ use Rattle.cad_values.specs.Values.{PureValue, nil}
 use Rattle.cad_values.specs.Values as v
 use Rattle.cad_values.specs.declared.value.Target.{Target}
 use Rattle.cad_values.specs.declared.value.Target.TheVariants as to
-use Rattle.cad_world.specs.Order.{layers}
+use Rattle.cad_types.specs.Optionals.{layers}
 use Rattle.cad_world.specs.Rows.{NodeShape, plain, link, Tree}
 use Rattle.cad_world.specs.State.{Action, ◌>>◌, give, require, spend}
 use Rattle.cad_world.specs.Trees.{tree_weight, tree_height}
