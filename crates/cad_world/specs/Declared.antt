@@ -1,5 +1,5 @@
 -- What is declared where a program runs: by the contracts of the state, those whose initializer runs among them.
-use Rattle.std.specs.Prelude.{Bool, true, false, ◌&&◌, ◌==◌, List, [], ◌∷◌, map, filter, find, Option, option_map, if◌then◌else◌}
+use Rattle.std.specs.Prelude.{Bool, true, false, ◌&&◌, ◌==◌, List, [], ◌∷◌, map, filter, find, Option, option_map, if◌then◌else◌, Some}
 use Rattle.std.specs.List.{flat_map}
 use Rattle.cad_syntax.specs.TypeIds.{same_id}
 use Rattle.cad_syntax.specs.declared.text.Name.{Name}
