@@ -6,3 +6,8 @@ pub mod Reading
 pub mod TypeTexts
 pub mod Texts
 pub mod Containers
+pub mod Changing
+pub mod Casts
+pub mod Operators
+pub mod Making
+pub mod Builtins
