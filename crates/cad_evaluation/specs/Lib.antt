@@ -11,3 +11,7 @@ pub mod Casts
 pub mod Operators
 pub mod Making
 pub mod Builtins
+pub mod Ending
+pub mod Standing
+pub mod Uses
+pub mod Terms
