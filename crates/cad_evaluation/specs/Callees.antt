@@ -1,4 +1,4 @@
--- What is called, by number of turns of the recursion that are left, and the front end by which contracts are added.
+-- What is called, and the front end by which contracts are added.
 use Rattle.std.specs.Prelude.{ℕ, List, Option}
 use Rattle.cad_syntax.specs.declared.address.Address.{Address}
 use Rattle.cad_syntax.specs.declared.text.Name.{Name}
@@ -11,10 +11,8 @@ pub data Callee : Type 0 where
   method : TypeId → Name → ℕ → Callee
   -- a function outside contracts
   function : Name → Callee
-  -- the initializer of a struct or resource, for the node with the label, whose fields it sets
+  -- the written initializer of a type, for the node with the label, whose fields it sets
   initializer : TypeId → ℕ → Callee
-  -- the same of a contract that stands among the contracts
-  contract_initializer : TypeId → ℕ → Callee
   -- the event that tells of the end of a resource, by its default arguments; the node with the label is `self`
   destroyed_event : TypeId → ℕ → Callee
 

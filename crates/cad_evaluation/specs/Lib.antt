@@ -15,3 +15,7 @@ pub mod Ending
 pub mod Standing
 pub mod Uses
 pub mod Terms
+pub mod Flows
+pub mod Statements
+pub mod Bodies
+pub mod Evaluation

@@ -63,7 +63,7 @@ abbrev mutual
   eval_use front calls (e.builtin_field b) r = look_at r >>= (λ spot. guard (may_use b spot) (member front calls b [] spot stop))
   eval_use front calls (e.builtin_call b types all) r =
       look_at r >>= (λ first. guard (may_use b first)
-          (eval_arguments front calls all >>= (λ row. tick >> look_at r >>= (λ spot. member front calls b types spot row))))
+      (eval_arguments front calls all >>= (λ row. tick >> look_at r >>= (λ spot. member front calls b types spot row))))
 
   pub eval : Front → Calls → e.TermTree → Action Tree
   eval front calls (e.number n) = give (number_tree n)
