@@ -1,8 +1,8 @@
 use Rattle.std.proofs.Common.{◌/◌, ◌%◌, ◌^◌}
 use Rattle.std.proofs.lemmas.Result.{on_ok_weaker}
 use Rattle.cad_wire.specs.Fields.{number_field}
-use Rattle.cad_codec.proofs.Decoded.{written_two}
-use Rattle.cad_codec.proofs.writing.write_magnitude.Goals as goal
+use Rattle.cad_number_codec.proofs.Decoded.{written_two}
+use Rattle.cad_number_codec.proofs.writing.write_magnitude.Goals as goal
 
 pub returns : goal.returns
 returns c =

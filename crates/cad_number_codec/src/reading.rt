@@ -1,15 +1,15 @@
 // Bytes to values.
 ghost use Rattle.std.specs.Prelude.{◌≡◌, ◌++◌, List, ℕ, Some, None, IfSome, IfNone, IfOk, OnErr};
 ghost use Rattle.cad_syntax.specs.declared.num.Num.{Num};
-ghost use Rattle.cad_values.specs.declared.value.Value.{Value};
+ghost use Rattle.cad_number_codec.specs.declared.value.Value.{Value};
 ghost use Rattle.cad_wire.specs.Fields.{AreBytes};
 ghost use Rattle.cad_wire.specs.Reading.{Gives, Reads};
-ghost use Rattle.cad_codec.specs.Spelling.{value_bytes, HasBytes};
-ghost use Rattle.cad_codec.specs.Parts.{HasParts, parts_at};
+ghost use Rattle.cad_number_codec.specs.Spelling.{value_bytes, HasBytes};
+ghost use Rattle.cad_number_codec.specs.Parts.{HasParts, parts_at};
 
 use crate::kind::kind_of;
 use cad_syntax::Num;
-use cad_values::Value;
+use crate::value::Value;
 use cad_wire::{DecodeError, Reader, Short};
 use std::alloc::Global;
 

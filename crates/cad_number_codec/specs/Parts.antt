@@ -3,7 +3,7 @@ use Rattle.std.specs.Prelude.{◌≡◌, ◌≢◌, ℕ, ◌/◌, ◌%◌, ◌^�
 use Rattle.cad_syntax.specs.declared.kind.Kind.TheVariants.{Address}
 use Rattle.cad_syntax.specs.declared.num.Num.{Num}
 use Rattle.cad_wire.specs.Fields.{◌>>=◌, byte_at, number_at}
-use Rattle.cad_codec.specs.Spelling.{kind_byte, sign_byte}
+use Rattle.cad_number_codec.specs.Spelling.{kind_byte, sign_byte}
 
 -- a number's kind, sign, and upper and lower 64 bits
 pub record HasParts (n : Num) (kind sign upper lower : ℕ) : Type 0 where

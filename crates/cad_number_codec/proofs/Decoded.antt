@@ -3,16 +3,16 @@ use Rattle.std.proofs.Common.{◌≡◌, ◌≢◌, ℕ, ◌/◌, ◌%◌, ◌^�
 use Rattle.std.proofs.lemmas.List.{append-nil}
 use Rattle.cad_syntax.specs.declared.kind.Kind.TheVariants.{Address}
 use Rattle.cad_syntax.specs.declared.num.Num.{Num}
-use Rattle.cad_values.specs.declared.value.Value.{Value}
-use Rattle.cad_values.specs.declared.value.Value.TheVariants.{Number, Other}
+use Rattle.cad_number_codec.specs.declared.value.Value.{Value}
+use Rattle.cad_number_codec.specs.declared.value.Value.TheVariants.{Number, Other}
 use Rattle.cad_wire.specs.declared.error.DecodeError.{DecodeError}
 use Rattle.cad_wire.specs.declared.error.DecodeError.TheVariants.{Damaged, Memory}
 use Rattle.cad_wire.specs.Fields.{number_field, ◌>>=◌, byte_at, number_at, AreBytes}
 use Rattle.cad_wire.specs.Reading.{Gives, Reads}
 use Rattle.cad_wire.proofs.FieldLaws.{bind_some, some_is, byte_takes, number_takes, number_again}
-use Rattle.cad_codec.specs.Spelling.{kind_byte, sign_byte, number_bytes, value_bytes, HasBytes}
-use Rattle.cad_codec.specs.Parts.{HasParts, parts_at}
-use Rattle.cad_codec.proofs.Numbers.{magnitude_below, same_number}
+use Rattle.cad_number_codec.specs.Spelling.{kind_byte, sign_byte, number_bytes, value_bytes, HasBytes}
+use Rattle.cad_number_codec.specs.Parts.{HasParts, parts_at}
+use Rattle.cad_number_codec.proofs.Numbers.{magnitude_below, same_number}
 
 parts_again : (k s u l : ℕ) (rest : List ℕ) → u < 2 ^ 64 → l < 2 ^ 64 → parts_at (k ∷ s ∷ (number_field u ++ (number_field l ++ rest))) ≡ Some ((k, s, u, l), rest)
 unfolding parts_at

@@ -1,7 +1,7 @@
 use Rattle.std.proofs.Common.{[], ◌∙◌}
 use Rattle.std.proofs.lemmas.Result.{err_from_is_err_and}
-use Rattle.cad_codec.proofs.Decoded.{err_whole, to_front}
-use Rattle.cad_codec.proofs.reading.decode.Goals as goal
+use Rattle.cad_number_codec.proofs.Decoded.{err_whole, to_front}
+use Rattle.cad_number_codec.proofs.reading.decode.Goals as goal
 
 pub returns-in_err-value-clause-only : goal.returns-in_err-value-clause-only
 returns-in_err-value-clause-only c =

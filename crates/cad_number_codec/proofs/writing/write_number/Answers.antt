@@ -1,7 +1,7 @@
 use Rattle.std.proofs.lemmas.Result.{on_ok_weaker}
-use Rattle.cad_codec.specs.Spelling.{kind_byte, sign_byte, magnitude_field}
-use Rattle.cad_codec.proofs.Decoded.{written}
-use Rattle.cad_codec.proofs.writing.write_number.Goals as goal
+use Rattle.cad_number_codec.specs.Spelling.{kind_byte, sign_byte, magnitude_field}
+use Rattle.cad_number_codec.proofs.Decoded.{written}
+use Rattle.cad_number_codec.proofs.writing.write_number.Goals as goal
 
 pub returns : goal.returns
 returns c =

@@ -1,14 +1,16 @@
-//! Values as bytes, both ways.
+//! Numbers as bytes, both ways, and the values that accounts store so far.
 #![tactic(auto)]
 
 mod kind;
 mod laws;
 mod reading;
+mod value;
 mod writing;
 
 pub use cad_wire::DecodeError;
 pub use laws::one_spelling;
 pub use reading::decode;
+pub use value::Value;
 pub use writing::encode;
 
 #[cfg(test)]

@@ -1,5 +1,5 @@
-use Rattle.cad_codec.proofs.Decoded.{found, not_short, not_none, the_one}
-use Rattle.cad_codec.proofs.reading.read_value.Goals as goal
+use Rattle.cad_number_codec.proofs.Decoded.{found, not_short, not_none, the_one}
+use Rattle.cad_number_codec.proofs.reading.read_value.Goals as goal
 
 pub returns-in_err-kind-clause-only : goal.returns-in_err-kind-clause-only
 returns-in_err-kind-clause-only c =

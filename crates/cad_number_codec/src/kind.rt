@@ -1,7 +1,7 @@
 // Kinds as bytes.
 ghost use Rattle.std.specs.Prelude.{◌≡◌, ◌≢◌, ◌≤◌, IfSome, IfNone};
 ghost use Rattle.cad_syntax.specs.declared.kind.Kind.TheVariants.{Address};
-ghost use Rattle.cad_codec.specs.Spelling as spec;
+ghost use Rattle.cad_number_codec.specs.Spelling as spec;
 
 use cad_syntax::Kind;
 

@@ -1,10 +1,10 @@
 // Values to bytes.
 ghost use Rattle.std.specs.Prelude.{◌≡◌, ◌++◌, IfOk, OnOk};
-ghost use Rattle.cad_codec.specs.Spelling.{magnitude_field, number_bytes, value_bytes, HasBytes};
+ghost use Rattle.cad_number_codec.specs.Spelling.{magnitude_field, number_bytes, value_bytes, HasBytes};
 
 use crate::kind::{kind_byte, sign_byte};
 use cad_syntax::{Bytes, Num};
-use cad_values::Value;
+use crate::value::Value;
 use cad_wire::Writer;
 use std::alloc::{AllocError, Global};
 
