@@ -2,11 +2,11 @@
 use Rattle.std.proofs.Common.{◌≡◌, ℕ, ◌/◌, ◌%◌, ◌^◌, ◌<◌, Bool, true, false, nat_le, List, [], ◌∷◌, refl, sym, ap, subst, ◌∙◌, arith}
 use Rattle.std.specs.Prelude.{◌&&◌, slice_index_or}
 use Rattle.std.proofs.lemmas.Bool.Decides.{nat_tests}
-use Rattle.std.proofs.Math.Bool.{Bool-set}
 use Rattle.cad_syntax.specs.declared.kind.Kind.{Kind}
 use Rattle.cad_syntax.specs.declared.kind.Kind.TheVariants.{Int, Int8, Int16, Int32, Int64, Int128, UInt, UInt8, UInt16, UInt32, UInt64, UInt128, Word8, Word16, Word32, Word64, Word128, Fix64, UFix64, Address}
 use Rattle.cad_syntax.specs.declared.num.Num.{Num}
 use Rattle.cad_syntax.specs.Kinds.{greatest, depth, is_kept}
+use Rattle.cad_syntax.proofs.Nums.{same_fields}
 use Rattle.cad_number_codec.specs.Spelling.{kind_byte, sign_byte}
 use Rattle.cad_number_codec.specs.Parts.{HasParts}
 
@@ -102,16 +102,6 @@ same_magnitude : (a b : ℕ) → a / 2 ^ 64 ≡ b / 2 ^ 64 → a % 2 ^ 64 ≡ b 
 same_magnitude a b upper lower = omega arith
 
 -- ---- numbers
-
-abbrev pub num_of : (k : Kind) (s : Bool) (m : ℕ) → is_kept k s m ≡ true → Num
-num_of k s m kept = record { kind = k; negative = s; magnitude = m; kept = kept }
-
-pub same_fields : (k j : Kind) (s t : Bool) (m o : ℕ) → k ≡ j → s ≡ t → m ≡ o → (p : is_kept k s m ≡ true) (q : is_kept j t o ≡ true) → num_of k s m p ≡ num_of j t o q
-same_fields k j s t m o kk ss mm =
-    subst (λ x. (p : is_kept k s m ≡ true) (q : is_kept x t o ≡ true) → num_of k s m p ≡ num_of x t o q) kk
-    (subst (λ x. (p : is_kept k s m ≡ true) (q : is_kept k x o ≡ true) → num_of k s m p ≡ num_of k x o q) ss
-    (subst (λ (x : ℕ). (p : is_kept k s m ≡ true) (q : is_kept k s x ≡ true) → num_of k s m p ≡ num_of k s x q) mm
-    (λ p q. ap (λ r. num_of k s m r) (Bool-set (is_kept k s m) true p q))))
 
 pub same_number : (n m : Num) (kind sign upper lower : ℕ) → HasParts n kind sign upper lower → HasParts m kind sign upper lower → n ≡ m
 same_number n m kind sign upper lower a b =
