@@ -13,7 +13,9 @@ use crate::value::Value;
 use cad_wire::{DecodeError, Reader, Short};
 use std::alloc::Global;
 
-fn number_of(kind: u8, sign: u8, upper: u64, lower: u64) -> Option<Num>
+/// The number with these parts of its bytes: the bytes of its kind and sign, and the upper and lower 64 bits of its magnitude.
+/// None exactly where there is none.
+pub fn number_of(kind: u8, sign: u8, upper: u64, lower: u64) -> Option<Num>
     ensures found { IfSome result (λ n. HasParts n kind sign upper lower) }
     ensures none { IfNone result ((n : Num) → HasParts n kind sign upper lower → ⊥) }
 {
@@ -30,8 +32,9 @@ fn number_of(kind: u8, sign: u8, upper: u64, lower: u64) -> Option<Num>
     Num::new(kind, negative, magnitude)
 }
 
+/// The parts of a number's bytes behind the form byte. Short exactly where fewer than 18 bytes are left.
 #[tactic(auto, unfolding(crate::specs::Parts::parts_at))]
-fn parts_of(reader: &mut Reader<'_>) -> Result<(u8, u8, u64, u64), Short>
+pub fn parts_of(reader: &mut Reader<'_>) -> Result<(u8, u8, u64, u64), Short>
     ensures ok { IfOk result (λ p. parts_at reader.old ≡ Some ((p.0, p.1, p.2, p.3), reader.new)) }
     ensures short { OnErr result (parts_at reader.old ≡ None) }
 {

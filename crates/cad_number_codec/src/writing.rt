@@ -15,7 +15,8 @@ fn write_magnitude(writer: &mut Writer, magnitude: u128) -> Result<(), AllocErro
     writer.number((magnitude % (1 << 64)) as u64)
 }
 
-fn write_number(writer: &mut Writer, n: Num) -> Result<(), AllocError>
+/// Appends a number: the form byte 4, its kind, its sign and its magnitude.
+pub fn write_number(writer: &mut Writer, n: Num) -> Result<(), AllocError>
     ensures { OnOk result (writer.new ≡ writer.old ++ number_bytes n) }
 {
     writer.byte(4)?;

@@ -1,0 +1,6 @@
+mod Counts
+mod Members
+mod NumberParts
+mod Seen
+mod Tables
+mod Texts
