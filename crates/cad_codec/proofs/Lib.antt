@@ -1,2 +1,6 @@
-pub mod Numbers
-pub mod Decoded
+mod Counts
+mod Members
+mod NumberParts
+mod Seen
+mod Tables
+mod Texts

@@ -15,6 +15,10 @@ is_plain_told (capability a n t) = false
 is_plain_told (reference a t to) = false
 is_plain_told _ = true
 
+abbrev pub is_plain_lasting : PureValue → Bool
+is_plain_lasting (reference a t to) = false
+is_plain_lasting _ = true
+
 -- a value without parts passes the test, or all parts of another do, at any depth
 abbrev mutual
   pub all_parts : (PureValue → Bool) → PureValue → Bool
@@ -43,3 +47,7 @@ is_storable_value = all_parts is_plain_storable
 -- each part has a form in JSON-Cadence
 abbrev pub is_told : PureValue → Bool
 is_told = all_parts is_plain_told
+
+-- nothing in it, at any depth, is a reference
+abbrev pub has_no_reference : PureValue → Bool
+has_no_reference = all_parts is_plain_lasting

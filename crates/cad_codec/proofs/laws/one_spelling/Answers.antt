@@ -1,5 +1,0 @@
-use Rattle.cad_codec.proofs.Decoded.{one}
-use Rattle.cad_codec.proofs.laws.one_spelling.Goals as goal
-
-pub returns : goal.returns
-returns c = one
