@@ -7,7 +7,7 @@ use Rattle.cad_declarations.specs.Typed as e
 use Rattle.cad_typing.specs.Befores.{befores, behind, at_entry}
 use Rattle.cad_typing.specs.Environments.{Environment, ordinary, Typing, kinds, when, ◌>=>◌}
 use Rattle.cad_typing.specs.Expressions.{infer}
-use Rattle.cad_typing.specs.Order.{fits}
+use Rattle.cad_types.specs.Optionals.{fits}
 use Rattle.cad_typing.specs.Places.{infer_event}
 use Rattle.cad_typing.specs.StatementForms.{infer_test}
 use Rattle.cad_typing.specs.Statements.{◌>>=◌}

@@ -19,7 +19,7 @@ use Rattle.cad_typing.specs.Containers.{targeted}
 use Rattle.cad_typing.specs.Environments.{Environment, default_argument, ordinary, kinds, when, ◌>=>◌}
 use Rattle.cad_typing.specs.Expressions.{infer}
 use Rattle.cad_typing.specs.Functions.{is_annotated}
-use Rattle.cad_typing.specs.Order.{fits}
+use Rattle.cad_types.specs.Optionals.{fits}
 use Rattle.cad_typing.specs.Types.{is_storable, is_exportable}
 
 -- ---- fields

@@ -13,7 +13,6 @@ pub mod Literals
 pub mod Locals
 pub mod Names
 pub mod Operators
-pub mod Order
 pub mod Pieces
 pub mod Places
 pub mod Programs

@@ -19,7 +19,7 @@ use Rattle.cad_typing.specs.Environments.{Environment, Local, Part, prepare_body
 use Rattle.cad_typing.specs.Expressions.{infer, infer_place, infer_arguments, based}
 use Rattle.cad_typing.specs.Fields.{Found, declared_member, built_in_member, found_member, indexed_type, index_of}
 use Rattle.cad_typing.specs.Names.{Head, local, type_head, head, type_inside, transaction_field}
-use Rattle.cad_typing.specs.Order.{fits}
+use Rattle.cad_types.specs.Optionals.{fits}
 use Rattle.cad_typing.specs.Receivers.{Receiver, Base, value, contract, type_name, transaction, receiver_in, of_contract}
 
 -- ---- places to which is written

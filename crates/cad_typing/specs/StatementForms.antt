@@ -20,7 +20,7 @@ use Rattle.cad_typing.specs.Environments.{Environment, Local, ordinary, Typing, 
 use Rattle.cad_typing.specs.Expressions.{infer}
 use Rattle.cad_typing.specs.Locals.{next_local, entry_of, is_free}
 use Rattle.cad_typing.specs.Operators.{is_test, may_be_equal}
-use Rattle.cad_typing.specs.Order.{fits}
+use Rattle.cad_types.specs.Optionals.{fits}
 use Rattle.cad_typing.specs.Places.{Target, infer_target, infer_variable, infer_moved, infer_declared, infer_returned}
 use Rattle.cad_typing.specs.Receivers.{is_nil}
 use Rattle.cad_typing.specs.References.{may_be_cast}
