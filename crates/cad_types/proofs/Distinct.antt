@@ -6,8 +6,8 @@ use Rattle.cad_syntax.specs.TypeIds.{same_id}
 use Rattle.cad_syntax.specs.declared.type_id.TypeId.{TypeId}
 use Rattle.cad_syntax.proofs.Members.{and_both}
 use Rattle.cad_syntax.proofs.Same.{ids_tell}
-use Rattle.cad_types.specs.Declarations.{declaration_of, found}
-use Rattle.cad_types.specs.Code.Declarations.{is_declared, all_distinct}
+use Rattle.cad_types.specs.Declarations.{declaration_of, found, is_declared}
+use Rattle.cad_types.specs.Code.Declarations.{all_distinct}
 use Rattle.cad_types.specs.declared.declared.Declared.{Declared}
 
 declared_there : (ds : List Declared) (place : ℕ) (default : Declared) (id : TypeId) → place < length ds → same_id (get_or ds place default).id id ≡ true → is_declared (map declaration_of ds) id ≡ true

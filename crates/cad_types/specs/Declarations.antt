@@ -1,6 +1,7 @@
 -- Declarations of types, and what is found in a list of them.
 use Rattle.std.specs.Prelude.{◌≡◌, Bool, true, false, List, [], ◌∷◌, Option, Some, None, map, nat_le, if◌then◌else◌}
 use Rattle.std.specs.List.{list_any, list_all}
+use Rattle.std.specs.Option.{is_some}
 use Rattle.cad_syntax.specs.TypeIds.{same_id, has}
 use Rattle.cad_syntax.specs.Types.{PureType, basic, optional, array, dictionary, intersection, declared, reference, capability, capability_of, pure_type, nesting}
 use Rattle.cad_syntax.specs.declared.type_id.TypeId.{TypeId}
@@ -24,6 +25,9 @@ declaration_of d = record { id = d.id; sort = d.sort; fields = map pure_type d.f
 abbrev pub found : List Declaration → TypeId → Option Declaration
 found [] id = None
 found (d ∷ ds) id = if same_id d.id id then Some d else found ds id
+
+abbrev pub is_declared : List Declaration → TypeId → Bool
+is_declared k id = is_some (found k id)
 
 abbrev pub interfaces_in : Option Declaration → List TypeId
 interfaces_in None = []

@@ -46,7 +46,7 @@ pub(crate) fn find<'a>(declared: &'a [Declared], id: &TypeId) -> Option<&'a Decl
 }
 
 fn is_declared(declared: &[Declared], id: &TypeId) -> bool
-    ensures { result ≡ tests.is_declared (map spec.declaration_of declared.now) id.now }
+    ensures { result ≡ spec.is_declared (map spec.declaration_of declared.now) id.now }
 {
     match find(declared, id) {
         Some(_) => true,

@@ -1,13 +1,9 @@
 -- Tests of a list of declarations.
 use Rattle.std.specs.Prelude.{Bool, true, not, ◌&&◌, List, [], ◌∷◌}
 use Rattle.std.specs.List.{list_all}
-use Rattle.std.specs.Option.{is_some}
 use Rattle.cad_syntax.specs.TypeIds.{has}
 use Rattle.cad_syntax.specs.declared.type_id.TypeId.{TypeId}
-use Rattle.cad_types.specs.Declarations.{Declaration, found, interfaces_of}
-
-abbrev pub is_declared : List Declaration → TypeId → Bool
-is_declared k id = is_some (found k id)
+use Rattle.cad_types.specs.Declarations.{Declaration, is_declared, interfaces_of}
 
 -- no identifier is declared twice
 abbrev pub all_distinct : List Declaration → Bool
