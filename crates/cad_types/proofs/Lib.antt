@@ -1,4 +1,8 @@
+pub mod Conditions
 pub mod Order
+pub mod Decision
+pub mod Reading
+pub mod Transfers
 pub mod Turns
 pub mod Judging
 pub mod Closed
