@@ -1,5 +1,5 @@
 // Laws of the order of types.
-ghost use Rattle.cad_types.specs.Laws.{NeedsNoStepsBetween, ResourcesStayAbove, FitsOnceThere, NilFits, BelowIsNotWrapped, LayersAreDepths, ReadingKeepsOrder, ReadingIsPlain};
+ghost use Rattle.cad_types.specs.Laws.{NeedsNoStepsBetween, ResourcesStayAbove, FitsOnceThere, NilFits, BelowIsNotWrapped, LayersAreDepths, ReadingKeepsOrder, ReadingIsPlain, ResourcesStay, OrderStays};
 
 /// The test of the order, which takes no steps between two types, tells the least relation with the rules, which is
 /// transitive.
@@ -40,4 +40,14 @@ pub fn reading_keeps_order()
 /// What is read through a reference is of no resource type.
 pub fn reading_is_plain()
     ensures { ReadingIsPlain }
+{}
+
+/// Where declarations are added, a type that names declared types stays a resource type or stays none.
+pub fn resource_types_stay()
+    ensures { ResourcesStay }
+{}
+
+/// Where declarations are added, the order of types that name declared types stays.
+pub fn the_order_stays()
+    ensures { OrderStays }
 {}
