@@ -1,12 +1,12 @@
 // Declared types.
-ghost use Rattle.std.specs.Prelude.{◌≡◌, ◌↔◌, IsTrue, IfSome, Some, true, map, option_map, nat_le};
+ghost use Rattle.std.specs.Prelude.{◌≡◌, ◌↔◌, IsTrue, IfSome, Some, true, map, option_map};
 ghost use Rattle.std.specs.List.{list_all};
 ghost use Rattle.cad_syntax.specs.TypeIds.{has};
-ghost use Rattle.cad_syntax.specs.Types.{nesting, pure_type};
+ghost use Rattle.cad_syntax.specs.Types.{pure_type};
 ghost use Rattle.cad_types.specs.Declarations as spec;
 ghost use Rattle.cad_types.specs.Code.Declarations as tests;
 
-use cad_syntax::{CadType, TypeId, TypeIds, Types, contains};
+use cad_syntax::{TypeId, TypeIds, Types, contains};
 
 /// What a declared type is.
 #[derive(Clone, Copy, Debug, PartialEq, Eq)]
@@ -29,9 +29,6 @@ pub struct Declared {
     pub fields: Types,
     pub interfaces: TypeIds,
 }
-
-/// How deep a type may nest.
-pub const DEEPEST: u32 = 512;
 
 /// The first declaration of an identifier.
 pub(crate) fn find<'a>(declared: &'a [Declared], id: &TypeId) -> Option<&'a Declared>
@@ -124,33 +121,4 @@ pub(crate) fn includes(interfaces: &[TypeId], ids: &[TypeId]) -> bool
     ensures { result ≡ list_all (has interfaces.now) ids.now }
 {
     ids.iter().all(|id| contains(interfaces, id))
-}
-
-/// Whether no field's type nests more than 512 deep.
-pub fn all_nest(declared: &[Declared]) -> bool
-    ensures { result ≡ spec.all_nest (map spec.declaration_of declared.now) }
-{
-    for d in declared {
-        if !fields_nest(d) {
-            return false;
-        }
-    }
-    true
-}
-
-fn fields_nest(d: &Declared) -> bool
-    ensures { result ≡ spec.fields_nest (spec.declaration_of d.now) }
-{
-    for t in d.fields.as_slice() {
-        if !nests(t) {
-            return false;
-        }
-    }
-    true
-}
-
-fn nests(t: &CadType) -> bool
-    ensures { result ≡ nat_le (nesting (pure_type t.now)) 512 }
-{
-    t.nesting(DEEPEST).is_some()
 }

@@ -27,13 +27,12 @@ impl DeclaredTypes {
     ghost use Rattle.std.specs.Prelude.{◌≡◌, ◌↔◌, map, option_map, IsTrue, IfOk, IfSome, Some, true};
     ghost use Rattle.cad_syntax.specs.Types.{pure_type};
     ghost use Rattle.cad_types.specs.Classes.{Storable, Importable, Exportable};
-    ghost use Rattle.cad_types.specs.Declarations.{IsClosed, all_nest, declaration_of, found, interfaces_of, is_resource_id};
+    ghost use Rattle.cad_types.specs.Declarations.{IsClosed, declaration_of, found, interfaces_of, is_resource_id};
     ghost use Rattle.cad_types.specs.Views.{declarations};
 
-    /// The types of these declarations. No field's type nests more than 512 deep.
+    /// The types of these declarations.
     pub fn new(alloc: Global, declared: Vec<Declared>) -> Result<DeclaredTypes, AllocError>
         requires closed { IsClosed (map declaration_of declared.items) }
-        requires nests { all_nest (map declaration_of declared.items) ≡ true }
         ensures { IfOk result (λ declared_types. declarations declared_types ≡ map declaration_of declared.items) }
     {
         let marks = judge(alloc, declared.as_slice())?;

@@ -12,6 +12,6 @@ mod subtype;
 
 pub use builtin::Builtin;
 pub use classes::{is_exportable, is_importable, is_storable};
-pub use declared::{DEEPEST, Declared, Sort, all_nest, is_closed};
+pub use declared::{Declared, Sort, is_closed};
 pub use declared_types::DeclaredTypes;
 pub use subtype::{is_resource, is_subtype};

@@ -1,8 +1,8 @@
 // The order of types.
-ghost use Rattle.std.specs.Prelude.{◌≡◌, ◌≤◌, ◌↔◌, IsTrue};
+ghost use Rattle.std.specs.Prelude.{◌≡◌, ◌↔◌, IsTrue};
 ghost use Rattle.std.specs.List.{list_any, list_all};
 ghost use Rattle.cad_syntax.specs.TypeIds.{has};
-ghost use Rattle.cad_syntax.specs.Types.{pure_type, nesting, basic};
+ghost use Rattle.cad_syntax.specs.Types.{pure_type, basic};
 ghost use Rattle.cad_types.specs.Declarations.{resource, is_resource_id, is_any_resource, interfaces_of};
 ghost use Rattle.cad_auth.specs.Tests as tests;
 ghost use Rattle.cad_types.specs.Basics as basics;
@@ -15,30 +15,21 @@ use crate::declared_types::DeclaredTypes;
 use cad_auth::grants;
 use cad_syntax::{Authorization, Basic, CadType, TypeId, contains};
 
-/// Whether one type is below another. Neither nests more than 512 deep.
+/// Whether one type is below another.
 pub fn is_subtype(declared_types: &DeclaredTypes, a: &CadType, b: &CadType) -> bool
-    requires a_nests { nesting (pure_type a.now) ≤ 512 }
-    requires b_nests { nesting (pure_type b.now) ≤ 512 }
     ensures { IsTrue result ↔ Sub (declarations declared_types.now) (pure_type a.now) (pure_type b.now) }
 {
     is_below(declared_types, a, b)
 }
 
-/// Whether a type is a resource type. It nests at most 512 deep.
+/// Whether a type is a resource type.
 pub fn is_resource(declared_types: &DeclaredTypes, t: &CadType) -> bool
-    requires { nesting (pure_type t.now) ≤ 512 }
-    ensures { result ≡ resource (declarations declared_types.now) (pure_type t.now) }
-{
-    is_resource_type(declared_types, t)
-}
-
-fn is_resource_type(declared_types: &DeclaredTypes, t: &CadType) -> bool
     ensures { result ≡ resource (declarations declared_types.now) (pure_type t.now) }
 {
     match t {
         CadType::Basic(basic) => is_any_resource(*basic),
         CadType::Optional(part) | CadType::Array(part) | CadType::Dictionary(_, part) => {
-            is_resource_type(declared_types, part)
+            is_resource(declared_types, part)
         }
         CadType::Intersection(ids) => some_is_resource(declared_types, ids.as_slice()),
         CadType::Declared(id) => declared_types.is_resource(id),
@@ -132,7 +123,7 @@ fn is_below_basic(declared_types: &DeclaredTypes, a: &CadType, u: Basic) -> bool
 {
     match a {
         CadType::Basic(t) => basic_is_below(*t, u),
-        CadType::Optional(t) => is_below_by_class(is_resource_type(declared_types, t), false, u),
+        CadType::Optional(t) => is_below_by_class(is_resource(declared_types, t), false, u),
         CadType::Array(t) | CadType::Dictionary(_, t) => container_is_below(declared_types, t, u),
         CadType::Intersection(ids) => {
             let is_resource = some_is_resource(declared_types, ids.as_slice());
@@ -176,7 +167,7 @@ fn container_is_below(declared_types: &DeclaredTypes, t: &CadType, u: Basic) -> 
     ensures { result ≡ spec.by_class (resource (declarations declared_types.now) (pure_type t.now)) (spec.reaches_resource (declarations declared_types.now) (pure_type t.now)) u }
 {
     is_below_by_class(
-        is_resource_type(declared_types, t),
+        is_resource(declared_types, t),
         reaches_resource(declared_types, t),
         u,
     )
