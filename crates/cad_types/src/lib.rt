@@ -8,7 +8,9 @@ mod declared_types;
 pub mod laws;
 mod marks;
 mod places;
+mod settle;
 mod subtype;
+mod table;
 
 pub use builtin::Builtin;
 pub use classes::{is_exportable, is_importable, is_storable};

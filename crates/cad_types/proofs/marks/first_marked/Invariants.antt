@@ -1,7 +1,7 @@
 use Rattle.std.proofs.Common.{◌≡◌, drop, map}
 use Rattle.cad_types.specs.Declarations.{declaration_of}
 use Rattle.cad_types.specs.Code.Judged.{marked}
-use Rattle.cad_types.proofs.marks.marked.Given as goal
+use Rattle.cad_types.proofs.marks.first_marked.Given as goal
 
 abbrev pub invariant-loop-i : goal.invariant-loop-i
 invariant-loop-i l =
