@@ -48,6 +48,7 @@ place_step (Place-F.Contract id) = e.contract id
 place_step (Place-F.Target x) = e.target x.value
 place_step (Place-F.Place::Field base of name) = e.field base.value (pure_type of) name
 place_step (Place-F.Element base of i) = e.element base.value (pure_type of) i.value
+place_step (Place-F.Content base forces) = e.content base.value forces
 
 abbrev pub use_step : Use-F e.PlaceTree e.TermTree e.UseTree e.TargetedTerm e.TermPair → e.UseTree
 use_step (Use-F.Use::Field name authorization) = e.get name authorization
