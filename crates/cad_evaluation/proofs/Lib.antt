@@ -1,0 +1,2 @@
+pub mod SampleParts
+pub mod SamplesTerms
