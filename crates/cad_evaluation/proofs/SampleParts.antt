@@ -1,20 +1,19 @@
 -- Small programs and states, of which samples are made, and what is seen of an outcome.
-use Rattle.std.specs.Prelude.{ℕ, Bool, true, false, List, [], ◌∷◌, Option, Some, None, ◌≡◌, refl, codes}
+use Rattle.std.specs.Prelude.{ℕ, true, false, List, [], ◌∷◌, Option, Some, None, refl, codes}
 use Rattle.cad_syntax.specs.Types.{PureType, basic}
 use Rattle.cad_syntax.specs.declared.kind.Kind.{Kind}
 use Rattle.cad_syntax.specs.declared.kind.Kind.TheVariants as k
 use Rattle.cad_syntax.specs.declared.num.Num.{Num}
 use Rattle.cad_syntax.specs.declared.text.Name.{Name}
-use Rattle.cad_syntax.specs.declared.type_id.TypeId.{TypeId}
 use Rattle.cad_syntax.specs.declared.types.Basic.TheVariants as b
-use Rattle.cad_declarations.specs.Tables.{ProgramTables, TypeEntry}
+use Rattle.cad_declarations.specs.Tables.{ProgramTables}
 use Rattle.cad_declarations.specs.Typed as e
 use Rattle.cad_values.specs.Values.{PureValue}
 use Rattle.cad_values.specs.Values as v
-use Rattle.cad_world.specs.Rows.{Row, stop, Tree}
+use Rattle.cad_world.specs.Rows.{stop, Tree}
 use Rattle.cad_world.specs.State.{State, Account, Program, Contract, Outcome, ok, failed, limit, ill}
 use Rattle.cad_world.specs.Trees.{value_of}
-use Rattle.cad_evaluation.specs.Callees.{Callee, function, Front}
+use Rattle.cad_evaluation.specs.Callees.{function, Front}
 use Rattle.cad_evaluation.specs.Evaluation.{calls_to}
 use Rattle.cad_evaluation.specs.Numbers.{number_of}
 
