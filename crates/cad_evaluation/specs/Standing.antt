@@ -11,7 +11,7 @@ use Rattle.cad_world.specs.State.{State, Action, ◌>>=◌, give, stuck, guard, 
 use Rattle.cad_world.specs.Trees.{nil_tree, value_of}
 use Rattle.cad_world.specs.Labels.{position_of}
 use Rattle.cad_world.specs.Locations.{Location, variable, part, element, entry, read, name}
-use Rattle.cad_world.specs.Receivers.{Receiver, standing, through, Spot, spot_at, deref, is_reference, receiver_at}
+use Rattle.cad_world.specs.Receivers.{Receiver, standing, through, Spot, deref, is_reference, receiver_at}
 use Rattle.cad_evaluation.specs.Access.{own_member, serves, may_write}
 use Rattle.cad_evaluation.specs.Changing.{Content, nothing, content, no_optional, content_of, take}
 use Rattle.cad_evaluation.specs.Casts.{borrowed}
@@ -29,14 +29,10 @@ abbrev pub named_spot : Option Authorization → Location → Option Tree → Ac
 named_spot rights x None = stuck
 named_spot rights x (Some t) = name x >>= (λ l. give (record { rights = rights; label = Some l; tree = t }))
 
--- what a field or an element is of
+-- what a field is of
 abbrev pub base_of : Standing → Action Spot
 base_of (here rights x) = read x >>= named_spot rights x
 base_of (led_by t) = guard (is_reference t) (deref t.shape)
-
--- the same node again, 113 where it is gone
-abbrev pub again : Spot → Action Spot
-again spot = with_some spot.label (λ l. spot_at spot.rights l spot.tree.optionals)
 
 -- ---- fields
 
