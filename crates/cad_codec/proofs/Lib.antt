@@ -1,6 +1,8 @@
 mod Counts
+mod Formats
 mod Members
 mod NumberParts
 mod Seen
+mod Steps
 mod Tables
 mod Texts
