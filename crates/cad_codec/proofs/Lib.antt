@@ -1,4 +1,5 @@
 mod Counts
+mod Distincts
 mod Formats
 mod Members
 mod NumberParts
@@ -6,3 +7,4 @@ mod Seen
 mod Steps
 mod Tables
 mod Texts
+mod TypeFormats
