@@ -41,7 +41,7 @@ kinds_numbered = (refl, (refl, (refl, (refl, (refl, (refl, (refl, (refl, (refl, 
 pub kind_at : (b : ℕ) (k : Kind) → slice_get kinds b ≡ Some k → b ≡ kind_byte k
 kind_at b k e = sym (at_place kind_byte kinds 0 b k kinds_numbered e ∙ omega arith)
 
-truth : (b : ℕ) (x : Bool) → bool_of b ≡ Some x → b ≡ sign_byte x
+pub truth : (b : ℕ) (x : Bool) → bool_of b ≡ Some x → b ≡ sign_byte x
 truth zero false e = refl
 truth zero true e = absurd cc
 truth (suc zero) false e = absurd cc
