@@ -5,7 +5,7 @@ use Rattle.std.specs.Ordering.{nat_cmp}
 use Rattle.std.specs.Cmp.Lexicographic.{slice_cmp}
 use Rattle.std.specs.Str.{bytes_eq}
 use Rattle.std.specs.List.{list_any}
-use Rattle.std.specs.BTreeSet.{contains, Updates, IsEmpty}
+use Rattle.std.specs.BTreeSet.{contains, Updates}
 use Rattle.std.specs.declared.vec.Vec.{Vec}
 use Rattle.std.specs.declared.alloc.Global.{Global}
 use Rattle.std.proofs.lemmas.List.Folds.{list_any-append}
@@ -50,9 +50,6 @@ drop_one {A} (k ∷ ks) (suc i) key e = drop_one ks i key e
 pub record Added (seen : Set) (ks : List (List ℕ)) (i : ℕ) : Type 0 where
   pub holds : Holds seen (take i ks)
   pub left : all_new (take i ks) (drop i ks) ≡ all_new [] ks
-
-pub starts : (seen : Set) (ks : List (List ℕ)) → IsEmpty seen → Added seen ks 0
-starts seen ks empty = record { holds = λ q. ?; left = refl }
 
 pub differs : (old now : Set) (ks : List (List ℕ)) (i : ℕ) (key : List ℕ) → Added old ks i → slice_get ks i ≡ Some key → Adds old now key true → Added now ks (i + 1)
 differs old now ks i key so at added =
