@@ -3,7 +3,7 @@ use Rattle.std.proofs.Common.{◌≡◌, ◌⊎◌, inl, inr, ⊎_elim, ℕ, ◌
 use Rattle.cad_host.specs.declared.host.Tape.{Tape}
 use Rattle.cad_host.specs.Disk.{Event, wrote, synced, broke, filled, put, took, TapeState, state, reads, IsImage, IsDisk, overwritten, output, BreaksWrite, BreaksSync, BreaksPut, FailsTake, FailsLook}
 use Rattle.cad_host.specs.Crash.{IsSettled}
-use Rattle.cad_host.proofs.Images.{each_tape, state_wrote, state_synced, state_broke, state_filled, other_wrote, other_synced, other_broke, other_filled}
+use Rattle.cad_host.proofs.Images.{each_tape, clean_only, state_wrote, state_synced, state_broke, state_filled, other_wrote, other_synced, other_broke, other_filled}
 use Rattle.cad_host.proofs.Inside_write.{front_within}
 use Rattle.cad_host.proofs.Lists.{long_over}
 use Rattle.cad_host.specs.declared.call.Call.{Call}
@@ -125,3 +125,11 @@ half_breaks calls new t at bytes inside half = ⊎_elim inl (λ is. inr (_, half
 
 pub nothing_breaks : (calls : List Call) (new : List Event) (t : Tape) → SyncsNothing t (trace_of calls) new → BreaksSync t (trace_of calls) new
 nothing_breaks calls new t nothing = ⊎_elim inl (λ is. inr (_, reads_image (state t (trace_of calls)) (settled_calls calls t), is)) nothing
+
+-- a sync leaves fewer images
+pub synced_image : (u : Tape) (m : List Event) (disk : Tape → List ℕ) → IsSettled m → IsDisk (synced u ∷ m) disk → IsDisk m disk
+synced_image u m disk settled left = each_tape u (λ t. IsImage (state t m) (disk t))
+    (let there = subst (λ s. IsImage s (disk u)) (state_synced u m) (left u) in
+    let is : disk u ≡ reads m u = clean_only _ (disk u) (record { settled = refl; loose = refl }) there in
+    subst (IsImage (state u m)) (sym is) (reads_image (state u m) (settled u)))
+    (λ t other. subst (λ s. IsImage s (disk t)) (other_synced t u m other) (left t))

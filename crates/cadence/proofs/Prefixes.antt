@@ -9,7 +9,8 @@ use Rattle.cad_tape.specs.Reading.{IsQuiet}
 use Rattle.cad_accounts.specs.Accounts.{Accounts}
 use Rattle.cad_store.proofs.Holding.{quiet as quiet_image}
 use Rattle.cadence.specs.Served.{AnswersAll, answer_lines, Served}
-use Rattle.cadence.specs.Crashes.{DiskStands, IsPrefix, Survives, line_feeds}
+use Rattle.cadence.specs.Crashes.{DiskStands, IsPrefix, KeepsPrefix}
+use Rattle.cadence.specs.Replied.{line_feeds}
 use Rattle.cadence.proofs.Batches.{all_append, all_length}
 use Rattle.cadence.proofs.Feeds.{feeds_append, feeds_lines}
 use Rattle.cadence.proofs.Lines_of.{one_feed}

@@ -18,7 +18,8 @@ use Rattle.cad_store.specs.Stores.{DiskHolds, held, IsAt, IsOn, Keeps, BreaksRec
 use Rattle.cadence.specs.Answer.{Answer, Answers, answer_line}
 use Rattle.cadence.specs.Served.{Served, Broken}
 use Rattle.cadence.specs.Writing.{Written, nothing, Wrote, WroteBroken, WroteStopped, writing}
-use Rattle.cadence.specs.Crashes.{DiskStands, HasPrefix, IsPrefix, Survives, line_feeds, acknowledged}
+use Rattle.cadence.specs.Crashes.{DiskStands, HasPrefix, IsPrefix, KeepsPrefix}
+use Rattle.cadence.specs.Replied.{line_feeds, acknowledged}
 use Rattle.cadence.specs.Progress.{Said, Halts, Halted}
 use Rattle.cadence.specs.declared.status.Status.{Status}
 use Rattle.cadence.specs.declared.status.Status.TheVariants.{Done, Usage, ReadFault, WriteFault, DiskFault, Memory, BadStore, InputBound}
