@@ -1,5 +1,5 @@
 -- An opening: its moments, and what it leaves.
-use Rattle.std.proofs.Common.{◌≡◌, ◌⊎◌, inl, inr, ⊎_elim, ℕ, ◌<◌, ◌^◌, false, Some, List, [], ◌∷◌, length, refl, sym, ◌∙◌, ap, subst}
+use Rattle.std.proofs.Common.{◌≡◌, ◌⊎◌, inl, inr, ⊎_elim, ℕ, ◌<◌, ◌^◌, false, Some, Result, Ok, Err, List, [], ◌∷◌, length, refl, sym, ◌∙◌, ap, subst}
 use Rattle.cad_host.specs.declared.host.Tape.{Tape}
 use Rattle.cad_host.specs.declared.host.Tape.TheVariants.{Pick}
 use Rattle.cad_host.specs.Disk.{Event, synced, broke, look_failed, state, reads, output, same_tape, IsImage, IsDisk, IsClean, Ran, FailsLook, BreaksSync}
@@ -13,7 +13,9 @@ use Rattle.cad_accounts.specs.Registers.{Map}
 use Rattle.cad_store.specs.declared.place.Place.{Place}
 use Rattle.cad_store.specs.declared.place.Place.TheVariants.{Behind, Onto}
 use Rattle.cad_store.specs.Stores.{DiskHolds, IsAt}
-use Rattle.cad_store.specs.Opening.{in_use, opened, BreaksOpening, at_pick, at_tape, at_sync, at_second_sync, IsOpening}
+use Rattle.cad_store.specs.declared.stops.OpenStop.{OpenStop}
+use Rattle.cad_store.specs.declared.stops.OpenStop.TheVariants.{Failed, BadStore, Memory}
+use Rattle.cad_store.specs.Opening.{in_use, opened, Opens, BreaksOpening, ReadsStore, at_pick, at_tape, at_sync, at_second_sync, IsOpening}
 
 -- a sync leaves what is read
 synced_reads : (u : Tape) (m : List Event) (t : Tape) → reads (synced u ∷ m) t ≡ reads m t
@@ -95,3 +97,31 @@ module _ (m : List Event) (settled : IsSettled m) where
   open_broke new (at_tape h) = looked (in_use m) new h
   open_broke new (at_sync h) = broke_first new h
   open_broke new (at_second_sync h) = broke_second new h
+
+-- a failed opening, by the call that failed
+opens_err : (T : Type 0) (s : OpenStop) (m new : List Event) → IsSettled m → Opens {T = T} (Err s) m new → Ran m new (IsOpening m)
+opens_err T Failed m new settled h = open_broke m settled new h
+opens_err T BadStore m new settled h = record { since = []; is = h; each = begin m }
+opens_err T Memory m new settled h = record { since = []; is = h; each = begin m }
+
+pub opens_moments : {T : Type 0} (r : Result T OpenStop) (m new : List Event) → IsSettled m → Opens r m new → Ran m new (IsOpening m)
+opens_moments (Ok t) m new settled h = subst (λ n. Ran m n (IsOpening m)) (sym h) (open_ran m settled)
+opens_moments {T = T} (Err s) m new settled h = opens_err T s m new settled h
+
+-- reading, and then two syncs
+pub reads_opens : (T U : Type 0) (s : OpenStop) (m mid new : List Event) → mid ≡ m → ReadsStore {T = T} (Err s) mid new → Opens {T = U} (Err s) m new
+reads_opens T U Failed m mid new same h = at_tape (subst (λ n. FailsLook (in_use n) n new) same h)
+reads_opens T U BadStore m mid new same h = h ∙ same
+reads_opens T U Memory m mid new same h = h ∙ same
+
+pub reads_looked : (T : Type 0) (s : OpenStop) (m mid new : List Event) → mid ≡ m → ReadsStore {T = T} (Err s) mid new → FailsLook Pick m new ⊎ FailsLook (in_use m) m new
+reads_looked T Failed m mid new same h = inr (subst (λ n. FailsLook (in_use n) n new) same h)
+reads_looked T BadStore m mid new same h = inl (inl (h ∙ same))
+reads_looked T Memory m mid new same h = inl (inl (h ∙ same))
+
+pub sync_broke : (m mid new : List Event) (tape : Tape) → mid ≡ m → tape ≡ in_use m → BreaksSync Pick mid new ⊎ BreaksSync tape (synced Pick ∷ mid) new → BreaksOpening m new
+sync_broke m mid new tape same used (inl h) = at_sync (subst (λ n. BreaksSync Pick n new) same h)
+sync_broke m mid new tape same used (inr h) = at_second_sync (subst (λ n. BreaksSync (in_use m) (synced Pick ∷ n) new) same (subst (λ t. BreaksSync t (synced Pick ∷ mid) new) used h))
+
+pub both_synced : (m mid new : List Event) (tape : Tape) → mid ≡ m → tape ≡ in_use m → new ≡ synced tape ∷ synced Pick ∷ mid → new ≡ opened m
+both_synced m mid new tape same used is = is ∙ (λ i. synced (used i) ∷ synced Pick ∷ same i)

@@ -1,6 +1,7 @@
 // Opening a store.
-ghost use Rattle.std.specs.Prelude.{◌≡◌, ◌≤◌, ◌^◌, IfOk, Err, None};
-ghost use Rattle.cad_host.specs.Disk.{reads, Looks, Ran};
+ghost use Rattle.std.specs.Prelude.{◌≡◌, ◌⊎◌, ◌≤◌, ◌^◌, IfOk, Err, None};
+ghost use Rattle.cad_host.specs.declared.host.Tape.TheVariants.{Pick};
+ghost use Rattle.cad_host.specs.Disk.{reads, Looks, FailsLook, Ran};
 ghost use Rattle.cad_host.specs.Faults.{IsCaused};
 ghost use Rattle.cad_tape.specs.Reading.{chosen, tape_reading};
 ghost use Rattle.cad_accounts.specs.Registers.{Map};
@@ -110,6 +111,9 @@ pub fn open<H: Host>(alloc: Global, host: &mut H, room: u64) -> Result<Store, Op
         → (m : Map) → DiskHolds (reads (H.trace host.old)) m → AreSound m → ⊥ }
     ensures cause { BlamesDisk result (H.disk_faults host.old) (H.disk_faults host.new) }
     ensures story { H.tells → Opens result (H.trace host.old) (H.trace host.new) }
+    // A store that isn't sound is read, and no more.
+    ensures looked { H.tells → ((m : Map) → DiskHolds (reads (H.trace host.old)) m → AreSound m → ⊥)
+        → FailsLook Pick (H.trace host.old) (H.trace host.new) ⊎ FailsLook (in_use (H.trace host.old)) (H.trace host.old) (H.trace host.new) }
     // A crash at any moment leaves what one might have left when it began.
     ensures moments { H.tells → Ran (H.trace host.old) (H.trace host.new) (IsOpening (H.trace host.old)) }
     ensures stays { H.tells → H.left host.new ≡ H.left host.old }

@@ -1,6 +1,6 @@
 -- How far a run has come.
 use Rattle.std.specs.Prelude.{◌≡◌, ℕ, List, ◌∷◌, [], ◌++◌}
-use Rattle.cad_host.specs.Disk.{Event, output, reads}
+use Rattle.cad_host.specs.Disk.{Event, output, taken, reads}
 use Rattle.cad_accounts.specs.Accounts.{Accounts, StandsFor}
 use Rattle.cad_store.specs.declared.store.Store.{Store}
 use Rattle.cad_store.specs.Stores.{held, IsOn}
@@ -46,6 +46,11 @@ pub record Going (line : Line) (store : Store) (w : Accounts) (input : List ℕ)
   pub lines_are : lines taken ≡ whole ++ pending ∷ []
   pub holds : Holds line pending
   pub said : Said base w (commands_among whole) base now store
+
+-- so between takes: all that was taken was gone over
+pub record Between (line : Line) (store : Store) (w : Accounts) (input : List ℕ) (base : List Event) (left : List ℕ) (now : List Event) : Type 0 where
+  pub going : Going line store w input base left now
+  pub all_taken : taken now ++ left ≡ taken base ++ input
 
 -- these bytes are taken from what is left
 abbrev pub Goes : Line → Store → Line → Store → List ℕ → List Event → List Event → Type 0
