@@ -31,11 +31,14 @@ at_same m n (Behind tape at) same h = record {
   ends = subst (λ (r : Tape → List ℕ). Ends (r tape) (or_none (reading r)) at) same h.ends;
   fits = subst (λ (r : Tape → List ℕ). length (r tape) < 2 ^ 64) same h.fits;
 }
-at_same m n (Onto tape) same h = (record {
-  not_used = subst (λ (r : Tape → List ℕ). same_tape tape (chosen (r Pick)) ≡ false) same h.0.not_used;
-  not_pick = h.0.not_pick;
-  whole = subst (λ (r : Tape → List ℕ). reading r ≡ Some (or_none (reading r))) same h.0.whole;
-}, subst (λ (r : Tape → List ℕ). length (r (chosen (r Pick))) ≡ 0) same h.1)
+at_same m n (Onto tape) same h = (
+  record {
+    not_used = subst (λ (r : Tape → List ℕ). same_tape tape (chosen (r Pick)) ≡ false) same h.0.not_used;
+    not_pick = h.0.not_pick;
+    whole = subst (λ (r : Tape → List ℕ). reading r ≡ Some (or_none (reading r))) same h.0.whole;
+  },
+  subst (λ (r : Tape → List ℕ). length (r (chosen (r Pick))) ≡ 0) same h.1,
+)
 
 pub at_opened : (m : List Event) (place : Place) → IsAt m place → IsAt (opened m) place
 at_opened m place h = at_same m (opened m) place (sym (opened_reads m)) h

@@ -260,7 +260,7 @@ pub replied : (a : Line) (r : Store) (w : Accounts) (input left : List ℕ) (bas
 replied a r w input left base now b =
     let g = b.going in
     let all : taken now ≡ taken base ++ g.taken = cancel (taken now) (taken base ++ g.taken) left
-        (b.all_taken ∙ ap (λ l. taken base ++ l) g.input_is ∙ sym (append_assoc (taken base) g.taken left)) in
+    (b.all_taken ∙ ap (λ l. taken base ++ l) g.input_is ∙ sym (append_assoc (taken base) g.taken left)) in
     let since : taken_since base now ≡ g.taken = ap (drop (length (taken base))) all ∙ drop_at (taken base) g.taken (length (taken base)) refl in
     let whole : ended (taken_since base now) ≡ commands_among g.whole = ap ended since ∙ ap commands_among (whole_front g.whole g.pending (lines g.taken) g.lines_are) in
     omega (arith, grown_by w g.said.accounts (commands_among g.whole) (output base) (output now) g.said.served, ap length whole)

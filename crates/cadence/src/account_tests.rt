@@ -333,7 +333,11 @@ fn survives_crashes(rt: HostRuntime) -> Result<(), Fail> {
     }
     let host = run_first(alloc, COMMANDS.len())?;
     for moment in 0..=host.now() {
-        let known = put_at.iter().filter(|put| **put <= moment).count().saturating_sub(1);
+        let known = put_at
+            .iter()
+            .filter(|put| **put <= moment)
+            .count()
+            .saturating_sub(1);
         for fill in [0u8, 1, 7, 255] {
             let replies = told_by(alloc, &host.crash(moment, fill)?)?;
             let here = told.get(known) == Some(&replies);
