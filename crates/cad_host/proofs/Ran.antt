@@ -1,6 +1,7 @@
 -- Runs, one after the other.
-use Rattle.std.proofs.Common.{◌≡◌, ⊎_elim, ℕ, suc, ◌-◌, ◌≤◌, List, [], ◌∷◌, ◌++◌, length, drop, refl, sym, ◌∙◌, ap, subst, arith, append_assoc}
+use Rattle.std.proofs.Common.{◌≡◌, ⊎_elim, ℕ, suc, ◌-◌, ◌≤◌, List, [], ◌∷◌, ◌++◌, length, drop, refl, sym, ◌∙◌, ap, subst, arith, append_assoc, length-append}
 use Rattle.std.proofs.lemmas.Bool.{cases_lt}
+use Rattle.std.proofs.lemmas.List.{drop_at}
 use Rattle.cad_host.specs.Disk.{Event, Each, Ran}
 use Rattle.cad_host.specs.Crash.{at_moment}
 
@@ -66,3 +67,12 @@ ran_moment P old new moment ran from to = subst (λ (m : List Event). P (at_mome
         (λ earlier. subst (λ (k : ℕ). P (drop k (e ∷ (since ++ old)))) (let one : suc (length (since ++ old) - moment) ≡ suc (length (since ++ old)) - moment = omega (arith, earlier) in one) (among since p.1 (omega (arith, earlier))))
         (λ last. at (e ∷ (since ++ old)) (suc (length (since ++ old)) - moment) (omega (arith, last)) p.0)
         (cases_lt moment (suc (length (since ++ old))))
+
+-- and so is each moment of a run that is known to have come there
+pub ran_inside : (P : List Event → Type 0) (old more later : List Event) → Ran old (later ++ (more ++ old)) P → P (more ++ old)
+ran_inside P old more later ran =
+    let long = length-append later (more ++ old) in
+    let here = ran_moment P old (later ++ (more ++ old)) (length (more ++ old)) ran (omega (arith, length-append more old)) (omega (arith, long)) in
+    let is : at_moment (later ++ (more ++ old)) (length (more ++ old)) ≡ more ++ old =
+    ap (λ (k : ℕ). drop k (later ++ (more ++ old))) (let count : length (later ++ (more ++ old)) - length (more ++ old) ≡ length later = omega (arith, long) in count) ∙ drop_at later (more ++ old) (length later) refl in
+    subst P is here

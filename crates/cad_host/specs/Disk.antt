@@ -3,13 +3,18 @@ use Rattle.std.specs.Prelude.{◌≡◌, ◌⊎◌, ℕ, ◌+◌, ◌<◌, ◌�
 use Rattle.cad_host.specs.declared.host.Tape.{Tape}
 use Rattle.cad_host.specs.declared.host.Tape.TheVariants.{A, B, Pick}
 
--- A call that changed something, or may have. A call that broke wrote any bytes in a range, and the tape then reads so.
+-- A call that changed something or may have, a take, or a call that failed. A write or a sync that failed wrote any bytes in
+-- a range, and the tape then reads so; a put that failed put some bytes; a take or a look at a tape that failed did nothing.
 pub data Event : Type 0 where
   wrote : Tape → ℕ → List ℕ → Event
   synced : Tape → Event
   broke : Tape → ℕ → ℕ → List ℕ → Event
   filled : Tape → List ℕ → Event
   put : List ℕ → Event
+  put_part : List ℕ → Event
+  took : List ℕ → Event
+  take_failed : Event
+  look_failed : Tape → Event
 
 abbrev pub same_tape : Tape → Tape → Bool
 same_tape A A = true
@@ -34,7 +39,7 @@ after t (wrote u at bytes) s = if same_tape u t then record { reads = overwritte
 after t (synced u) s = if same_tape u t then record { reads = s.reads; settled = length s.reads; loose = [] } else s
 after t (broke u at n now) s = if same_tape u t then record { reads = now; settled = s.settled; loose = (at, n) ∷ s.loose } else s
 after t (filled u bytes) s = if same_tape u t then record { reads = bytes; settled = length bytes; loose = [] } else s
-after t (put bytes) s = s
+after t _ s = s
 
 abbrev pub state : Tape → List Event → TapeState
 state t [] = record { reads = []; settled = 0; loose = [] }
@@ -67,10 +72,14 @@ pub record IsClean (s : TapeState) : Type 0 where
 abbrev pub output : List Event → List ℕ
 output [] = []
 output (put bytes ∷ es) = output es ++ bytes
-output (wrote _ _ _ ∷ es) = output es
-output (synced _ ∷ es) = output es
-output (broke _ _ _ _ ∷ es) = output es
-output (filled _ _ ∷ es) = output es
+output (put_part bytes ∷ es) = output es ++ bytes
+output (_ ∷ es) = output es
+
+-- the input that was taken
+abbrev pub taken : List Event → List ℕ
+taken [] = []
+taken (took bytes ∷ es) = taken es ++ bytes
+taken (_ ∷ es) = taken es
 
 -- P holds at each moment from old on, the first and the last included
 abbrev pub Each : (List Event → Type 0) → List Event → List Event → Type 0
@@ -82,7 +91,7 @@ pub record Ran (old new : List Event) (P : List Event → Type 0) : Type 0 where
   pub is : new ≡ since ++ old
   pub each : Each P since old
 
--- what a call that broke adds: nothing, or it reads as some image of the call
+-- what a call that failed adds: nothing, where no memory was found for it; or the tape reads as some image of the call
 abbrev pub BreaksWrite : Tape → ℕ → List ℕ → List Event → List Event → Type 0
 BreaksWrite t at bytes old new = (new ≡ old) ⊎ ((now : List ℕ) × IsImage (state t (wrote t at bytes ∷ old)) now × (new ≡ broke t at (length bytes) now ∷ old))
 
@@ -91,7 +100,14 @@ BreaksSync t old new = (new ≡ old) ⊎ ((now : List ℕ) × IsImage (state t o
 
 -- or a prefix of the bytes
 abbrev pub BreaksPut : List ℕ → List Event → List Event → Type 0
-BreaksPut bytes old new = (new ≡ old) ⊎ ((n : ℕ) × (n ≤ length bytes) × (new ≡ put (take n bytes) ∷ old))
+BreaksPut bytes old new = (new ≡ old) ⊎ ((n : ℕ) × (n ≤ length bytes) × (new ≡ put_part (take n bytes) ∷ old))
+
+-- or that it failed, and no more
+abbrev pub FailsTake : List Event → List Event → Type 0
+FailsTake old new = (new ≡ old) ⊎ (new ≡ take_failed ∷ old)
+
+abbrev pub FailsLook : Tape → List Event → List Event → Type 0
+FailsLook t old new = (new ≡ old) ⊎ (new ≡ look_failed t ∷ old)
 
 -- what the calls add
 abbrev pub Writes : {T E : Type 0} → Tape → ℕ → List ℕ → Result T E → List Event → List Event → Type 0
@@ -105,3 +121,12 @@ Syncs t (Err _) old new = BreaksSync t old new
 abbrev pub Puts : {T E : Type 0} → List ℕ → Result T E → List Event → List Event → Type 0
 Puts bytes (Ok _) old new = new ≡ put bytes ∷ old
 Puts bytes (Err _) old new = BreaksPut bytes old new
+
+abbrev pub Takes : {E : Type 0} → Result ℕ E → List ℕ → List Event → List Event → Type 0
+Takes (Ok n) into old new = new ≡ took (take n into) ∷ old
+Takes (Err _) into old new = FailsTake old new
+
+-- a look that didn't fail adds nothing
+abbrev pub Looks : {T E : Type 0} → Tape → Result T E → List Event → List Event → Type 0
+Looks t (Ok _) old new = new ≡ old
+Looks t (Err _) old new = FailsLook t old new

@@ -5,7 +5,7 @@ use Rattle.std.specs.Prelude.{◌≡◌, ◌⊎◌, ℕ, ◌-◌, ◌<◌, ◌�
 abbrev pub Rose : ℕ → ℕ → Type 0
 Rose old new = (old < new) ⊎ (new ≡ 2 ^ 64 - 1)
 
--- a count never falls, and a call failed only where it rose
+-- a call that failed raised the count, and no other call changes it
 abbrev pub IsCaused : {T E : Type 0} → Result T E → ℕ → ℕ → Type 0
-IsCaused (Ok _) old new = old ≤ new
+IsCaused (Ok _) old new = new ≡ old
 IsCaused (Err _) old new = (old ≤ new) × Rose old new

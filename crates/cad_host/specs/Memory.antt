@@ -1,7 +1,9 @@
 -- What a host in memory tells, and which of its calls are to fail.
 use Rattle.std.specs.Prelude.{◌≡◌, ◌⊎◌, ℕ, ◌/◌, Bool, List, [], ◌∷◌, length, take}
 use Rattle.cad_host.specs.declared.memory.MemHost.{MemHost}
-use Rattle.cad_host.specs.Disk.{Event, put}
+use Rattle.cad_host.specs.declared.host.Tape.{Tape}
+use Rattle.cad_host.specs.Disk.{Event, broke, put_part, reads}
+use Rattle.cad_host.specs.Record.{half_written}
 use Rattle.cad_host.specs.Schedule.{fails_next, Counted, Kept}
 
 -- whether the next call of a kind is one of those that are to fail
@@ -56,6 +58,12 @@ pub record CountsNone (old new : MemHost) : Type 0 where
   pub puts : Kept old.puts new.puts
   pub disks : Kept old.disks new.disks
 
--- a put that is to fail appends the first half of its bytes, or nothing where no memory is found
+-- What a call that is to fail adds, or nothing where no memory is found. A put or a write leaves the first half of its bytes.
 abbrev pub PutsHalf : List ℕ → List Event → List Event → Type 0
-PutsHalf bytes old new = (new ≡ old) ⊎ (new ≡ put (take (length bytes / 2) bytes) ∷ old)
+PutsHalf bytes old new = (new ≡ old) ⊎ (new ≡ put_part (take (length bytes / 2) bytes) ∷ old)
+
+abbrev pub WritesHalf : Tape → ℕ → List ℕ → List Event → List Event → Type 0
+WritesHalf tape at bytes old new = (new ≡ old) ⊎ (new ≡ broke tape at (length bytes) (half_written (reads old tape) at bytes) ∷ old)
+
+abbrev pub SyncsNothing : Tape → List Event → List Event → Type 0
+SyncsNothing tape old new = (new ≡ old) ⊎ (new ≡ broke tape 0 0 (reads old tape) ∷ old)

@@ -112,4 +112,6 @@ impl<R: Input + Print + Files + Drop> Host for FileHost<R> {
             Err(_) => Err(fault(&mut self.disk_faults)),
         }
     }
+
+    ghost settled = { λ _ tell. absurd tell };
 }

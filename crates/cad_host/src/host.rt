@@ -1,6 +1,7 @@
 // The interface to the outside.
 ghost use Rattle.std.specs.Prelude.{◌≡◌, ◌≤◌, ◌<◌, ◌^◌, ◌-◌, ◌++◌, min, List, ℕ, length, take, drop, IfOk, OnOk};
-ghost use Rattle.cad_host.specs.Disk.{Event, reads, Writes, Syncs, Puts};
+ghost use Rattle.cad_host.specs.Disk.{Event, reads, Takes, Puts, Looks, Writes, Syncs};
+ghost use Rattle.cad_host.specs.Crash.{IsSettled};
 ghost use Rattle.cad_host.specs.Faults.{IsCaused};
 ghost use Rattle.cad_host.specs.Input.{Taking};
 
@@ -16,12 +17,13 @@ pub enum Tape {
 #[derive(Clone, Copy, Debug, PartialEq, Eq)]
 pub struct Failed;
 
-/// An input, an output and three tapes. Each count of faults begins at 0, never falls, and stays at 2^64-1 once it is there.
+/// An input, an output and three tapes. Each count of faults begins at 0, rises with each failure of its kind and with nothing
+/// else, and stays at 2^64-1 once it is there.
 pub trait Host {
     /// Whether it tells its contents: `Unit {0}` where it does, and `⊥` where it doesn't, as over files.
     ghost tells: { Type 0 };
 
-    /// What it did, the newest first.
+    /// What it did, the newest first. A call that failed is told too, but for some that found no memory.
     ghost trace: { Self → List Event };
 
     /// The input that is left.
@@ -41,7 +43,7 @@ pub trait Host {
     fn take(&mut self, into: &mut [u8]) -> Result<usize, Failed>
         ensures count { IfOk result (λ n. n ≤ length into.old) }
         ensures bytes { tells → Taking result (left self.old) (left self.new) into.old into.new }
-        ensures story { tells → trace self.new ≡ trace self.old }
+        ensures story { tells → Takes result into.new (trace self.old) (trace self.new) }
         ensures cause { IsCaused result (input_faults self.old) (input_faults self.new) }
         ensures output { output_faults self.new ≡ output_faults self.old }
         ensures disk { disk_faults self.new ≡ disk_faults self.old };
@@ -57,7 +59,7 @@ pub trait Host {
     /// The number of bytes that the tape reads. Failed where the disk failed.
     fn length(&mut self, tape: Tape) -> Result<u64, Failed>
         ensures is { IfOk result (λ n. tells → n ≡ length (reads (trace self.old) tape)) }
-        ensures story { tells → trace self.new ≡ trace self.old }
+        ensures story { tells → Looks tape result (trace self.old) (trace self.new) }
         ensures stays { tells → left self.new ≡ left self.old }
         ensures cause { IsCaused result (disk_faults self.old) (disk_faults self.new) }
         ensures input { input_faults self.new ≡ input_faults self.old }
@@ -69,7 +71,7 @@ pub trait Host {
         ensures count { IfOk result (λ n. n ≤ length into.old) }
         ensures is { IfOk result (λ n. tells → n ≡ min (length into.old) (length (reads (trace self.old) tape) - at)) }
         ensures bytes { IfOk result (λ n. tells → into.new ≡ take n (drop at (reads (trace self.old) tape)) ++ drop n into.old) }
-        ensures story { tells → trace self.new ≡ trace self.old }
+        ensures story { tells → Looks tape result (trace self.old) (trace self.new) }
         ensures stays { tells → left self.new ≡ left self.old }
         ensures cause { IsCaused result (disk_faults self.old) (disk_faults self.new) }
         ensures input { input_faults self.new ≡ input_faults self.old }
@@ -93,4 +95,7 @@ pub trait Host {
         ensures cause { IsCaused result (disk_faults self.old) (disk_faults self.new) }
         ensures input { input_faults self.new ≡ input_faults self.old }
         ensures output { output_faults self.new ≡ output_faults self.old };
+
+    /// No tape is shorter than at its last sync.
+    ghost settled: { (it : Self) → tells → IsSettled (trace it) };
 }

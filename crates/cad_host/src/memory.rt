@@ -1,7 +1,9 @@
 // A host in memory.
+#![tactic(auto, using(crate::proofs::Kept::settled_calls))]
+
 ghost use Rattle.std.specs.Prelude.{◌≡◌, ◌≤◌, ◌<◌, ◌-◌, ◌^◌, ◌++◌, ◌↔◌, List, ℕ, length, take, drop, min, [], ◌∷◌, false, IfOk, OnOk, OnErr, IsErr, IsTrue};
-ghost use Rattle.cad_host.specs.Disk.{Event, state, reads, IsDisk, IsClean, output, filled, Writes, Syncs, Puts};
-ghost use Rattle.cad_host.specs.Crash.{at_moment, IsFilledImage};
+ghost use Rattle.cad_host.specs.Disk.{Event, state, reads, IsDisk, IsClean, output, filled, FailsTake, FailsLook, Takes, Puts, Looks, Writes, Syncs};
+ghost use Rattle.cad_host.specs.Crash.{at_moment, IsFilledImage, IsSettled};
 ghost use Rattle.cad_host.specs.Faults.{IsCaused};
 ghost use Rattle.cad_host.specs.Input.{Taking};
 ghost use Rattle.cad_host.specs.Record.{trace_of};
@@ -16,9 +18,9 @@ use crate::tapes::{Tapes, read_at};
 use crate::{Failed, Host, Tape, record};
 use std::alloc::{AllocError, Global};
 
-/// A host in memory, of which some calls fail: those of three lists of numbers. A call that finds no memory fails too,
-/// and changes nothing but its count. A write or a sync that fails changes nothing, and a put that is to fail appends the
-/// first half of its bytes.
+/// A host in memory, of which some calls fail: those of three lists of numbers. A put that is to fail appends the first half
+/// of its bytes, and a write that is to fail puts the first half of its own; a take, a look at a tape or a sync that is to fail
+/// changes nothing. A call that finds no memory fails too, and changes nothing but its count.
 #[derive(Drop)]
 pub struct MemHost {
     alloc: Global,
@@ -35,6 +37,7 @@ pub struct MemHost {
     disk_faults: u64,
     ghost within: { place ≤ length input.items },
     ghost written_so: { written.items ≡ output (trace_of calls.items) },
+    ghost settled_so: { IsSettled (trace_of calls.items) },
     ghost reads_so: { (t : Tape) → bytes_on tapes t ≡ reads (trace_of calls.items) t },
 }
 
@@ -99,7 +102,7 @@ impl MemHost {
         record::fill(self.alloc, &mut self.calls, &mut self.tapes, tape, bytes)
     }
 
-    /// The moment: how many events came so far. A look at the tapes or the input is none.
+    /// The moment: how many events came so far. A look at the tapes is none, unless it fails.
     #[tactic(auto, using(crate::proofs::Replayed::length_trace))]
     pub fn now(&self) -> u64
         ensures { result ≡ length (⟦<MemHost as Host>⟧.trace self.now) }
@@ -142,7 +145,7 @@ impl MemHost {
 }
 
 impl Host for MemHost {
-    ghost use Rattle.cad_host.specs.Memory.{take_fails, put_fails, disk_fails, CountsTake, CountsPut, CountsDisk, PutsHalf};
+    ghost use Rattle.cad_host.specs.Memory.{take_fails, put_fails, disk_fails, CountsTake, CountsPut, CountsDisk, PutsHalf, WritesHalf, SyncsNothing};
 
     ghost tells = { Unit {0} };
 
@@ -157,19 +160,24 @@ impl Host for MemHost {
     ghost disk_faults = { λ h. h.disk_faults };
 
     fn take(&mut self, into: &mut [u8]) -> Result<usize, Failed>
-        ensures fails { IsErr result ↔ IsTrue (take_fails self.old) }
+        ensures fails { IsTrue (take_fails self.old) → IsErr result }
+        ensures nothing { take_fails self.old ≡ false → OnErr result (⟦<MemHost as Host>⟧.trace self.new ≡ ⟦<MemHost as Host>⟧.trace self.old) }
         ensures counted { CountsTake self.old self.new }
         ensures count { IfOk result (λ n. n ≤ length into.old) }
         ensures bytes { Taking result (⟦<MemHost as Host>⟧.left self.old) (⟦<MemHost as Host>⟧.left self.new) into.old into.new }
-        ensures story { ⟦<MemHost as Host>⟧.trace self.new ≡ ⟦<MemHost as Host>⟧.trace self.old }
+        ensures story { Takes result into.new (⟦<MemHost as Host>⟧.trace self.old) (⟦<MemHost as Host>⟧.trace self.new) }
         ensures cause { IsCaused result (⟦<MemHost as Host>⟧.input_faults self.old) (⟦<MemHost as Host>⟧.input_faults self.new) }
         ensures output { ⟦<MemHost as Host>⟧.output_faults self.new ≡ ⟦<MemHost as Host>⟧.output_faults self.old }
         ensures disk { ⟦<MemHost as Host>⟧.disk_faults self.new ≡ ⟦<MemHost as Host>⟧.disk_faults self.old }
     {
         if self.takes.count() {
+            record::fail_take(&mut self.calls);
             return Err(fault(&mut self.input_faults));
         }
         let count = read_at(&self.input, self.place, into);
+        if record::took(self.alloc, &mut self.calls, &into[..count]).is_err() {
+            return Err(fault(&mut self.input_faults));
+        }
         self.place += count;
         Ok(count)
     }
@@ -191,7 +199,7 @@ impl Host for MemHost {
         } else {
             bytes
         };
-        let recorded = record::put(self.alloc, &mut self.calls, &mut self.written, kept);
+        let recorded = record::put(self.alloc, &mut self.calls, &mut self.written, kept, fails);
         if fails || recorded.is_err() {
             return Err(fault(&mut self.output_faults));
         }
@@ -202,13 +210,14 @@ impl Host for MemHost {
         ensures fails { IsErr result ↔ IsTrue (disk_fails self.old) }
         ensures counted { CountsDisk self.old self.new }
         ensures is { IfOk result (λ n. n ≡ length (reads (⟦<MemHost as Host>⟧.trace self.old) tape)) }
-        ensures story { ⟦<MemHost as Host>⟧.trace self.new ≡ ⟦<MemHost as Host>⟧.trace self.old }
+        ensures story { Looks tape result (⟦<MemHost as Host>⟧.trace self.old) (⟦<MemHost as Host>⟧.trace self.new) }
         ensures stays { ⟦<MemHost as Host>⟧.left self.new ≡ ⟦<MemHost as Host>⟧.left self.old }
         ensures cause { IsCaused result (⟦<MemHost as Host>⟧.disk_faults self.old) (⟦<MemHost as Host>⟧.disk_faults self.new) }
         ensures input { ⟦<MemHost as Host>⟧.input_faults self.new ≡ ⟦<MemHost as Host>⟧.input_faults self.old }
         ensures output { ⟦<MemHost as Host>⟧.output_faults self.new ≡ ⟦<MemHost as Host>⟧.output_faults self.old }
     {
         if self.disks.count() {
+            record::fail_look(&mut self.calls, tape);
             return Err(fault(&mut self.disk_faults));
         }
         Ok(self.tapes.bytes(tape).len() as u64)
@@ -220,13 +229,14 @@ impl Host for MemHost {
         ensures count { IfOk result (λ n. n ≤ length into.old) }
         ensures is { IfOk result (λ n. n ≡ min (length into.old) (length (reads (⟦<MemHost as Host>⟧.trace self.old) tape) - at)) }
         ensures bytes { IfOk result (λ n. into.new ≡ take n (drop at (reads (⟦<MemHost as Host>⟧.trace self.old) tape)) ++ drop n into.old) }
-        ensures story { ⟦<MemHost as Host>⟧.trace self.new ≡ ⟦<MemHost as Host>⟧.trace self.old }
+        ensures story { Looks tape result (⟦<MemHost as Host>⟧.trace self.old) (⟦<MemHost as Host>⟧.trace self.new) }
         ensures stays { ⟦<MemHost as Host>⟧.left self.new ≡ ⟦<MemHost as Host>⟧.left self.old }
         ensures cause { IsCaused result (⟦<MemHost as Host>⟧.disk_faults self.old) (⟦<MemHost as Host>⟧.disk_faults self.new) }
         ensures input { ⟦<MemHost as Host>⟧.input_faults self.new ≡ ⟦<MemHost as Host>⟧.input_faults self.old }
         ensures output { ⟦<MemHost as Host>⟧.output_faults self.new ≡ ⟦<MemHost as Host>⟧.output_faults self.old }
     {
         if self.disks.count() {
+            record::fail_look(&mut self.calls, tape);
             return Err(fault(&mut self.disk_faults));
         }
         Ok(read_at(self.tapes.bytes(tape), at as usize, into))
@@ -235,7 +245,8 @@ impl Host for MemHost {
     fn write(&mut self, tape: Tape, at: u64, bytes: &[u8]) -> Result<(), Failed>
         requires { at ≤ length (reads (⟦<MemHost as Host>⟧.trace self.old) tape) }
         ensures fails { IsTrue (disk_fails self.old) → IsErr result }
-        ensures nothing { OnErr result (⟦<MemHost as Host>⟧.trace self.new ≡ ⟦<MemHost as Host>⟧.trace self.old) }
+        ensures half { IsTrue (disk_fails self.old) → WritesHalf tape at bytes.now (⟦<MemHost as Host>⟧.trace self.old) (⟦<MemHost as Host>⟧.trace self.new) }
+        ensures nothing { disk_fails self.old ≡ false → OnErr result (⟦<MemHost as Host>⟧.trace self.new ≡ ⟦<MemHost as Host>⟧.trace self.old) }
         ensures counted { CountsDisk self.old self.new }
         ensures story { Writes tape at bytes.now result (⟦<MemHost as Host>⟧.trace self.old) (⟦<MemHost as Host>⟧.trace self.new) }
         ensures fits { OnOk result (length (reads (⟦<MemHost as Host>⟧.trace self.new) tape) < 2 ^ 64) }
@@ -244,17 +255,13 @@ impl Host for MemHost {
         ensures input { ⟦<MemHost as Host>⟧.input_faults self.new ≡ ⟦<MemHost as Host>⟧.input_faults self.old }
         ensures output { ⟦<MemHost as Host>⟧.output_faults self.new ≡ ⟦<MemHost as Host>⟧.output_faults self.old }
     {
-        if self.disks.count()
-            || record::write(
-                self.alloc,
-                &mut self.calls,
-                &mut self.tapes,
-                tape,
-                at,
-                bytes,
-            )
-            .is_err()
-        {
+        if self.disks.count() {
+            let calls = &mut self.calls;
+            record::break_write(self.alloc, calls, &mut self.tapes, tape, at, bytes);
+            return Err(fault(&mut self.disk_faults));
+        }
+        let calls = &mut self.calls;
+        if record::write(self.alloc, calls, &mut self.tapes, tape, at, bytes).is_err() {
             return Err(fault(&mut self.disk_faults));
         }
         Ok(())
@@ -262,7 +269,8 @@ impl Host for MemHost {
 
     fn sync(&mut self, tape: Tape) -> Result<(), Failed>
         ensures fails { IsTrue (disk_fails self.old) → IsErr result }
-        ensures nothing { OnErr result (⟦<MemHost as Host>⟧.trace self.new ≡ ⟦<MemHost as Host>⟧.trace self.old) }
+        ensures same { IsTrue (disk_fails self.old) → SyncsNothing tape (⟦<MemHost as Host>⟧.trace self.old) (⟦<MemHost as Host>⟧.trace self.new) }
+        ensures nothing { disk_fails self.old ≡ false → OnErr result (⟦<MemHost as Host>⟧.trace self.new ≡ ⟦<MemHost as Host>⟧.trace self.old) }
         ensures counted { CountsDisk self.old self.new }
         ensures story { Syncs tape result (⟦<MemHost as Host>⟧.trace self.old) (⟦<MemHost as Host>⟧.trace self.new) }
         ensures stays { ⟦<MemHost as Host>⟧.left self.new ≡ ⟦<MemHost as Host>⟧.left self.old }
@@ -270,9 +278,15 @@ impl Host for MemHost {
         ensures input { ⟦<MemHost as Host>⟧.input_faults self.new ≡ ⟦<MemHost as Host>⟧.input_faults self.old }
         ensures output { ⟦<MemHost as Host>⟧.output_faults self.new ≡ ⟦<MemHost as Host>⟧.output_faults self.old }
     {
-        if self.disks.count() || record::sync(&mut self.calls, tape).is_err() {
+        if self.disks.count() {
+            record::break_sync(&mut self.calls, tape);
+            return Err(fault(&mut self.disk_faults));
+        }
+        if record::sync(&mut self.calls, tape).is_err() {
             return Err(fault(&mut self.disk_faults));
         }
         Ok(())
     }
+
+    ghost settled = { λ h tell. h.settled_so };
 }

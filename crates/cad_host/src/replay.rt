@@ -1,6 +1,6 @@
 // The image of a crash, by a replay of the record of calls.
-ghost use Rattle.std.specs.Prelude.{◌≡◌, List, ℕ, IfOk, OnOk};
-ghost use Rattle.cad_host.specs.Disk.{TapeState, state, after, IsImage};
+ghost use Rattle.std.specs.Prelude.{◌≡◌, ◌∷◌, List, ℕ, IfOk, OnOk};
+ghost use Rattle.cad_host.specs.Disk.{Event, state, IsImage};
 ghost use Rattle.cad_host.specs.Crash.{IsFilledImage, IsReplayed};
 ghost use Rattle.cad_host.specs.Record.{event_of, trace_of};
 
@@ -25,8 +25,8 @@ fn replay_call(
     reads: &mut Vec<u8>,
     image: &mut Vec<u8>,
 ) -> Result<(), AllocError>
-    ensures { OnOk result ((s : TapeState) → IsReplayed fill s reads.old.items image.old.items
-        → IsReplayed fill (after tape (event_of call.now) s) reads.new.items image.new.items) }
+    ensures { OnOk result ((m : List Event) → IsReplayed fill (state tape m) reads.old.items image.old.items
+        → IsReplayed fill (state tape (event_of call.now m ∷ m)) reads.new.items image.new.items) }
 {
     match call {
         Call::Wrote(of, at, bytes) => {
@@ -36,6 +36,16 @@ fn replay_call(
                 overwrite(image, place, &filling)?;
                 let place = (*at as usize).min(reads.len());
                 overwrite(reads, place, bytes)?;
+            }
+        }
+        Call::BrokeWrite(of, at, bytes) => {
+            if *of == tape {
+                let place = (*at as usize).min(reads.len());
+                overwrite(reads, place, &bytes[..bytes.len() / 2])?;
+                let count = bytes.len().min(reads.len() - place);
+                let filling = vec![in alloc; fill; count]?;
+                let place = (*at as usize).min(image.len());
+                overwrite(image, place, &filling)?;
             }
         }
         Call::Synced(of) => {
@@ -49,7 +59,12 @@ fn replay_call(
                 copy(reads, bytes)?;
             }
         }
-        Call::Put(_) => {}
+        Call::BrokeSync(_)
+        | Call::Put(_)
+        | Call::PutPart(_)
+        | Call::Took(_)
+        | Call::TakeFailed
+        | Call::LookFailed(_) => {}
     }
     Ok(())
 }

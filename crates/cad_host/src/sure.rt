@@ -1,6 +1,6 @@
 // A host in memory without failing calls.
 ghost use Rattle.std.specs.Prelude.{◌≡◌, ◌≤◌, ◌<◌, ◌-◌, ◌^◌, ◌++◌, ℕ, length, take, drop, min, [], ◌∷◌, IfOk, OnOk, OnErr, IsOk};
-ghost use Rattle.cad_host.specs.Disk.{state, reads, IsDisk, IsClean, output, filled, Writes, Syncs, Puts};
+ghost use Rattle.cad_host.specs.Disk.{state, reads, IsDisk, IsClean, output, filled, Takes, Puts, Looks, Writes, Syncs};
 ghost use Rattle.cad_host.specs.Crash.{at_moment, IsFilledImage};
 ghost use Rattle.cad_host.specs.Faults.{IsCaused};
 ghost use Rattle.cad_host.specs.Input.{Taking};
@@ -58,7 +58,7 @@ impl SureHost {
         self.host.fill(tape, bytes)
     }
 
-    /// The moment: how many events came so far. A look at the tapes or the input is none.
+    /// The moment: how many events came so far. A look at the tapes is none.
     pub fn now(&self) -> u64
         ensures { result ≡ length (⟦<SureHost as Host>⟧.trace self.now) }
     {
@@ -98,10 +98,10 @@ impl Host for SureHost {
     ghost disk_faults = { λ h. ⟦<MemHost as Host>⟧.disk_faults h.host };
 
     fn take(&mut self, into: &mut [u8]) -> Result<usize, Failed>
-        ensures succeeds { IsOk result }
+        ensures nothing { OnErr result (⟦<SureHost as Host>⟧.trace self.new ≡ ⟦<SureHost as Host>⟧.trace self.old) }
         ensures count { IfOk result (λ n. n ≤ length into.old) }
         ensures bytes { Taking result (⟦<SureHost as Host>⟧.left self.old) (⟦<SureHost as Host>⟧.left self.new) into.old into.new }
-        ensures story { ⟦<SureHost as Host>⟧.trace self.new ≡ ⟦<SureHost as Host>⟧.trace self.old }
+        ensures story { Takes result into.new (⟦<SureHost as Host>⟧.trace self.old) (⟦<SureHost as Host>⟧.trace self.new) }
         ensures cause { IsCaused result (⟦<SureHost as Host>⟧.input_faults self.old) (⟦<SureHost as Host>⟧.input_faults self.new) }
         ensures output { ⟦<SureHost as Host>⟧.output_faults self.new ≡ ⟦<SureHost as Host>⟧.output_faults self.old }
         ensures disk { ⟦<SureHost as Host>⟧.disk_faults self.new ≡ ⟦<SureHost as Host>⟧.disk_faults self.old }
@@ -123,7 +123,7 @@ impl Host for SureHost {
     fn length(&mut self, tape: Tape) -> Result<u64, Failed>
         ensures succeeds { IsOk result }
         ensures is { IfOk result (λ n. n ≡ length (reads (⟦<SureHost as Host>⟧.trace self.old) tape)) }
-        ensures story { ⟦<SureHost as Host>⟧.trace self.new ≡ ⟦<SureHost as Host>⟧.trace self.old }
+        ensures story { Looks tape result (⟦<SureHost as Host>⟧.trace self.old) (⟦<SureHost as Host>⟧.trace self.new) }
         ensures stays { ⟦<SureHost as Host>⟧.left self.new ≡ ⟦<SureHost as Host>⟧.left self.old }
         ensures cause { IsCaused result (⟦<SureHost as Host>⟧.disk_faults self.old) (⟦<SureHost as Host>⟧.disk_faults self.new) }
         ensures input { ⟦<SureHost as Host>⟧.input_faults self.new ≡ ⟦<SureHost as Host>⟧.input_faults self.old }
@@ -137,7 +137,7 @@ impl Host for SureHost {
         ensures count { IfOk result (λ n. n ≤ length into.old) }
         ensures is { IfOk result (λ n. n ≡ min (length into.old) (length (reads (⟦<SureHost as Host>⟧.trace self.old) tape) - at)) }
         ensures bytes { IfOk result (λ n. into.new ≡ take n (drop at (reads (⟦<SureHost as Host>⟧.trace self.old) tape)) ++ drop n into.old) }
-        ensures story { ⟦<SureHost as Host>⟧.trace self.new ≡ ⟦<SureHost as Host>⟧.trace self.old }
+        ensures story { Looks tape result (⟦<SureHost as Host>⟧.trace self.old) (⟦<SureHost as Host>⟧.trace self.new) }
         ensures stays { ⟦<SureHost as Host>⟧.left self.new ≡ ⟦<SureHost as Host>⟧.left self.old }
         ensures cause { IsCaused result (⟦<SureHost as Host>⟧.disk_faults self.old) (⟦<SureHost as Host>⟧.disk_faults self.new) }
         ensures input { ⟦<SureHost as Host>⟧.input_faults self.new ≡ ⟦<SureHost as Host>⟧.input_faults self.old }
@@ -169,4 +169,6 @@ impl Host for SureHost {
     {
         self.host.sync(tape)
     }
+
+    ghost settled = { λ h tell. h.host.settled_so };
 }

@@ -114,3 +114,24 @@ fn a_filled_tape_has_nothing_pending(rt: HostRuntime) -> Result<(), Fail> {
     assert_eq!(rt; crashed.output(), b"".as_slice());
     Ok(())
 }
+
+// A write that fails leaves its first half, and a crash may leave anything in all of its range.
+#[test]
+fn a_write_that_fails_leaves_half(rt: HostRuntime) -> Result<(), Fail> {
+    let mut host = MemHost::new(rt.alloc(), b"ab", &[1], &[], &[2, 3, 4])?;
+    assert_eq!(rt; host.write(Tape::A, 0, b"hello"), Ok(()));
+    assert_eq!(rt; host.sync(Tape::A), Ok(()));
+    assert_eq!(rt; host.write(Tape::A, 3, b"wxyz"), Err(Failed));
+    assert_eq!(rt; host.tape(Tape::A), b"helwx".as_slice());
+    assert_eq!(rt; host.sync(Tape::A), Err(Failed));
+    assert_eq!(rt; host.length(Tape::A), Err(Failed));
+    assert_eq!(rt; host.take(&mut [0]), Ok(1));
+    assert_eq!(rt; host.take(&mut [0]), Err(Failed));
+    assert_eq!(rt; host.tape(Tape::A), b"helwx".as_slice());
+    assert_eq!(rt; host.now(), 7);
+    let moment = 7;
+    assert!(rt; moment <= host.now());
+    let crashed = host.crash(moment, b'.')?;
+    assert_eq!(rt; crashed.tape(Tape::A), b"hel..".as_slice());
+    Ok(())
+}

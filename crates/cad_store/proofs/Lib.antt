@@ -3,3 +3,4 @@ pub mod Holding
 pub mod Placing
 pub mod Turning
 pub mod Stopping
+pub mod Beginning

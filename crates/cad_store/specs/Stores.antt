@@ -6,7 +6,7 @@ use Rattle.cad_host.specs.Disk.{Event, reads, IsDisk, output}
 use Rattle.cad_wire.specs.declared.entry.Entry.{Entry}
 use Rattle.cad_wire.specs.Body.{body_bytes, IsRecord}
 use Rattle.cad_tape.specs.Framing.{framed}
-use Rattle.cad_tape.specs.Reading.{tape_reading, chosen, pick_of, ending, four_calls, BreaksFour, IsPlaced, IsFree}
+use Rattle.cad_tape.specs.Reading.{tape_reading, chosen, pick_of, ending, four_calls, BreaksFour, IsPlaced, IsFree, IsQuiet}
 use Rattle.cad_accounts.specs.declared.row.Row.{Row}
 use Rattle.cad_accounts.specs.Registers.{Map, at, folded, no_registers}
 use Rattle.cad_accounts.specs.Memory.{rows_of, room}
@@ -46,10 +46,11 @@ other _ = A
 abbrev pub place_behind : Tape → ℕ → ℕ → Place
 place_behind tape length ending = if length == 0 then Onto (other tape) else Behind tape ending
 
--- the tapes read as the store left them
+-- the tapes read as the store left them, and nothing is pending on what is read
 pub record IsOn (m : List Event) (store : Store) : Type 0 where
   pub holds : DiskHolds (reads m) (held store)
   pub place : IsAt m store.place
+  pub quiet : IsQuiet m
 
 -- a commit of this store: these changes, built as a record, with room for them in memory
 pub record IsOut (store : Store) (commit : Commit) (changes : List Entry) : Type 0 where

@@ -66,7 +66,7 @@ impl Store {
         requires on { H.tells → IsOn (H.trace host.old) self.old }
 
         // A crash at any moment leaves the registers from before, or the changed ones.
-        ensures moments { H.tells → IsQuiet (H.trace host.old) → (changes : List Entry) → IsOut self.old commit changes →
+        ensures moments { H.tells → (changes : List Entry) → IsOut self.old commit changes →
             Ran (H.trace host.old) (H.trace host.new)
             (Keeps (H.trace host.old) (held self.old) (applied changes (held self.old))) }
 
@@ -74,7 +74,6 @@ impl Store {
         ensures ok { OnOk result ((changes : List Entry) → IsOut self.old commit changes →
             ((key : List ℕ) → held self.new key ≡ applied changes (held self.old) key)) }
         ensures on { OnOk result (H.tells → IsOn (H.trace host.new) self.new) }
-        ensures quiet { OnOk result (H.tells → IsQuiet (H.trace host.old) → IsQuiet (H.trace host.new)) }
         ensures order { OnOk result (H.tells → (changes : List Entry) → IsOut self.old commit changes →
             H.trace host.new ≡ recorded (body_bytes changes) (H.trace host.old)) }
         ensures breaks { OnErr result (H.tells → (changes : List Entry) → IsOut self.old commit changes →

@@ -182,12 +182,12 @@ fn behind_a_closed_gate(rt: HostRuntime) -> Result<(), Fail> {
 
 #[test]
 fn disk_calls_fail(rt: HostRuntime) -> Result<(), Fail> {
-    // to read `pick`, two lengths, and two writes with a sync each
-    for call in 0..7u64 {
+    // to read `pick`, two lengths, two syncs, and two writes with a sync each
+    for call in 0..9u64 {
         let mut host = MemHost::new(rt.alloc(), b"", &[], &[], &[call])?;
         assert!(rt; one_more(rt.alloc(), &mut host).is_err());
     }
-    let mut host = MemHost::new(rt.alloc(), b"", &[], &[], &[7])?;
+    let mut host = MemHost::new(rt.alloc(), b"", &[], &[], &[9])?;
     assert!(rt; one_more(rt.alloc(), &mut host).is_ok());
     Ok(())
 }

@@ -6,3 +6,4 @@ pub mod Along
 pub mod Going
 pub mod Taking
 pub mod Opened
+pub mod Orders

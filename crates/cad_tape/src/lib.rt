@@ -9,7 +9,7 @@ mod stop;
 mod window;
 
 pub use commit::{append, checkpoint, frame};
-pub use laws::{opens, records_both_ways};
+pub use laws::{opens, order_matters, records_both_ways};
 pub use scanning::{Records, scan};
 pub use stop::ScanStop;
 

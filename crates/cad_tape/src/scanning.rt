@@ -5,7 +5,7 @@ ghost use Rattle.cad_wire.specs.Fields.{AreBytes};
 ghost use Rattle.cad_tape.specs.Framing.{framing, Ends};
 ghost use Rattle.cad_tape.specs.Reading.{tape_reading, ending, or_none};
 ghost use Rattle.cad_tape.specs.Scanning.{IsAlong, header_at, Takes};
-ghost use Rattle.cad_tape.specs.Stops.{Blames};
+ghost use Rattle.cad_tape.specs.Stops.{Blames, Looked};
 
 use crate::stop::ScanStop;
 use crate::window::{Window, fill};
@@ -51,7 +51,7 @@ fn next_record<H: Host>(
     ensures tape { window.new.tape ≡ window.old.tape }
     ensures end { window.new.end ≡ window.old.end }
     ensures cause { Blames result (H.disk_faults host.old) (H.disk_faults host.new) }
-    ensures story { H.tells → H.trace host.new ≡ H.trace host.old }
+    ensures story { H.tells → Looked window.old.tape result (H.trace host.old) (H.trace host.new) }
     ensures stays { H.tells → H.left host.new ≡ H.left host.old }
     ensures input { H.input_faults host.new ≡ H.input_faults host.old }
     ensures output { H.output_faults host.new ≡ H.output_faults host.old }
@@ -88,7 +88,7 @@ pub fn scan<H: Host>(alloc: Global, host: &mut H, tape: Tape) -> Result<Records,
 
     ensures damaged { H.tells → result ≡ Err ScanStop.Damaged → tape_reading (reads (H.trace host.old) tape) ≡ None }
     ensures cause { Blames result (H.disk_faults host.old) (H.disk_faults host.new) }
-    ensures story { H.tells → H.trace host.new ≡ H.trace host.old }
+    ensures story { H.tells → Looked tape result (H.trace host.old) (H.trace host.new) }
     ensures stays { H.tells → H.left host.new ≡ H.left host.old }
     ensures input { H.input_faults host.new ≡ H.input_faults host.old }
     ensures output { H.output_faults host.new ≡ H.output_faults host.old }

@@ -133,6 +133,8 @@ impl Host for Tapes {
     fn sync(&mut self, _tape: Tape) -> Result<(), Failed> {
         self.call()
     }
+
+    ghost settled = { λ _ tell. absurd tell };
 }
 
 fn is_damaged(alloc: Global, tape: &[u8]) -> Result<bool, AllocError> {

@@ -2,7 +2,7 @@
 ghost use Rattle.std.specs.Prelude.{◌≡◌, ◌≢◌, ◌≤◌, ◌-◌, ◌+◌, List, ℕ, [], length, take, drop, vec_len, IfOk, IfErr, OnOk};
 ghost use Rattle.cad_host.specs.Disk.{reads};
 ghost use Rattle.cad_tape.specs.Scanning.{IsAlong, HasEnough};
-ghost use Rattle.cad_tape.specs.Stops.{Blames};
+ghost use Rattle.cad_tape.specs.Stops.{Blames, Looked};
 
 use crate::stop::ScanStop;
 use cad_host::{Host, Tape};
@@ -73,7 +73,7 @@ fn read_piece<H: Host>(
     ensures is { IfOk result (λ piece. H.tells → piece.items ≡ take room (drop at (reads (H.trace host.old) tape))) }
     ensures not_damaged { IfErr result (λ stop. stop ≢ ScanStop.Damaged) }
     ensures cause { Blames result (H.disk_faults host.old) (H.disk_faults host.new) }
-    ensures story { H.tells → H.trace host.new ≡ H.trace host.old }
+    ensures story { H.tells → Looked tape result (H.trace host.old) (H.trace host.new) }
     ensures stays { H.tells → H.left host.new ≡ H.left host.old }
     ensures input { H.input_faults host.new ≡ H.input_faults host.old }
     ensures output { H.output_faults host.new ≡ H.output_faults host.old }
@@ -102,7 +102,7 @@ pub fn fill<H: Host>(
     ensures place { window.new.place ≡ window.old.place }
     ensures end { window.new.end ≡ window.old.end }
     ensures cause { Blames result (H.disk_faults host.old) (H.disk_faults host.new) }
-    ensures story { H.tells → H.trace host.new ≡ H.trace host.old }
+    ensures story { H.tells → Looked window.old.tape result (H.trace host.old) (H.trace host.new) }
     ensures stays { H.tells → H.left host.new ≡ H.left host.old }
     ensures input { H.input_faults host.new ≡ H.input_faults host.old }
     ensures output { H.output_faults host.new ≡ H.output_faults host.old }

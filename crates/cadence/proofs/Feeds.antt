@@ -2,7 +2,7 @@
 use Rattle.std.proofs.Common.{◌≡◌, ℕ, zero, suc, ◌+◌, ◌≤◌, ◌==◌, Bool, true, false, if◌then◌else◌, List, [], ◌∷◌, ◌++◌, length, take, refl, ◌∙◌, ap, arith}
 use Rattle.cadence.specs.Answer.{Answer, answer_line}
 use Rattle.cadence.specs.Served.{answer_lines}
-use Rattle.cadence.specs.Crashes.{line_feeds}
+use Rattle.cadence.specs.Replied.{line_feeds}
 
 abbrev more : Bool → ℕ → ℕ
 more c n = if c then suc n else n

@@ -12,3 +12,4 @@ pub mod Tellings
 pub mod Runs
 pub mod Openings
 pub mod Uniques
+pub mod Orders

@@ -10,7 +10,7 @@ use Rattle.cad_num.specs.Decimal.{written, magnitude_text, eight_digits}
 use Rattle.cadence.specs.Answer.{Answer, result, address, done, failed, bad, rejected, rejected_tail, answer_line}
 use Rattle.cad_grammar.specs.declared.phase.Phase.{Phase}
 use Rattle.cad_grammar.specs.declared.phase.Phase.TheVariants.{Lex, Parse, Resolve, Types, Conformance, Moves, Purity, Initialisation}
-use Rattle.cadence.specs.Crashes.{line_feeds}
+use Rattle.cadence.specs.Replied.{line_feeds}
 use Rattle.cadence.proofs.Feeds.{feeds_append}
 
 abbrev more : Bool → ℕ → ℕ

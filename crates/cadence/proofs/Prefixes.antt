@@ -1,15 +1,16 @@
 -- What a crash leaves of a run, command by command.
-use Rattle.std.proofs.Common.{◌≡◌, ℕ, ◌+◌, List, [], ◌++◌, length, take, refl, sym, ◌∙◌, ap, subst, arith, length-append}
+use Rattle.std.proofs.Common.{◌≡◌, inl, inr, ℕ, ◌+◌, List, [], ◌∷◌, ◌++◌, length, take, refl, sym, ◌∙◌, ap, subst, arith, length-append}
 use Rattle.std.proofs.lemmas.List.{take-append-le}
 use Rattle.std.proofs.Math.Seq.{take-append-add}
 use Rattle.cad_host.specs.declared.host.Tape.{Tape}
-use Rattle.cad_host.specs.Disk.{Event, output, reads, IsDisk}
-use Rattle.cad_host.proofs.Ran.{ran_as, ran_on}
+use Rattle.cad_host.specs.Disk.{Event, took, take_failed, output, reads, IsDisk, FailsTake}
+use Rattle.cad_host.proofs.Ran.{ran_as, ran_on, ran_one, ran_end}
 use Rattle.cad_tape.specs.Reading.{IsQuiet}
 use Rattle.cad_accounts.specs.Accounts.{Accounts}
 use Rattle.cad_store.proofs.Holding.{quiet as quiet_image}
 use Rattle.cadence.specs.Served.{AnswersAll, answer_lines, Served}
-use Rattle.cadence.specs.Crashes.{DiskStands, IsPrefix, Survives, line_feeds}
+use Rattle.cadence.specs.Crashes.{DiskStands, IsPrefix, KeepsPrefix}
+use Rattle.cadence.specs.Replied.{line_feeds}
 use Rattle.cadence.proofs.Batches.{all_append, all_length}
 use Rattle.cadence.proofs.Feeds.{feeds_append, feeds_lines}
 use Rattle.cadence.proofs.Lines_of.{one_feed}
@@ -41,7 +42,7 @@ prefix_more w xs ys old m h = record {
   };
 }
 
-grown_by : (w u : Accounts) (xs : List (List ℕ)) (o p : List ℕ) → Served w xs o p u → line_feeds p ≡ line_feeds o + length xs
+pub grown_by : (w u : Accounts) (xs : List (List ℕ)) (o p : List ℕ) → Served w xs o p u → line_feeds p ≡ line_feeds o + length xs
 grown_by w u xs o p h = ap line_feeds h.output ∙ feeds_append o (answer_lines h.answers) ∙ ap (λ n. line_feeds o + n) (feeds_lines one_feed h.answers ∙ all_length w u xs h.answers h.are)
 
 -- behind commands that were answered
@@ -62,11 +63,29 @@ prefix_then w u xs ys old mid m s h =
       };
     }
 
-pub survives_more : (w : Accounts) (xs ys : List (List ℕ)) (old new : List Event) → Survives w xs old new → Survives w (xs ++ ys) old new
-survives_more w xs ys old new h quiet = ran_as (IsPrefix w xs old) (IsPrefix w (xs ++ ys) old) old new (λ m. prefix_more w xs ys old m) (h quiet)
+pub survives_more : (w : Accounts) (xs ys : List (List ℕ)) (old new : List Event) → KeepsPrefix w xs old new → KeepsPrefix w (xs ++ ys) old new
+survives_more w xs ys old new h = ran_as (IsPrefix w xs old) (IsPrefix w (xs ++ ys) old) old new (λ m. prefix_more w xs ys old m) h
 
-pub survives_then : (w u : Accounts) (xs ys : List (List ℕ)) (old mid new : List Event) → Served w xs (output old) (output mid) u → Survives w xs old mid → (IsQuiet old → IsQuiet mid) → Survives u ys mid new
-    → Survives w (xs ++ ys) old new
-survives_then w u xs ys old mid new s h stays k quiet = ran_on (IsPrefix w (xs ++ ys) old) old mid new
-    (survives_more w xs ys old mid h quiet)
-    (ran_as (IsPrefix u ys mid) (IsPrefix w (xs ++ ys) old) mid new (λ m. prefix_then w u xs ys old mid m s) (k (stays quiet)))
+pub survives_then : (w u : Accounts) (xs ys : List (List ℕ)) (old mid new : List Event) → Served w xs (output old) (output mid) u → KeepsPrefix w xs old mid → KeepsPrefix u ys mid new
+    → KeepsPrefix w (xs ++ ys) old new
+survives_then w u xs ys old mid new s h k = ran_on (IsPrefix w (xs ++ ys) old) old mid new
+    (survives_more w xs ys old mid h)
+    (ran_as (IsPrefix u ys mid) (IsPrefix w (xs ++ ys) old) mid new (λ m. prefix_then w u xs ys old mid m s) k)
+
+-- a take leaves it, whether it failed or not
+prefix_took : (w : Accounts) (cs : List (List ℕ)) (old m : List Event) (bytes : List ℕ) → IsPrefix w cs old m → IsPrefix w cs old (took bytes ∷ m)
+prefix_took w cs old m bytes h = record { grown = h.grown; disk = λ disk image. h.disk disk image }
+
+prefix_failed : (w : Accounts) (cs : List (List ℕ)) (old m : List Event) → IsPrefix w cs old m → IsPrefix w cs old (take_failed ∷ m)
+prefix_failed w cs old m h = record { grown = h.grown; disk = λ disk image. h.disk disk image }
+
+pub survives_took : (w : Accounts) (cs : List (List ℕ)) (old m : List Event) (bytes : List ℕ) → KeepsPrefix w cs old m → KeepsPrefix w cs old (took bytes ∷ m)
+survives_took w cs old m bytes h =
+    let last = ran_end (IsPrefix w cs old) old m h in
+    ran_on (IsPrefix w cs old) old m (took bytes ∷ m) h (ran_one (IsPrefix w cs old) (took bytes) m (took bytes ∷ m) last (prefix_took w cs old m bytes last) refl)
+
+pub survives_fails : (w : Accounts) (cs : List (List ℕ)) (old m new : List Event) → FailsTake m new → KeepsPrefix w cs old m → KeepsPrefix w cs old new
+survives_fails w cs old m new (inl same) h = subst (λ n. KeepsPrefix w cs old n) (sym same) h
+survives_fails w cs old m new (inr is) h =
+    let last = ran_end (IsPrefix w cs old) old m h in
+    ran_on (IsPrefix w cs old) old m new h (ran_one (IsPrefix w cs old) take_failed m new last (prefix_failed w cs old m last) is)

@@ -1,7 +1,6 @@
 -- A command is answered, or answering stops.
 use Rattle.std.proofs.Common.{◌≡◌, ◌≢◌, ℕ, List, [], ◌∷◌, Bool, true, false, cond, not, Result, Ok, Err, OnOk, IfErr, sym, ◌∙◌, ap, subst}
 use Rattle.cad_host.specs.Disk.{Event, put, output, Puts, Ran, BreaksPut}
-use Rattle.cad_tape.specs.Reading.{IsQuiet}
 use Rattle.cad_wire.specs.declared.entry.Entry.{Entry}
 use Rattle.cad_wire.specs.Body.{body_bytes}
 use Rattle.cad_accounts.specs.Registers.{Map, applied, Leads}
@@ -35,25 +34,25 @@ same_map m n h = λ i key. h key i
 pub sound_as : (m n : Map) (v : Accounts) → ((key : List ℕ) → m key ≡ n key) → StandsFor n v → AreSound m
 sound_as m n v h stands = (v, subst (λ x. StandsFor x v) (sym (same_map m n h)) stands)
 
-module _ (w v : Accounts) (c : List ℕ) (a : Answer) (answers : Answers w c a v) (old mid : List Event) (before : Map) (changes : List Entry) (store : Store)
+module _ (base : List Event) (w v : Accounts) (c : List ℕ) (a : Answer) (answers : Answers w c a v) (old mid : List Event) (before : Map) (changes : List Entry) (store : Store)
     (same : output mid ≡ output old) (is_w : StandsFor before w) (is_v : StandsFor (applied changes before) v)
     (holds : (key : List ℕ) → held store key ≡ applied changes before key)
-    (moments : IsQuiet old → Ran old mid (Keeps old before (applied changes before))) (stays : IsQuiet old → IsQuiet mid) (on : IsOn mid store)
+    (moments : Ran old mid (Keeps old before (applied changes before))) (on : IsOn mid store)
     (leads : Leads before (applied changes before) changes) (some : changes ≢ []) (order : mid ≡ recorded (body_bytes changes) old) where
   stands : StandsFor (held store) v
   stands = subst (λ m. StandsFor m v) (sym (same_map (held store) (applied changes before) holds)) is_v
 
-  ran : IsQuiet old → Ran old mid (Keeps old before (held store))
-  ran quiet = subst (λ m. Ran old mid (Keeps old before m)) (sym (same_map (held store) (applied changes before) holds)) (moments quiet)
+  ran : Ran old mid (Keeps old before (held store))
+  ran = subst (λ m. Ran old mid (Keeps old before m)) (sym (same_map (held store) (applied changes before) holds)) moments
 
   written : Written w v old mid
   written = one_record is_w is_v leads some order
 
-  pub wrote_said : (text : List ℕ) (new : List Event) → text ≡ answer_line a → new ≡ put text ∷ mid → Said w (c ∷ []) old new store
-  wrote_said text new is made = commit_said w v c a answers old before mid new text store same is_w stands ran stays on written is made
+  pub wrote_said : (text : List ℕ) (new : List Event) → text ≡ answer_line a → new ≡ put text ∷ mid → Said base w (c ∷ []) old new store
+  wrote_said text new is made = commit_said base w v c a answers old before mid new text store same is_w stands ran on written is made
 
-  pub wrote_broke : (text : List ℕ) (new : List Event) → text ≡ answer_line a → BreaksPut text mid new → Halted WriteFault w (c ∷ []) old new
-  wrote_broke text new is broke = commit_told w v c a answers old before mid new text store same is_w stands ran stays on written is broke
+  pub wrote_broke : (text : List ℕ) (new : List Event) → text ≡ answer_line a → BreaksPut text mid new → Halted WriteFault base w (c ∷ []) old new
+  wrote_broke text new is broke = commit_told base w v c a answers old before mid new text store same is_w stands ran on written is broke
 
 pub on_ok : {T E : Type 0} (r : Result T E) (X : Type 0) → X → OnOk r X
 on_ok (Ok t) X x = x
@@ -70,11 +69,11 @@ is_blank_line line pending h blank = ap not (sym h.blank ∙ blank)
 pub is_command_line : (line : Line) (pending : List ℕ) → Holds line pending → line.blank ≡ false → is_command pending ≡ true
 is_command_line line pending h command = ap not (sym h.blank ∙ command)
 
-pub blank_said : (b : Bool) (w : Accounts) (pending : List ℕ) (m : List Event) (store : Store) → b ≡ false → StandsFor (held store) w → IsOn m store → Said w (cond b (pending ∷ []) []) m m store
-blank_said b w pending m store blank stands on = subst (λ c. Said w (cond c (pending ∷ []) []) m m store) (sym blank) (said_none w m store stands on)
+pub blank_said : (base : List Event) (b : Bool) (w : Accounts) (pending : List ℕ) (m : List Event) (store : Store) → b ≡ false → StandsFor (held store) w → IsOn m store → Said base w (cond b (pending ∷ []) []) m m store
+blank_said base b w pending m store blank stands on = subst (λ c. Said base w (cond c (pending ∷ []) []) m m store) (sym blank) (said_none base w m store stands on)
 
-pub command_said : {T E : Type 0} (r : Result T E) (b : Bool) (w : Accounts) (pending : List ℕ) (old new : List Event) (store : Store) → b ≡ true → OnOk r (Said w (pending ∷ []) old new store) → OnOk r (Said w (cond b (pending ∷ []) []) old new store)
-command_said r b w pending old new store command h = subst (λ c. OnOk r (Said w (cond c (pending ∷ []) []) old new store)) (sym command) h
+pub command_said : {T E : Type 0} (r : Result T E) (base : List Event) (b : Bool) (w : Accounts) (pending : List ℕ) (old new : List Event) (store : Store) → b ≡ true → OnOk r (Said base w (pending ∷ []) old new store) → OnOk r (Said base w (cond b (pending ∷ []) []) old new store)
+command_said r base b w pending old new store command h = subst (λ c. OnOk r (Said base w (cond c (pending ∷ []) []) old new store)) (sym command) h
 
-pub command_stops : {T : Type 0} (r : Result T Status) (b : Bool) (w : Accounts) (pending : List ℕ) (old new : List Event) → b ≡ true → IfErr r (λ s. Halted s w (pending ∷ []) old new) → IfErr r (λ s. Halted s w (cond b (pending ∷ []) []) old new)
-command_stops r b w pending old new command h = subst (λ c. IfErr r (λ s. Halted s w (cond c (pending ∷ []) []) old new)) (sym command) h
+pub command_stops : {T : Type 0} (r : Result T Status) (base : List Event) (b : Bool) (w : Accounts) (pending : List ℕ) (old new : List Event) → b ≡ true → IfErr r (λ s. Halted s base w (pending ∷ []) old new) → IfErr r (λ s. Halted s base w (cond b (pending ∷ []) []) old new)
+command_stops r base b w pending old new command h = subst (λ c. IfErr r (λ s. Halted s base w (cond c (pending ∷ []) []) old new)) (sym command) h

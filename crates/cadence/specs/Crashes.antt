@@ -1,12 +1,13 @@
 -- What tapes stand for, and what a crash leaves of a run.
-use Rattle.std.specs.Prelude.{ℕ, suc, ◌+◌, ◌-◌, ◌≤◌, ◌==◌, List, [], ◌∷◌, length, take, if◌then◌else◌}
+use Rattle.std.specs.Prelude.{ℕ, ◌+◌, ◌≤◌, List, length, take}
 use Rattle.cad_host.specs.declared.host.Tape.{Tape}
 use Rattle.cad_host.specs.Disk.{Event, output, IsDisk, Ran}
-use Rattle.cad_tape.specs.Reading.{IsQuiet}
 use Rattle.cad_accounts.specs.Registers.{Map}
 use Rattle.cad_accounts.specs.Accounts.{Accounts, StandsFor}
+use Rattle.cad_store.specs.Opening.{opened, IsOpening}
 use Rattle.cad_store.specs.Stores.{DiskHolds}
 use Rattle.cadence.specs.Answer.{Answer}
+use Rattle.cadence.specs.Replied.{line_feeds, acknowledged}
 use Rattle.cadence.specs.Served.{AnswersAll}
 
 -- tapes whose records make the registers of these accounts
@@ -14,14 +15,6 @@ pub record DiskStands (disk : Tape → List ℕ) (w : Accounts) : Type 0 where
   pub map : Map
   pub holds : DiskHolds disk map
   pub stands : StandsFor map w
-
-abbrev pub line_feeds : List ℕ → ℕ
-line_feeds [] = 0
-line_feeds (b ∷ bytes) = if b == 10 then suc (line_feeds bytes) else line_feeds bytes
-
--- how many reply lines were put since
-abbrev pub acknowledged : List Event → List Event → ℕ
-acknowledged old m = line_feeds (output m) - line_feeds (output old)
 
 -- The tapes stand for the accounts after the first of these commands: each that was acknowledged, and at most one more.
 pub record HasPrefix (w : Accounts) (commands : List (List ℕ)) (known : ℕ) (disk : Tape → List ℕ) : Type 0 where
@@ -40,5 +33,11 @@ pub record IsPrefix (w : Accounts) (commands : List (List ℕ)) (old m : List Ev
   pub disk : (disk : Tape → List ℕ) → IsDisk m disk → HasPrefix w commands (acknowledged old m) disk
 
 -- and at each moment of a run that begins with nothing pending
-abbrev pub Survives : Accounts → List (List ℕ) → List Event → List Event → Type 0
-Survives w commands old new = IsQuiet old → Ran old new (IsPrefix w commands old)
+abbrev pub KeepsPrefix : Accounts → List (List ℕ) → List Event → List Event → Type 0
+KeepsPrefix w commands old new = Ran old new (IsPrefix w commands old)
+
+-- At each moment of the opening each image is one from before it, and no output has come. Where the opening succeeded, each
+-- image from its end on stands for the accounts after the first of the commands.
+pub data Survives (w : Accounts) (commands : List (List ℕ)) (old new : List Event) : Type 0 where
+  in_opening : Ran old new (IsOpening old) → Survives w commands old new
+  after_opening : Ran old (opened old) (IsOpening old) → KeepsPrefix w commands (opened old) new → Survives w commands old new

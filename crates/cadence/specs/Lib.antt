@@ -2,6 +2,7 @@ pub mod Lines
 pub mod Words
 pub mod Held
 pub mod Answer
+pub mod Replied
 pub mod Served
 pub mod Writing
 pub mod Crashes

@@ -1,5 +1,5 @@
 -- The commands of an input.
-use Rattle.std.specs.Prelude.{ℕ, Bool, not, ◌||◌, ◌==◌, List, [], ◌∷◌, filter, if◌then◌else◌}
+use Rattle.std.specs.Prelude.{ℕ, ◌-◌, Bool, not, ◌||◌, ◌==◌, List, [], ◌∷◌, length, take, filter, if◌then◌else◌}
 use Rattle.std.specs.List.{list_all}
 
 -- a byte in front of the first line
@@ -25,3 +25,7 @@ commands_among = filter is_command
 
 abbrev pub commands : List ℕ → List (List ℕ)
 commands input = commands_among (lines input)
+
+-- those that a line feed has ended
+abbrev pub ended : List ℕ → List (List ℕ)
+ended input = commands_among (take (length (lines input) - 1) (lines input))

@@ -49,9 +49,9 @@ pub record Begun (w : Accounts) (commands : List (List ℕ)) (output_old output_
   pub output : output_new ≡ output_old ++ take bytes (answer_lines answers)
 
 -- Of the bytes that were taken, the commands that a line feed ends have their answers, and an unfinished line has none.
-pub record Finished (w : Accounts) (taken : List ℕ) (old new : List Event) (v : Accounts) : Type 0 where
+pub record Finished (base : List Event) (w : Accounts) (taken : List ℕ) (old new : List Event) (v : Accounts) : Type 0 where
   pub whole : List (List ℕ)
   pub unfinished : List ℕ
   pub lines_are : lines taken ≡ whole ++ unfinished ∷ []
   pub served : Served w (commands_among whole) (output old) (output new) v
-  pub wrote : Wrote w (commands_among whole) old new v
+  pub wrote : Wrote base w (commands_among whole) old new v

@@ -1,12 +1,13 @@
--- What a run writes, and when its replies are put.
+-- What a run takes and writes, and when its replies are put.
 use Rattle.std.specs.Prelude.{◌≡◌, ◌≢◌, ℕ, List, [], ◌∷◌, ◌++◌}
-use Rattle.cad_host.specs.Disk.{Event, put, BreaksPut}
+use Rattle.cad_host.specs.Disk.{Event, put, took, BreaksPut}
 use Rattle.cad_wire.specs.declared.entry.Entry.{Entry}
 use Rattle.cad_wire.specs.Body.{body_bytes}
 use Rattle.cad_accounts.specs.Registers.{Map, Leads}
 use Rattle.cad_accounts.specs.Accounts.{Accounts, StandsFor}
 use Rattle.cad_store.specs.Stores.{recorded, BreaksRecord}
 use Rattle.cadence.specs.Answer.{Answer, Answers, answer_line}
+use Rattle.cadence.specs.Replied.{HasReplied}
 
 -- What a command writes: nothing, where it leaves the accounts as they were; or one record, of exactly the registers that
 -- differ, and some do.
@@ -15,28 +16,40 @@ pub data Written (w v : Accounts) (old new : List Event) : Type 0 where
   one_record : {before behind : Map} {changes : List Entry} → StandsFor before w → StandsFor behind v → Leads before behind changes → changes ≢ []
       → new ≡ recorded (body_bytes changes) old → Written w v old new
 
--- All calls of these commands in turn: what each changes is written, and then the line of its answer is put.
-abbrev pub Wrote : Accounts → List (List ℕ) → List Event → List Event → Accounts → Type 0
-Wrote w [] old new v = (v ≡ w) × (new ≡ old)
-Wrote w (command ∷ commands) old new v =
-    (a : Answer) × (u : Accounts) × (mid : List Event) × Answers w command a u × Written w u old mid × Wrote u commands (put (answer_line a) ∷ mid) new v
+-- Takes of these bytes and no other calls. Before each of them every command that a line feed had ended had its reply, of
+-- those that ended since base.
+abbrev pub TakesAll : (base : List Event) → List (List ℕ) → (old new : List Event) → Type 0
+TakesAll base [] old new = new ≡ old
+TakesAll base (bytes ∷ chunks) old new = HasReplied base old × TakesAll base chunks (took bytes ∷ old) new
+
+-- takes and no other calls
+abbrev pub TakesInput : (base old new : List Event) → Type 0
+TakesInput base old new = (chunks : List (List ℕ)) × TakesAll base chunks old new
+
+-- All calls of these commands in turn, with the takes between them: what each changes is written, and then the line of its
+-- answer is put. No call of them failed.
+abbrev pub Wrote : (base : List Event) → Accounts → List (List ℕ) → (old new : List Event) → Accounts → Type 0
+Wrote base w [] old new v = (v ≡ w) × TakesInput base old new
+Wrote base w (command ∷ commands) old new v =
+    (a : Answer) × (u : Accounts) × (begun : List Event) × (mid : List Event) × TakesInput base old begun × Answers w command a u × Written w u begun mid
+    × Wrote base u commands (put (answer_line a) ∷ mid) new v
 
 -- those of the first of these commands
-pub record WroteSome (w : Accounts) (commands : List (List ℕ)) (old new : List Event) (v : Accounts) : Type 0 where
+pub record WroteSome (base : List Event) (w : Accounts) (commands : List (List ℕ)) (old new : List Event) (v : Accounts) : Type 0 where
   pub first : List (List ℕ)
   pub rest : List (List ℕ)
   pub are : commands ≡ first ++ rest
-  pub wrote : Wrote w first old new v
+  pub wrote : Wrote base w first old new v
 
 -- those of the first of these commands; then what the next one changes is written, and the line of its answer breaks
-pub record WroteBroken (w : Accounts) (commands : List (List ℕ)) (old new : List Event) (v : Accounts) : Type 0 where
+pub record WroteBroken (base : List Event) (w : Accounts) (commands : List (List ℕ)) (old new : List Event) (v : Accounts) : Type 0 where
   pub first : List (List ℕ)
   pub next : List ℕ
   pub rest : List (List ℕ)
   pub are : commands ≡ first ++ next ∷ rest
   pub accounts : Accounts
   pub told : List Event
-  pub wrote : Wrote w first old told accounts
+  pub wrote : Wrote base w first old told accounts
   pub answer : Answer
   pub answers : Answers accounts next answer v
   pub behind : List Event
@@ -49,10 +62,10 @@ pub data Stopped (w : Accounts) (old new : List Event) : List (List ℕ) → Typ
       → Leads before behind changes → changes ≢ [] → BreaksRecord (body_bytes changes) old new → Stopped w old new (next ∷ rest)
 
 -- those of the first of these commands; then a call of the disk broke
-pub record WroteStopped (w : Accounts) (commands : List (List ℕ)) (old new : List Event) (v : Accounts) : Type 0 where
+pub record WroteStopped (base : List Event) (w : Accounts) (commands : List (List ℕ)) (old new : List Event) (v : Accounts) : Type 0 where
   pub first : List (List ℕ)
   pub rest : List (List ℕ)
   pub are : commands ≡ first ++ rest
   pub told : List Event
-  pub wrote : Wrote w first old told v
+  pub wrote : Wrote base w first old told v
   pub stopped : Stopped v told new rest

@@ -1,7 +1,11 @@
 // Laws of replies.
-ghost use Rattle.std.specs.Prelude.{◌≡◌, List, ℕ};
+ghost use Rattle.std.specs.Prelude.{◌≡◌, ◌≢◌, List, ℕ, [], ◌∷◌, ◌++◌};
+ghost use Rattle.cad_host.specs.Disk.{Event, put, reads};
+ghost use Rattle.cad_host.specs.Crash.{IsSettled};
 ghost use Rattle.cad_accounts.specs.Accounts.{Accounts};
+ghost use Rattle.cad_store.specs.Opening.{opened};
 ghost use Rattle.cadence.specs.Answer.{Answer, Answers, answer_line};
+ghost use Rattle.cadence.specs.Crashes.{DiskStands, Survives};
 
 use cad_accounts::one_size;
 use cad_forms::{one_refusal, one_request};
@@ -13,4 +17,13 @@ pub fn one_reply()
     one_request();
     one_refusal();
     one_size();
+}
+
+/// A run in which the reply to a command that changes the accounts is put before its commit is written doesn't survive each
+/// crash, whatever it did later: when the reply is put, the tapes may be left as they read, which is without the command.
+pub fn reply_before_commit()
+    ensures { (w v : Accounts) (command : List ℕ) (a : Answer) (old later : List Event) → Answers w command a v → v ≢ w → IsSettled old → DiskStands (reads old) w
+        → Survives w (command ∷ []) old (later ++ put (answer_line a) ∷ opened old) → ⊥ }
+{
+    one_reply();
 }

@@ -1,11 +1,13 @@
 // The run: lines come in, and a reply goes out for each command.
 ghost use Rattle.std.specs.Prelude.{◌≡◌, ◌≢◌, ◌≤◌, ◌<◌, ◌+◌, ◌^◌, ◌++◌, ◌↔◌, ◌⊎◌, [], ◌∷◌, List, ℕ, length, take, IfOk, IfErr, OnOk, OnErr, Ok};
-ghost use Rattle.cad_host.specs.Disk.{Event, output, reads, Puts};
+ghost use Rattle.cad_host.specs.declared.host.Tape.TheVariants.{Pick};
+ghost use Rattle.cad_host.specs.Disk.{Event, output, taken, reads, Puts, Takes, FailsTake, FailsLook};
 ghost use Rattle.cad_host.specs.Faults.{Rose, IsCaused};
 ghost use Rattle.cad_wire.specs.declared.entry.Entry.{Entry};
 ghost use Rattle.cad_accounts.specs.Registers.{applied, Leads};
 ghost use Rattle.cad_accounts.specs.Accounts.{Accounts, StandsFor};
 ghost use Rattle.cad_accounts.specs.Worlds.{AreSound};
+ghost use Rattle.cad_store.specs.Opening.{in_use, opened, BreaksOpening};
 ghost use Rattle.cad_store.specs.Stores.{held, room_of, IsOn, IsOut};
 ghost use Rattle.cadence.specs.Lines.{commands, commands_among};
 ghost use Rattle.cadence.specs.Held.{Holds};
@@ -14,8 +16,8 @@ ghost use Rattle.cadence.specs.Answer.{Answer, Answers, answer_line, most_bytes}
 ghost use Rattle.cadence.specs.Served.{Served, ServedSome, Broken, Begun, Finished};
 ghost use Rattle.cadence.specs.Writing.{Wrote, WroteSome, WroteBroken, WroteStopped};
 ghost use Rattle.cadence.specs.Crashes.{DiskStands, Survives};
-ghost use Rattle.cadence.specs.Ending.{Ends, HasCause, StopCause, IsCausedBy, HasRun, input_bound, status_of};
-ghost use Rattle.cadence.specs.Progress.{Said, Halted, Going, Goes, Stops};
+ghost use Rattle.cadence.specs.Ending.{Ends, EndsOpening, HasCause, StopCause, IsCausedBy, HasRun, input_bound, status_of};
+ghost use Rattle.cadence.specs.Progress.{Said, Halted, Going, Between, Goes, Stops};
 ghost use Rattle.cadence.specs.declared.status.Status.TheVariants as status;
 ghost use Rattle.cadence.specs.declared.status.Status.{Status};
 
@@ -35,7 +37,8 @@ pub const INPUT_BOUND: u64 = 1 << 40;
 fn tell<H: Host>(host: &mut H, text: &Text) -> Result<(), Status>
     ensures puts { H.tells → Puts text.now result (H.trace host.old) (H.trace host.new) }
     ensures cause { IfErr result (λ s. (s ≡ Status.WriteFault) × Rose (H.output_faults host.old) (H.output_faults host.new)) }
-    ensures falls { H.output_faults host.old ≤ H.output_faults host.new }
+    ensures steady { OnOk result (H.output_faults host.new ≡ H.output_faults host.old) }
+    ensures takes { OnOk result (H.tells → taken (H.trace host.new) ≡ taken (H.trace host.old)) }
     ensures left { H.tells → H.left host.new ≡ H.left host.old }
     ensures input { H.input_faults host.new ≡ H.input_faults host.old }
     ensures disk { H.disk_faults host.new ≡ H.disk_faults host.old }
@@ -55,20 +58,20 @@ fn write_and_tell<H: Host>(
 ) -> Result<(), Status>
     requires out { (changes : List Entry) × IsOut store.old commit changes }
     requires on { H.tells → IsOn (H.trace host.old) store.old }
-    ensures said { H.tells → (w v : Accounts) (c : List ℕ) (a : Answer) (changes : List Entry) → StandsFor (held store.old) w → Answers w c a v → text.now ≡ answer_line a
+    ensures said { H.tells → (base : List Event) (w v : Accounts) (c : List ℕ) (a : Answer) (changes : List Entry) → StandsFor (held store.old) w → Answers w c a v → text.now ≡ answer_line a
         → IsOut store.old commit changes → StandsFor (applied changes (held store.old)) v
         → Leads (held store.old) (applied changes (held store.old)) changes → changes ≢ []
-        → OnOk result (Said w (c ∷ []) (H.trace host.old) (H.trace host.new) store.new) }
-    ensures stops { H.tells → (w v : Accounts) (c : List ℕ) (a : Answer) (changes : List Entry) → StandsFor (held store.old) w → Answers w c a v → text.now ≡ answer_line a
+        → OnOk result (Said base w (c ∷ []) (H.trace host.old) (H.trace host.new) store.new) }
+    ensures stops { H.tells → (base : List Event) (w v : Accounts) (c : List ℕ) (a : Answer) (changes : List Entry) → StandsFor (held store.old) w → Answers w c a v → text.now ≡ answer_line a
         → IsOut store.old commit changes → StandsFor (applied changes (held store.old)) v
         → Leads (held store.old) (applied changes (held store.old)) changes → changes ≢ []
-        → IfErr result (λ s. Halted s w (c ∷ []) (H.trace host.old) (H.trace host.new)) }
+        → IfErr result (λ s. Halted s base w (c ∷ []) (H.trace host.old) (H.trace host.new)) }
     ensures held { OnOk result ((changes : List Entry) → IsOut store.old commit changes → ((key : List ℕ) → held store.new key ≡ applied changes (held store.old) key)) }
     ensures on { OnOk result (H.tells → IsOn (H.trace host.new) store.new) }
     ensures room { room_of store.new ≡ room_of store.old }
     ensures cause { IfErr result (λ s. StopCause s (H.output_faults host.old) (H.output_faults host.new) (H.disk_faults host.old) (H.disk_faults host.new)) }
-    ensures falls { H.output_faults host.old ≤ H.output_faults host.new }
-    ensures disk { H.disk_faults host.old ≤ H.disk_faults host.new }
+    ensures steady { OnOk result ((H.output_faults host.new ≡ H.output_faults host.old) × (H.disk_faults host.new ≡ H.disk_faults host.old)) }
+    ensures takes { OnOk result (H.tells → taken (H.trace host.new) ≡ taken (H.trace host.old)) }
     ensures left { H.tells → H.left host.new ≡ H.left host.old }
     ensures input { H.input_faults host.new ≡ H.input_faults host.old }
 {
@@ -88,16 +91,16 @@ fn answer<H: Host>(
     requires sound { AreSound (held store.old) }
     requires room { room_of store.old ≡ most_bytes }
     requires on { H.tells → IsOn (H.trace host.old) store.old }
-    ensures said { H.tells → (pending : List ℕ) → Holds line.now pending → (w : Accounts) → StandsFor (held store.old) w
-        → OnOk result (Said w (pending ∷ []) (H.trace host.old) (H.trace host.new) store.new) }
-    ensures stops { H.tells → (pending : List ℕ) → Holds line.now pending → (w : Accounts) → StandsFor (held store.old) w
-        → IfErr result (λ s. Halted s w (pending ∷ []) (H.trace host.old) (H.trace host.new)) }
+    ensures said { H.tells → (base : List Event) (pending : List ℕ) → Holds line.now pending → (w : Accounts) → StandsFor (held store.old) w
+        → OnOk result (Said base w (pending ∷ []) (H.trace host.old) (H.trace host.new) store.new) }
+    ensures stops { H.tells → (base : List Event) (pending : List ℕ) → Holds line.now pending → (w : Accounts) → StandsFor (held store.old) w
+        → IfErr result (λ s. Halted s base w (pending ∷ []) (H.trace host.old) (H.trace host.new)) }
     ensures sound { OnOk result (AreSound (held store.new)) }
     ensures on { OnOk result (H.tells → IsOn (H.trace host.new) store.new) }
     ensures room { room_of store.new ≡ room_of store.old }
     ensures cause { IfErr result (λ s. StopCause s (H.output_faults host.old) (H.output_faults host.new) (H.disk_faults host.old) (H.disk_faults host.new)) }
-    ensures falls { H.output_faults host.old ≤ H.output_faults host.new }
-    ensures disk { H.disk_faults host.old ≤ H.disk_faults host.new }
+    ensures steady { OnOk result ((H.output_faults host.new ≡ H.output_faults host.old) × (H.disk_faults host.new ≡ H.disk_faults host.old)) }
+    ensures takes { OnOk result (H.tells → taken (H.trace host.new) ≡ taken (H.trace host.old)) }
     ensures left { H.tells → H.left host.new ≡ H.left host.old }
     ensures input { H.input_faults host.new ≡ H.input_faults host.old }
 {
@@ -115,16 +118,16 @@ fn say<H: Host>(alloc: Global, host: &mut H, store: &mut Store, line: &Line) -> 
     requires sound { AreSound (held store.old) }
     requires room { room_of store.old ≡ most_bytes }
     requires on { H.tells → IsOn (H.trace host.old) store.old }
-    ensures said { H.tells → (pending : List ℕ) → Holds line.now pending → (w : Accounts) → StandsFor (held store.old) w
-        → OnOk result (Said w (commands_among (pending ∷ [])) (H.trace host.old) (H.trace host.new) store.new) }
-    ensures stops { H.tells → (pending : List ℕ) → Holds line.now pending → (w : Accounts) → StandsFor (held store.old) w
-        → IfErr result (λ s. Halted s w (commands_among (pending ∷ [])) (H.trace host.old) (H.trace host.new)) }
+    ensures said { H.tells → (base : List Event) (pending : List ℕ) → Holds line.now pending → (w : Accounts) → StandsFor (held store.old) w
+        → OnOk result (Said base w (commands_among (pending ∷ [])) (H.trace host.old) (H.trace host.new) store.new) }
+    ensures stops { H.tells → (base : List Event) (pending : List ℕ) → Holds line.now pending → (w : Accounts) → StandsFor (held store.old) w
+        → IfErr result (λ s. Halted s base w (commands_among (pending ∷ [])) (H.trace host.old) (H.trace host.new)) }
     ensures sound { OnOk result (AreSound (held store.new)) }
     ensures on { OnOk result (H.tells → IsOn (H.trace host.new) store.new) }
     ensures room { room_of store.new ≡ room_of store.old }
     ensures cause { IfErr result (λ s. StopCause s (H.output_faults host.old) (H.output_faults host.new) (H.disk_faults host.old) (H.disk_faults host.new)) }
-    ensures falls { H.output_faults host.old ≤ H.output_faults host.new }
-    ensures disk { H.disk_faults host.old ≤ H.disk_faults host.new }
+    ensures steady { OnOk result ((H.output_faults host.new ≡ H.output_faults host.old) × (H.disk_faults host.new ≡ H.disk_faults host.old)) }
+    ensures takes { OnOk result (H.tells → taken (H.trace host.new) ≡ taken (H.trace host.old)) }
     ensures left { H.tells → H.left host.new ≡ H.left host.old }
     ensures input { H.input_faults host.new ≡ H.input_faults host.old }
 {
@@ -151,8 +154,8 @@ fn feed_byte<H: Host>(
     ensures on { OnOk result (H.tells → IsOn (H.trace host.new) store.new) }
     ensures room { room_of store.new ≡ room_of store.old }
     ensures cause { IfErr result (λ s. StopCause s (H.output_faults host.old) (H.output_faults host.new) (H.disk_faults host.old) (H.disk_faults host.new)) }
-    ensures falls { H.output_faults host.old ≤ H.output_faults host.new }
-    ensures disk { H.disk_faults host.old ≤ H.disk_faults host.new }
+    ensures steady { OnOk result ((H.output_faults host.new ≡ H.output_faults host.old) × (H.disk_faults host.new ≡ H.disk_faults host.old)) }
+    ensures takes { OnOk result (H.tells → taken (H.trace host.new) ≡ taken (H.trace host.old)) }
     ensures left { H.tells → H.left host.new ≡ H.left host.old }
     ensures input { H.input_faults host.new ≡ H.input_faults host.old }
 {
@@ -186,8 +189,8 @@ fn feed<H: Host>(
     ensures on { OnOk result (H.tells → IsOn (H.trace host.new) store.new) }
     ensures room { room_of store.new ≡ room_of store.old }
     ensures cause { IfErr result (λ s. StopCause s (H.output_faults host.old) (H.output_faults host.new) (H.disk_faults host.old) (H.disk_faults host.new)) }
-    ensures falls { H.output_faults host.old ≤ H.output_faults host.new }
-    ensures disk { H.disk_faults host.old ≤ H.disk_faults host.new }
+    ensures steady { OnOk result ((H.output_faults host.new ≡ H.output_faults host.old) × (H.disk_faults host.new ≡ H.disk_faults host.old)) }
+    ensures takes { OnOk result (H.tells → taken (H.trace host.new) ≡ taken (H.trace host.old)) }
     ensures left { H.tells → H.left host.new ≡ H.left host.old }
     ensures input { H.input_faults host.new ≡ H.input_faults host.old }
 {
@@ -206,7 +209,7 @@ fn take_some<H: Host>(host: &mut H, buffer: &mut [u8], room: usize) -> Result<us
     ensures bytes { H.tells → IfOk result (λ n. H.left host.old ≡ take n buffer.new ++ H.left host.new) }
     ensures end { H.tells → result ≡ Ok 0 → 0 < room → H.left host.old ≡ [] }
     ensures failed { H.tells → OnErr result (H.left host.new ≡ H.left host.old) }
-    ensures story { H.tells → H.trace host.new ≡ H.trace host.old }
+    ensures story { H.tells → Takes result buffer.new (H.trace host.old) (H.trace host.new) }
     ensures cause { IsCaused result (H.input_faults host.old) (H.input_faults host.new) }
     ensures output { H.output_faults host.new ≡ H.output_faults host.old }
     ensures disk { H.disk_faults host.new ≡ H.disk_faults host.old }
@@ -229,19 +232,17 @@ fn turn<H: Host>(
     requires bytes { room_of store.old ≡ most_bytes }
     requires on { H.tells → IsOn (H.trace host.old) store.old }
     ensures count { IfOk result (λ n. n ≤ room) }
-    ensures going { H.tells → (w : Accounts) (input : List ℕ) (base : List Event) → Going line.old store.old w input base (H.left host.old) (H.trace host.old) →
-        OnOk result (Going line.new store.new w input base (H.left host.new) (H.trace host.new)) }
+    ensures going { H.tells → (w : Accounts) (input : List ℕ) (base : List Event) → Between line.old store.old w input base (H.left host.old) (H.trace host.old) →
+        OnOk result (Between line.new store.new w input base (H.left host.new) (H.trace host.new)) }
     ensures left { H.tells → IfOk result (λ n. length (H.left host.old) ≡ n + length (H.left host.new)) }
     ensures end { H.tells → result ≡ Ok 0 → H.left host.new ≡ [] }
-    ensures ends { H.tells → (w : Accounts) (input : List ℕ) (base : List Event) → Going line.old store.old w input base (H.left host.old) (H.trace host.old) →
+    ensures ends { H.tells → (w : Accounts) (input : List ℕ) (base : List Event) → Between line.old store.old w input base (H.left host.old) (H.trace host.old) →
         IfErr result (λ s. Ends s w input (H.left host.new) base (H.trace host.new)) }
     ensures sound { OnOk result (AreSound (held store.new)) }
     ensures on { OnOk result (H.tells → IsOn (H.trace host.new) store.new) }
     ensures room { room_of store.new ≡ room_of store.old }
     ensures cause { IfErr result (λ s. HasCause s (H.input_faults host.old) (H.input_faults host.new) (H.output_faults host.old) (H.output_faults host.new) (H.disk_faults host.old) (H.disk_faults host.new)) }
-    ensures input { H.input_faults host.old ≤ H.input_faults host.new }
-    ensures output { H.output_faults host.old ≤ H.output_faults host.new }
-    ensures disk { H.disk_faults host.old ≤ H.disk_faults host.new }
+    ensures steady { OnOk result ((H.input_faults host.new ≡ H.input_faults host.old) × (H.output_faults host.new ≡ H.output_faults host.old) × (H.disk_faults host.new ≡ H.disk_faults host.old)) }
 {
     let Ok(count) = take_some(host, buffer, room) else {
         return Err(Status::ReadFault);
@@ -260,9 +261,6 @@ fn finish<H: Host>(alloc: Global, host: &mut H, store: &mut Store, line: &Line) 
     ensures ends { H.tells → (w : Accounts) (input : List ℕ) (base : List Event) → length input ≤ input_bound → H.left host.old ≡ [] → Going line.now store.old w input base [] (H.trace host.old) →
         Ends result w input (H.left host.new) base (H.trace host.new) }
     ensures cause { HasCause result (H.input_faults host.old) (H.input_faults host.new) (H.output_faults host.old) (H.output_faults host.new) (H.disk_faults host.old) (H.disk_faults host.new) }
-    ensures input { H.input_faults host.new ≡ H.input_faults host.old }
-    ensures output { H.output_faults host.old ≤ H.output_faults host.new }
-    ensures disk { H.disk_faults host.old ≤ H.disk_faults host.new }
 {
     match say(alloc, host, store, line) {
         Ok(()) => Status::Done,
@@ -299,11 +297,8 @@ fn past_bound<H: Host>(
     requires room { room_of store.old ≡ most_bytes }
     requires on { H.tells → IsOn (H.trace host.old) store.old }
     ensures ends { H.tells → (w : Accounts) (input : List ℕ) (base : List Event) → length input ≡ input_bound + length (H.left host.old) →
-        Going line.now store.old w input base (H.left host.old) (H.trace host.old) → Ends result w input (H.left host.new) base (H.trace host.new) }
+        Between line.now store.old w input base (H.left host.old) (H.trace host.old) → Ends result w input (H.left host.new) base (H.trace host.new) }
     ensures cause { HasCause result (H.input_faults host.old) (H.input_faults host.new) (H.output_faults host.old) (H.output_faults host.new) (H.disk_faults host.old) (H.disk_faults host.new) }
-    ensures input { H.input_faults host.old ≤ H.input_faults host.new }
-    ensures output { H.output_faults host.old ≤ H.output_faults host.new }
-    ensures disk { H.disk_faults host.old ≤ H.disk_faults host.new }
 {
     match take_some(host, buffer, 1) {
         Err(_) => Status::ReadFault,
@@ -327,9 +322,6 @@ fn read_lines<H: Host>(
     requires on { H.tells → IsOn (H.trace host.old) store.old }
     ensures ends { H.tells → (w : Accounts) → StandsFor (held store.old) w → Ends result w (H.left host.old) (H.left host.new) (H.trace host.old) (H.trace host.new) }
     ensures cause { HasCause result (H.input_faults host.old) (H.input_faults host.new) (H.output_faults host.old) (H.output_faults host.new) (H.disk_faults host.old) (H.disk_faults host.new) }
-    ensures input { H.input_faults host.old ≤ H.input_faults host.new }
-    ensures output { H.output_faults host.old ≤ H.output_faults host.new }
-    ensures disk { H.disk_faults host.old ≤ H.disk_faults host.new }
 {
     let mut taken = 0u64;
     while taken < INPUT_BOUND {
@@ -376,10 +368,14 @@ fn stop_of(stop: OpenStop) -> Status
 
 // Opens the accounts and reads the input.
 fn open_and_run<H: Host>(alloc: Global, host: &mut H) -> Status
-    ensures ends { H.tells → (w : Accounts) → DiskStands (reads (H.trace host.old)) w → Ends result w (H.left host.old) (H.left host.new) (H.trace host.old) (H.trace host.new) }
+    ensures ends { H.tells → (w : Accounts) → DiskStands (reads (H.trace host.old)) w
+        → EndsOpening result (H.left host.old) (H.left host.new) (H.trace host.old) (H.trace host.new)
+        ⊎ Ends result w (H.left host.old) (H.left host.new) (opened (H.trace host.old)) (H.trace host.new) }
+    ensures survives { H.tells → (w : Accounts) → DiskStands (reads (H.trace host.old)) w
+        → Survives w (commands (H.left host.old)) (H.trace host.old) (H.trace host.new) }
     ensures bad { H.tells → result ≡ Status.BadStore → (w : Accounts) → DiskStands (reads (H.trace host.old)) w → ⊥ }
-    ensures unopened { H.tells → ((w : Accounts) → DiskStands (reads (H.trace host.old)) w → ⊥)
-        → (H.trace host.new ≡ H.trace host.old) × (H.left host.new ≡ H.left host.old) }
+    ensures unopened { H.tells → ((w : Accounts) → DiskStands (reads (H.trace host.old)) w → ⊥) → (H.left host.new ≡ H.left host.old)
+        × (FailsLook Pick (H.trace host.old) (H.trace host.new) ⊎ FailsLook (in_use (H.trace host.old)) (H.trace host.old) (H.trace host.new)) }
     ensures opened { H.tells → HasRun result → (w : Accounts) × DiskStands (reads (H.trace host.old)) w }
     ensures run { result ≢ Status.Usage }
     ensures cause { IsCausedBy result (H.input_faults host.old) (H.input_faults host.new) (H.output_faults host.old) (H.output_faults host.new) (H.disk_faults host.old) (H.disk_faults host.new) }
@@ -391,7 +387,7 @@ fn open_and_run<H: Host>(alloc: Global, host: &mut H) -> Status
 }
 
 /// All that the program does. It reads the words `run FOLDER`, opens the accounts that the tapes stand for, which writes
-/// nothing, and reads the input: lines that end with a line feed or with the input. A line of spaces, tabs and carriage
+/// nothing and syncs what was read, and reads the input: lines that end with a line feed or with the input. A line of spaces, tabs and carriage
 /// returns alone is no command and has no reply; any other line is a command. What it changes is written, and then its reply
 /// line is put.
 ///
@@ -403,59 +399,67 @@ pub fn serve<H: Host>(alloc: Global, words: &[Text], host: &mut H) -> Status
     ensures usage { (result ≡ Status.Usage) ↔ (¬ IsRun words.now) }
     ensures idle { result ≡ Status.Usage → host.new ≡ host.old }
 
-    // BadStore: the tapes stand for no accounts. Where they stand for none, nothing is taken, written or put, whatever the
-    // status, and it is none of those that a run over accounts ends with but DiskFault and Memory.
+    // BadStore: the tapes stand for no accounts. Where they stand for none, nothing is taken, written, synced or put, whatever
+    // the status (a look at a tape may fail), and it is none of those that a run over accounts ends with but DiskFault and Memory.
     ensures bad_store { H.tells → result ≡ Status.BadStore → (w : Accounts) → DiskStands (reads (H.trace host.old)) w → ⊥ }
-    ensures unopened { H.tells → ((w : Accounts) → DiskStands (reads (H.trace host.old)) w → ⊥)
-        → (H.trace host.new ≡ H.trace host.old) × (H.left host.new ≡ H.left host.old) }
+    ensures unopened { H.tells → ((w : Accounts) → DiskStands (reads (H.trace host.old)) w → ⊥) → (H.left host.new ≡ H.left host.old)
+        × (FailsLook Pick (H.trace host.old) (H.trace host.new) ⊎ FailsLook (in_use (H.trace host.old)) (H.trace host.old) (H.trace host.new)) }
     ensures opened { H.tells → HasRun result → (w : Accounts) × DiskStands (reads (H.trace host.old)) w }
 
     // Done: the input was read to its end, the output grew by the reply lines of all commands, in order, and the tapes stand
-    // for the accounts that the commands lead to. A command that changes no register wrote nothing, and any other wrote one
-    // record, of exactly the registers that differ, before its reply was put; nothing else was written. So it is under each
-    // other status of the commands that were replied to.
+    // for the accounts that the commands lead to. The calls are told in their order: the opening synced `pick` and the tape in
+    // use; a command that changes no register wrote nothing, and any other wrote one record, of exactly the registers that
+    // differ, before its reply was put; and whenever input was taken, each command that a line feed had ended had its reply.
+    // No call failed, and nothing else was written. So it is under each other status of the commands that were replied to.
     ensures done { H.tells → result ≡ Status.Done → (w : Accounts) → DiskStands (reads (H.trace host.old)) w
         → (v : Accounts) × (H.left host.new ≡ []) × Served w (commands (H.left host.old)) (output (H.trace host.old)) (output (H.trace host.new)) v
-        × DiskStands (reads (H.trace host.new)) v × Wrote w (commands (H.left host.old)) (H.trace host.old) (H.trace host.new) v }
+        × DiskStands (reads (H.trace host.new)) v × Wrote (opened (H.trace host.old)) w (commands (H.left host.old)) (opened (H.trace host.old)) (H.trace host.new) v }
 
     // Under every status the output grew by a prefix of the bytes of these lines.
     ensures begun { H.tells → (w : Accounts) → DiskStands (reads (H.trace host.old)) w
         → Begun w (commands (H.left host.old)) (output (H.trace host.old)) (output (H.trace host.new)) }
 
-    // Memory: the tapes stand for the accounts after exactly the commands that were replied to. DiskFault: the opening failed,
-    // and nothing was taken, written or put; or a disk call of a commit broke, and neither was its command replied to nor a
-    // command behind it begun. WriteFault: the command whose line broke took effect, and what it changes was written before.
+    // Memory: nothing was done, or the tapes stand for the accounts after exactly the commands that were replied to. DiskFault: a
+    // disk call of the opening failed, and nothing was taken, written or put; or one of a commit failed, and neither was its
+    // command replied to nor anything taken or begun behind it. WriteFault: the command whose line broke took effect, and what
+    // it changes was written before. So the first call that fails is the last.
     ensures memory { H.tells → result ≡ Status.Memory → (w : Accounts) → DiskStands (reads (H.trace host.old)) w
-        → (v : Accounts) × ServedSome w (commands (H.left host.old)) (output (H.trace host.old)) (output (H.trace host.new)) v
-        × DiskStands (reads (H.trace host.new)) v × WroteSome w (commands (H.left host.old)) (H.trace host.old) (H.trace host.new) v }
-    ensures disk_fault { H.tells → result ≡ Status.DiskFault → (w : Accounts) → DiskStands (reads (H.trace host.old)) w
         → ((H.left host.new ≡ H.left host.old) × (H.trace host.new ≡ H.trace host.old))
         ⊎ ((v : Accounts) × ServedSome w (commands (H.left host.old)) (output (H.trace host.old)) (output (H.trace host.new)) v
-        × WroteStopped w (commands (H.left host.old)) (H.trace host.old) (H.trace host.new) v) }
+        × DiskStands (reads (H.trace host.new)) v × WroteSome (opened (H.trace host.old)) w (commands (H.left host.old)) (opened (H.trace host.old)) (H.trace host.new) v) }
+    ensures disk_fault { H.tells → result ≡ Status.DiskFault → (w : Accounts) → DiskStands (reads (H.trace host.old)) w
+        → ((H.left host.new ≡ H.left host.old) × BreaksOpening (H.trace host.old) (H.trace host.new))
+        ⊎ ((v : Accounts) × ServedSome w (commands (H.left host.old)) (output (H.trace host.old)) (output (H.trace host.new)) v
+        × WroteStopped (opened (H.trace host.old)) w (commands (H.left host.old)) (opened (H.trace host.old)) (H.trace host.new) v) }
     ensures write_fault { H.tells → result ≡ Status.WriteFault → (w : Accounts) → DiskStands (reads (H.trace host.old)) w
         → (v : Accounts) × Broken w (commands (H.left host.old)) (output (H.trace host.old)) (output (H.trace host.new)) v
-        × DiskStands (reads (H.trace host.new)) v × WroteBroken w (commands (H.left host.old)) (H.trace host.old) (H.trace host.new) v }
+        × DiskStands (reads (H.trace host.new)) v × WroteBroken (opened (H.trace host.old)) w (commands (H.left host.old)) (opened (H.trace host.old)) (H.trace host.new) v }
 
-    // ReadFault: each command whose line feed was taken has its reply, and an unfinished line has none and isn't run.
+    // ReadFault: each command whose line feed was taken has its reply, an unfinished line has none and isn't run, and then a
+    // take failed.
     ensures read_fault { H.tells → result ≡ Status.ReadFault → (w : Accounts) → DiskStands (reads (H.trace host.old)) w
-        → (v : Accounts) × (taken : List ℕ) × (H.left host.old ≡ taken ++ H.left host.new)
-        × Finished w taken (H.trace host.old) (H.trace host.new) v × DiskStands (reads (H.trace host.new)) v }
+        → (v : Accounts) × (taken : List ℕ) × (told : List Event) × (H.left host.old ≡ taken ++ H.left host.new)
+        × Finished (opened (H.trace host.old)) w taken (opened (H.trace host.old)) told v × FailsTake told (H.trace host.new) × DiskStands (reads (H.trace host.new)) v }
 
     // InputBound: so of the first 2^40 bytes, and one more was taken. Under Done there were no more than these.
     ensures bound { H.tells → result ≡ Status.InputBound → (w : Accounts) → DiskStands (reads (H.trace host.old)) w
         → (v : Accounts) × (taken : List ℕ) × (byte : ℕ) × (length taken ≡ 2 ^ 40) × (H.left host.old ≡ taken ++ byte ∷ H.left host.new)
-        × Finished w taken (H.trace host.old) (H.trace host.new) v × DiskStands (reads (H.trace host.new)) v }
+        × Finished (opened (H.trace host.old)) w taken (opened (H.trace host.old)) (H.trace host.new) v × DiskStands (reads (H.trace host.new)) v }
     ensures within { H.tells → result ≡ Status.Done → length (H.left host.old) ≤ 2 ^ 40 }
 
-    // A crash at any moment of the call, where nothing was pending when it began, leaves tapes that stand for the accounts
-    // after the first of the commands: each whose reply line was put, and at most one more.
+    // A crash at any moment of the opening leaves what one might have left when the call began, and from the end of the opening
+    // on tapes that stand for the accounts after the first of the commands: each whose reply line was put, and at most one
+    // more. What was pending when the call began makes no difference.
     ensures survives { H.tells → (w : Accounts) → DiskStands (reads (H.trace host.old)) w
         → Survives w (commands (H.left host.old)) (H.trace host.old) (H.trace host.new) }
 
-    // A fault is answered only where the count of its kind rose.
+    // A fault is answered only where the count of its kind rose, and a count rose only where its fault is answered.
     ensures input_cause { result ≡ Status.ReadFault → Rose (H.input_faults host.old) (H.input_faults host.new) }
     ensures output_cause { result ≡ Status.WriteFault → Rose (H.output_faults host.old) (H.output_faults host.new) }
     ensures disk_cause { result ≡ Status.DiskFault → Rose (H.disk_faults host.old) (H.disk_faults host.new) }
+    ensures no_input_fault { result ≢ Status.ReadFault → H.input_faults host.new ≡ H.input_faults host.old }
+    ensures no_output_fault { result ≢ Status.WriteFault → H.output_faults host.new ≡ H.output_faults host.old }
+    ensures no_disk_fault { result ≢ Status.DiskFault → H.disk_faults host.new ≡ H.disk_faults host.old }
 {
     if !is_run(words) {
         return Status::Usage;

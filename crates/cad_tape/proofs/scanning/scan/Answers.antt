@@ -19,9 +19,9 @@ returns-then-end-eq0-clause-ending g c = λ tell. none_ending (reads (g.H.Host.t
 pub records-init : goal.records-init
 records-init g c = record {
   tape = c.new-window.ensures.tape;
-  story = c.length.ensures.story;
+  story = c.in_ok-end.ensures.story;
   stays = c.length.ensures.stays;
-  disk = omega (arith, c.in_ok-end.ensures.cause);
+  disk = c.in_ok-end.ensures.cause;
   input = c.length.ensures.input;
   output = c.length.ensures.output;
   along = λ tell. along_begins (reads (g.H.Host.trace c.args.host.now) c.args.tape) (drop c.new-window.result.from c.new-window.result.bytes.items) c.new-window.result.place c.new-window.result.end c.new-window.ensures.unread c.new-window.ensures.place (c.new-window.ensures.end ∙ c.in_ok-end.ensures.is tell);
@@ -44,9 +44,9 @@ returns-in_err-entries-clause-damaged g c = λ tell damaged.
 pub records-preserved : goal.records-preserved
 records-preserved g c = record {
   tape = c.next_record.ensures.tape ∙ c.records.invariant.tape;
-  story = λ tell. c.next_record.ensures.story tell ∙ c.records.invariant.story tell;
+  story = λ tell. c.in_ok-entries.ensures.story tell ∙ c.records.invariant.story tell;
   stays = λ tell. c.next_record.ensures.stays tell ∙ c.records.invariant.stays tell;
-  disk = omega (arith, c.in_ok-entries.ensures.cause, c.records.invariant.disk);
+  disk = c.in_ok-entries.ensures.cause ∙ c.records.invariant.disk;
   input = c.next_record.ensures.input ∙ c.records.invariant.input;
   output = c.next_record.ensures.output ∙ c.records.invariant.output;
   along = λ tell.

@@ -9,9 +9,9 @@ use Rattle.cad_tape.proofs.window.fill.Goals.{else-pieces-test, then-pieces-test
 pub pieces-preserved : goal.pieces-preserved
 pieces-preserved g c = record {
   inside = omega (arith, c.in_ok-extend_from_slice.ensures.len, c.deref.ensures.len, c.in_ok-piece.ensures.few, c.min-room.ensures, c.len-in-pieces.ensures, c.pieces.invariant.inside);
-  story = λ tell. c.read_piece.ensures.story tell ∙ c.pieces.invariant.story tell;
+  story = λ tell. c.in_ok-piece.ensures.story tell ∙ c.pieces.invariant.story tell;
   stays = λ tell. c.read_piece.ensures.stays tell ∙ c.pieces.invariant.stays tell;
-  disk = omega (arith, c.in_ok-piece.ensures.cause, c.pieces.invariant.disk);
+  disk = c.in_ok-piece.ensures.cause ∙ c.pieces.invariant.disk;
   input = c.read_piece.ensures.input ∙ c.pieces.invariant.input;
   output = c.read_piece.ensures.output ∙ c.pieces.invariant.output;
   along = λ tell bytes is along.

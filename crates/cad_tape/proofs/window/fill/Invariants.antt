@@ -8,7 +8,7 @@ invariant-pieces g l = record {
   inside : l.window.place + vec_len l.bytes ≤ l.window.end;
   story : g.H.Host.tells → g.H.Host.trace l.host ≡ g.H.Host.trace l.fn.host;
   stays : g.H.Host.tells → g.H.Host.left l.host ≡ g.H.Host.left l.fn.host;
-  disk : g.H.Host.disk_faults l.fn.host ≤ g.H.Host.disk_faults l.host;
+  disk : g.H.Host.disk_faults l.host ≡ g.H.Host.disk_faults l.fn.host;
   input : g.H.Host.input_faults l.host ≡ g.H.Host.input_faults l.fn.host;
   output : g.H.Host.output_faults l.host ≡ g.H.Host.output_faults l.fn.host;
   along : g.H.Host.tells → (bytes : List ℕ) → bytes ≡ reads (g.H.Host.trace l.fn.host) l.fn.window.tape

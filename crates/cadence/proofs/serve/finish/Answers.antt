@@ -13,4 +13,4 @@ returns-in-Err-clause-ends g c tell w input base bound empty going =
 pub returns-in-Err-clause-cause : goal.returns-in-Err-clause-cause
 returns-in-Err-clause-cause g c =
     stop_cause c.in-Err.stop (g.H.Host.input_faults c.args.host.now) (g.H.Host.input_faults c.say.new.host) (g.H.Host.output_faults c.args.host.now) (g.H.Host.output_faults c.say.new.host) (g.H.Host.disk_faults c.args.host.now) (g.H.Host.disk_faults c.say.new.host)
-    c.in-Err.ensures.cause
+    c.say.ensures.input c.in-Err.ensures.cause

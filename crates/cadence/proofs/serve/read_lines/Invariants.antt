@@ -2,17 +2,17 @@ use Rattle.std.proofs.Common.{◌≡◌, ◌≤◌, ◌<◌, ◌+◌, ◌-◌, l
 use Rattle.cad_accounts.specs.Accounts.{Accounts, StandsFor}
 use Rattle.cad_accounts.specs.Worlds.{AreSound}
 use Rattle.cad_store.specs.Stores.{held, room_of, IsOn}
-use Rattle.cadence.specs.Progress.{Going}
+use Rattle.cadence.specs.Progress.{Between}
 use Rattle.cadence.specs.Ending.{input_bound}
 use Rattle.cadence.proofs.serve.read_lines.Given as goal
 
 abbrev pub invariant-loop-taken : goal.invariant-loop-taken
 invariant-loop-taken g l =
-    (g.H.Host.tells → (w : Accounts) → StandsFor (held l.initial.store) w → Going l.line l.store w (g.H.Host.left l.initial.host) (g.H.Host.trace l.initial.host) (g.H.Host.left l.host) (g.H.Host.trace l.host))
+    (g.H.Host.tells → (w : Accounts) → StandsFor (held l.initial.store) w → Between l.line l.store w (g.H.Host.left l.initial.host) (g.H.Host.trace l.initial.host) (g.H.Host.left l.host) (g.H.Host.trace l.host))
     × (g.H.Host.tells → length (g.H.Host.left l.initial.host) ≡ l.taken + length (g.H.Host.left l.host))
-    × (g.H.Host.input_faults l.initial.host ≤ g.H.Host.input_faults l.host)
-    × (g.H.Host.output_faults l.initial.host ≤ g.H.Host.output_faults l.host)
-    × (g.H.Host.disk_faults l.initial.host ≤ g.H.Host.disk_faults l.host)
+    × (g.H.Host.input_faults l.host ≡ g.H.Host.input_faults l.initial.host)
+    × (g.H.Host.output_faults l.host ≡ g.H.Host.output_faults l.initial.host)
+    × (g.H.Host.disk_faults l.host ≡ g.H.Host.disk_faults l.initial.host)
     × AreSound (held l.store)
     × (g.H.Host.tells → IsOn (g.H.Host.trace l.host) l.store)
     × (room_of l.store ≡ room_of l.initial.store)

@@ -12,14 +12,14 @@ pub write_record-requires-clause-form : goal.write_record-requires-clause-form
 write_record-requires-clause-form g c = (body_bytes c.requires.out.0, c.as_slice.ensures ∙ c.requires.out.1.bytes_are)
 
 pub returns-in_err-next-clause-moments : goal.returns-in_err-next-clause-moments
-returns-in_err-next-clause-moments g c = λ tell quiet changes out.
+returns-in_err-next-clause-moments g c = λ tell changes out.
     keeps (g.H.Host.trace c.args.host.now) (g.H.Host.trace c.write_record.new.host) (held c.args.self.now) changes (c.requires.on tell).holds out.form
-    (c.write_record.ensures.moments tell quiet (body_bytes changes) (c.as_slice.ensures ∙ out.bytes_are))
+    (c.write_record.ensures.moments tell (c.requires.on tell).quiet (body_bytes changes) (c.as_slice.ensures ∙ out.bytes_are))
 
 pub returns-clause-moments : goal.returns-clause-moments
-returns-clause-moments g c = λ tell quiet changes out.
+returns-clause-moments g c = λ tell changes out.
     keeps (g.H.Host.trace c.args.host.now) (g.H.Host.trace c.write_record.new.host) (held c.args.self.now) changes (c.requires.on tell).holds out.form
-    (c.write_record.ensures.moments tell quiet (body_bytes changes) (c.as_slice.ensures ∙ out.bytes_are))
+    (c.write_record.ensures.moments tell (c.requires.on tell).quiet (body_bytes changes) (c.as_slice.ensures ∙ out.bytes_are))
 
 pub returns-clause-ok : goal.returns-clause-ok
 returns-clause-ok g c = λ changes out key. c.change_all.ensures key ∙ ap (λ (es : List Entry). applied es (held c.args.self.now) key) out.changes_are
@@ -34,6 +34,7 @@ returns-clause-on g c = λ tell.
       holds = holds_new old new (held c.args.self.now) (at (rows_of c.change_all.new.registers)) out.0 (c.requires.on tell).holds out.1.form (whole_at new c.in_ok-next.next both.0) both.1
           (λ key. c.change_all.ensures key ∙ ap (λ (es : List Entry). applied es (held c.args.self.now) key) out.1.changes_are);
       place = both.0;
+      quiet = c.in_ok-next.ensures.quiet tell (c.requires.on tell).quiet;
     }
 
 pub returns-clause-order : goal.returns-clause-order
