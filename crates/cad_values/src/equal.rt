@@ -102,7 +102,7 @@ pub fn same(a: &Value, b: &Value) -> bool
 }
 
 /// Whether two numbers are one.
-#[tactic(auto, using(cad_syntax::proofs::Nums::same_num))]
+#[tactic(auto, using(crate::proofs::Nums::same_num))]
 fn same_number(a: Num, b: Num) -> bool
     ensures { IsTrue result ↔ (a ≡ b) }
 {
