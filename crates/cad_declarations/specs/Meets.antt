@@ -1,5 +1,5 @@
 -- Whether composites and interfaces meet their interfaces.
-use Rattle.std.specs.Prelude.{◌≡◌, true, Option, Some, None, List, [], ◌∷◌, ◌++◌, map, filter, filter_map, if◌then◌else◌}
+use Rattle.std.specs.Prelude.{◌≡◌, Bool, true, false, Option, Some, None, List, [], ◌∷◌, ◌++◌, filter, filter_map, if◌then◌else◌}
 use Rattle.std.specs.Option.{option_or}
 use Rattle.cad_syntax.specs.declared.text.Name.{Name}
 use Rattle.cad_syntax.specs.declared.type_id.TypeId.{TypeId}
@@ -10,7 +10,7 @@ use Rattle.cad_declarations.specs.Imports.{is_part_of}
 use Rattle.cad_declarations.specs.Kinds.{kinds_of}
 use Rattle.cad_declarations.specs.Members.{type_in, members_in, own_member, default_in, interface_member}
 use Rattle.cad_declarations.specs.Scopes.{is_interface_sort}
-use Rattle.cad_declarations.specs.Tables.{SignatureType, MemberForm, field, function, MemberEntry, TypeEntry, ProgramTables}
+use Rattle.cad_declarations.specs.Tables.{ParameterType, SignatureType, MemberForm, field, function, MemberEntry, TypeEntry, ProgramTables}
 use Rattle.cad_declarations.specs.declared.stop.Stop.{Stop}
 
 -- ---- one member
@@ -20,10 +20,16 @@ abbrev pub KindMeets : Option VariableKind → Option VariableKind → Type 0
 KindMeets kind None = Unit {0}
 KindMeets kind (Some asked) = kind ≡ Some asked
 
--- the same labels and types of parameters, a result below, and `view` where that is asked
+-- parameters with the same labels and types
+abbrev pub SameParameters : List ParameterType → List ParameterType → Type 0
+SameParameters [] [] = Unit {0}
+SameParameters (p ∷ ps) (q ∷ qs) = (p.label ≡ q.label) × (p.type ≡ q.type) × SameParameters ps qs
+SameParameters [] (q ∷ qs) = ⊥
+SameParameters (p ∷ ps) [] = ⊥
+
+-- the same parameters, a result below, and `view` where that is asked
 pub record SignatureMeets (k : List Declaration) (own asked : SignatureType) : Type 0 where
-  pub labels : map (λ p. p.label) own.parameters ≡ map (λ p. p.label) asked.parameters
-  pub types : map (λ p. p.type) own.parameters ≡ map (λ p. p.type) asked.parameters
+  pub parameters : SameParameters own.parameters asked.parameters
   pub result : Sub k own.result asked.result
   pub view : asked.is_view ≡ true → own.is_view ≡ true
 
@@ -73,20 +79,29 @@ Meets k types t = Each (MeetsInterface k types t) t.interfaces
 
 -- ---- a program
 
+-- a type is declared by the program's contract
+abbrev pub is_own : Option TypeId → TypeId → Bool
+is_own None id = false
+is_own (Some contract) id = is_part_of contract id
+
 abbrev pub own_types : Option TypeId → List TypeEntry → List TypeEntry
-own_types None types = []
-own_types (Some contract) types = filter (λ t. is_part_of contract t.id) types
+own_types contract types = filter (λ t. is_own contract t.id) types
 
 -- each type that the program's contract declares meets its interfaces
 abbrev pub Conforms : ProgramTables → Type 0
 Conforms tables = Each (Meets (kinds_of tables) tables.types) (own_types tables.contract tables.types)
 
--- the program is refused at this declaration, the first that doesn't meet its interfaces
-pub record Unmet (tables : ProgramTables) (where_stopped : Stop) : Type 0 where
+-- the first of these types that doesn't meet its interfaces
+pub record IsUnmet (k : List Declaration) (types own : List TypeEntry) (t : TypeEntry) : Type 0 where
   pub before : List TypeEntry
-  pub type : TypeEntry
   pub after : List TypeEntry
-  pub split : own_types tables.contract tables.types ≡ before ++ type ∷ after
-  pub met : Each (Meets (kinds_of tables) tables.types) before
-  pub unmet : Meets (kinds_of tables) tables.types type → ⊥
-  pub stop : where_stopped ≡ record { inside = type.id.names; at = 0 }
+  pub split : own ≡ before ++ t ∷ after
+  pub met : Each (Meets k types) before
+  pub unmet : Meets k types t → ⊥
+
+abbrev pub stop_of : TypeEntry → Stop
+stop_of t = record { inside = t.id.names; at = 0 }
+
+-- the program is refused at the first type that doesn't meet its interfaces
+abbrev pub Unmet : ProgramTables → Stop → Type 0
+Unmet tables stop = (t : TypeEntry) × IsUnmet (kinds_of tables) tables.types (own_types tables.contract tables.types) t × (stop ≡ stop_of t)

@@ -1,5 +1,5 @@
 -- What is reached from identifiers by links between them: interfaces by their parents, contracts by their imports.
-use Rattle.std.specs.Prelude.{ℕ, zero, suc, ◌+◌, Bool, List, [], ◌∷◌, ◌++◌, length, sum_by, if◌then◌else◌}
+use Rattle.std.specs.Prelude.{ℕ, zero, suc, ◌+◌, Bool, List, [], ◌∷◌, ◌++◌, length, if◌then◌else◌}
 use Rattle.cad_syntax.specs.TypeIds.{same_id, has}
 use Rattle.cad_syntax.specs.declared.type_id.TypeId.{TypeId}
 use Rattle.cad_declarations.specs.declared.link.Link.{Link}
@@ -18,9 +18,14 @@ reached (suc steps) links seen (id ∷ ahead) =
     if has seen id then reached steps links seen ahead
     else reached steps links (seen ++ id ∷ []) (linked links id ++ ahead)
 
+-- to how many the links lead, all together
+abbrev pub lengths : List Link → ℕ
+lengths [] = 0
+lengths (l ∷ links) = length l.to + lengths links
+
 -- as many steps as can be taken from these
 abbrev pub enough : List Link → List TypeId → ℕ
-enough links ahead = length ahead + sum_by (λ l. length l.to) links
+enough links ahead = length ahead + lengths links
 
 -- All that is reached from these, by depth: each before those to which it leads, later repeats dropped.
 abbrev pub reached_from : List Link → List TypeId → List TypeId

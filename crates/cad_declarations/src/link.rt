@@ -26,6 +26,7 @@ pub fn linked<'a>(links: &'a [Link], id: &TypeId) -> &'a [TypeId]
 }
 
 /// All that is reached from these identifiers, by depth: each before those to which it leads, later repeats dropped.
+#[tactic(auto, using(crate::proofs::Visits::begins, crate::proofs::Visits::goes_on, crate::proofs::Visits::less, crate::proofs::Visits::ends))]
 pub fn reached_from(
     alloc: Global,
     links: &[Link],

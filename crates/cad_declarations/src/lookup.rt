@@ -20,10 +20,7 @@ impl Tables {
     pub fn kinds(&self, alloc: Global) -> Result<DeclaredTypes, AllocError>
         ensures { IfOk result (λ types. declarations types ≡ kinds_of (tables_of self.now)) }
     {
-        let mut declared = Vec::new(alloc);
-        for t in self.types.iter() {
-            declared.push(declared_of(alloc, t)?)?;
-        }
+        let declared = all_declared(alloc, self.types.as_slice())?;
         DeclaredTypes::new(alloc, declared)
     }
 
@@ -56,7 +53,19 @@ impl Tables {
     }
 }
 
+/// Declared types with the types of their fields.
+pub(crate) fn all_declared(alloc: Global, types: &[TypeDeclaration]) -> Result<Vec<Declared>, AllocError>
+    ensures { IfOk result (λ all. map kind_of all.items ≡ map declaration_of (map type_entry_of types.now)) }
+{
+    let mut all = Vec::new(alloc);
+    for t in types {
+        all.push(declared_of(alloc, t)?)?;
+    }
+    Ok(all)
+}
+
 /// A declared type with the types of its fields.
+#[tactic(auto, using(crate::proofs::Fields::one_more))]
 fn declared_of(alloc: Global, t: &TypeDeclaration) -> Result<Declared, AllocError>
     ensures { IfOk result (λ d. kind_of d ≡ declaration_of (type_entry_of t.now)) }
 {

@@ -1,0 +1,7 @@
+//! Whether the composites and interfaces of a program meet their interfaces.
+#![tactic(auto)]
+
+mod conform;
+mod meets;
+
+pub use conform::conforms;
