@@ -1,5 +1,6 @@
 // Laws of replies.
 ghost use Rattle.std.specs.Prelude.{◌≡◌, ◌≢◌, List, ℕ, [], ◌∷◌, ◌++◌};
+ghost use Rattle.cad_host.specs.declared.host.Tape.{Tape};
 ghost use Rattle.cad_host.specs.Disk.{Event, put, reads};
 ghost use Rattle.cad_host.specs.Crash.{IsSettled};
 ghost use Rattle.cad_accounts.specs.Accounts.{Accounts};
@@ -7,8 +8,9 @@ ghost use Rattle.cad_store.specs.Opening.{opened};
 ghost use Rattle.cadence.specs.Answer.{Answer, Answers, answer_line};
 ghost use Rattle.cadence.specs.Crashes.{DiskStands, Survives};
 
-use cad_accounts::one_size;
+use cad_accounts::{one_size, one_state};
 use cad_forms::{one_refusal, one_request};
+use cad_store::one_map_a_disk;
 
 /// A command has one reply line at most, and leads to one state of the accounts.
 pub fn one_reply()
@@ -26,4 +28,12 @@ pub fn reply_before_commit()
         → Survives w (command ∷ []) old (later ++ put (answer_line a) ∷ opened old) → ⊥ }
 {
     one_reply();
+}
+
+/// Tapes stand for one state of the accounts at most.
+pub fn one_state_a_disk()
+    ensures { (disk : Tape → List ℕ) (v w : Accounts) → DiskStands disk v → DiskStands disk w → v ≡ w }
+{
+    one_map_a_disk();
+    one_state();
 }
