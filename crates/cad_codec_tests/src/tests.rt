@@ -22,7 +22,9 @@ const VALUES: [&[u8]; 21] = [
     // Characters of one cluster: "a", a letter with an accent, two regional indicators
     &[6, 0, 0, 0, 1, 0x61],
     &[6, 0, 0, 0, 3, 0x65, 0xCC, 0x81],
-    &[6, 0, 0, 0, 8, 0xF0, 0x9F, 0x87, 0xA6, 0xF0, 0x9F, 0x87, 0xA7],
+    &[
+        6, 0, 0, 0, 8, 0xF0, 0x9F, 0x87, 0xA6, 0xF0, 0x9F, 0x87, 0xA7,
+    ],
     // address 1
     &[7, 0, 0, 0, 0, 0, 0, 0, 1],
     // /storage/a, /public/
@@ -31,9 +33,13 @@ const VALUES: [&[u8]; 21] = [
     // Type<Int>(), Type<&Int>(), Type<auth(A.01.C) &Int>()
     &[9, 0, 0],
     &[9, 6, 0, 0, 0, 0, 0, 0, 0],
-    &[9, 6, 1, 0, 0, 0, 1, 0, 0, 0, 0, 0, 0, 0, 1, 0, 0, 0, 1, 0, 0, 0, 1, 0x43, 0, 0],
+    &[
+        9, 6, 1, 0, 0, 0, 1, 0, 0, 0, 0, 0, 0, 0, 1, 0, 0, 0, 1, 0, 0, 0, 1, 0x43, 0, 0,
+    ],
     // a capability of account 1 with number 2 that lends &Int
-    &[10, 0, 0, 0, 0, 0, 0, 0, 1, 0, 0, 0, 0, 0, 0, 0, 2, 6, 0, 0, 0, 0, 0, 0, 0],
+    &[
+        10, 0, 0, 0, 0, 0, 0, 0, 1, 0, 0, 0, 0, 0, 0, 0, 2, 6, 0, 0, 0, 0, 0, 0, 0,
+    ],
     // [true] of type [Bool]
     &[11, 0, 22, 0, 0, 0, 1, 3, 1],
     // {"a": true, "b": false} of type {String: Bool}
@@ -42,8 +48,8 @@ const VALUES: [&[u8]; 21] = [
     ],
     // A.0000000000000001.C.S with identity 9 and a field f that is nil
     &[
-        13, 0, 0, 0, 0, 0, 0, 0, 1, 0, 0, 0, 2, 0, 0, 0, 1, 0x43, 0, 0, 0, 1, 0x53, 0, 0, 0, 0,
-        0, 0, 0, 9, 0, 0, 0, 1, 0, 0, 0, 1, 0x66, 1,
+        13, 0, 0, 0, 0, 0, 0, 0, 1, 0, 0, 0, 2, 0, 0, 0, 1, 0x43, 0, 0, 0, 1, 0x53, 0, 0, 0, 0, 0,
+        0, 0, 9, 0, 0, 0, 1, 0, 0, 0, 1, 0x66, 1,
     ],
 ];
 
@@ -95,7 +101,9 @@ const DAMAGED: [&[u8]; 27] = [
     &[9, 9],
     &[9, 0, 37],
     &[9, 5, 0, 0, 0, 0],
-    &[9, 6, 0, 0, 0, 0, 1, 0, 0, 0, 0, 0, 0, 0, 1, 0, 0, 0, 1, 0, 0, 0, 1, 0x43, 0, 0],
+    &[
+        9, 6, 0, 0, 0, 0, 1, 0, 0, 0, 0, 0, 0, 0, 1, 0, 0, 0, 1, 0, 0, 0, 1, 0x43, 0, 0,
+    ],
     &[9, 6, 3, 0, 0, 0, 0, 0, 0],
     // a key twice: the same bytes, and two spellings with one NFC form
     &[
@@ -140,7 +148,12 @@ fn values_are_at_most_256_high(rt: HostRuntime) -> Result<(), Fail> {
     assert_eq!(rt; height(&value), 256);
     assert_eq!(rt; weight(&value), 1);
     let higher = repeated(rt.alloc(), 2, 256, &[1])?;
-    assert!(rt; matches!(decode(rt.alloc(), higher.as_slice()), Err(DecodeError::Damaged)));
+    assert!(rt;
+        matches!(
+            decode(rt.alloc(), higher.as_slice()),
+            Err(DecodeError::Damaged)
+        )
+    );
     Ok(())
 }
 
@@ -152,7 +165,12 @@ fn types_nest_at_most_1024_deep(rt: HostRuntime) -> Result<(), Fail> {
     let bytes = encode_type(rt.alloc(), &t)?;
     assert_eq!(rt; bytes.as_slice(), deepest.as_slice());
     let deeper = repeated(rt.alloc(), 1, 1025, &[0, 20])?;
-    assert!(rt; matches!(decode_type(rt.alloc(), deeper.as_slice()), Err(DecodeError::Damaged)));
+    assert!(rt;
+        matches!(
+            decode_type(rt.alloc(), deeper.as_slice()),
+            Err(DecodeError::Damaged)
+        )
+    );
     Ok(())
 }
 
@@ -177,7 +195,10 @@ fn weights_and_identities(rt: HostRuntime) -> Result<(), Fail> {
     let composite = decode(rt.alloc(), VALUES[20])?;
     assert_eq!(rt; weight(&composite), 2);
     assert_eq!(rt; height(&composite), 2);
-    assert_eq!(rt; identities(rt.alloc(), &composite)?.as_slice(), [9].as_slice());
+    assert_eq!(rt;
+        identities(rt.alloc(), &composite)?.as_slice(),
+        [9].as_slice()
+    );
     let dictionary = decode(rt.alloc(), VALUES[19])?;
     assert_eq!(rt; weight(&dictionary), 7);
     assert_eq!(rt; identities(rt.alloc(), &dictionary)?.len(), 0);

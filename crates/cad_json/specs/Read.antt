@@ -48,7 +48,7 @@ mutual
     any_array : {all : Items} {vs : Values} → ReadsAll k any_struct all vs → Reads k any_struct (typed (codes "Array") (array all)) (v.array any_struct vs)
     -- a struct or enum that an argument can have
     composite : {want : PureType} {text : List ℕ} {id : TypeId} {shape : Shape} {all : List Data} {fs : Fields} → Spells text id → shape_of k id ≡ Some shape → is_data_sort shape.sort ≡ true → Importable (declarations k) (declared id)
-      → ReadsFields k shape.fields all fs → Reads k want (typed (sort_word shape.sort) (composite_json (array (items_of all)) text)) (v.composite id 0 fs)
+        → ReadsFields k shape.fields all fs → Reads k want (typed (sort_word shape.sort) (composite_json (array (items_of all)) text)) (v.composite id 0 fs)
 
   pub data ReadsAll (k : Shapes) : PureType → Items → Values → Type 0 where
     none : {want : PureType} → ReadsAll k want no_items no_values
@@ -62,7 +62,7 @@ mutual
   pub data ReadsFields (k : Shapes) : List ShapeField → List Data → Fields → Type 0 where
     none : ReadsFields k [] [] no_fields
     more : {field : ShapeField} {rest : List ShapeField} {before behind : List Data} {json : Data} {x : PureValue} {fs : Fields} → Reads k field.is json x → ReadsFields k rest (before ++ behind) fs
-      → ReadsFields k (field ∷ rest) (before ++ field_json field.name.0 json ∷ behind) (fields field.name x fs)
+        → ReadsFields k (field ∷ rest) (before ++ field_json field.name.0 json ∷ behind) (fields field.name x fs)
 
 -- JsonOf k want x json: as an argument of this type the JSON stands for the value.
 pub record JsonOf (k : Shapes) (want : PureType) (x : PureValue) (json : Data) : Type 0 where

@@ -30,13 +30,7 @@ fn text_json(alloc: Global, text: &str) -> Result<Json, AllocError>
 }
 
 /// An object with two members, whose keys are in order.
-fn two(
-    alloc: Global,
-    key: &str,
-    value: Json,
-    other: &str,
-    second: Json,
-) -> Result<Json, AllocError>
+fn two(alloc: Global, key: &str, value: Json, other: &str, second: Json) -> Result<Json, AllocError>
     ensures { IfOk result (λ json. view json ≡ object (with_member other.now (view second) (with_member key.now (view value) no_members))) }
 {
     let mut map = Map::new(alloc);

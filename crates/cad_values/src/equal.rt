@@ -50,7 +50,9 @@ pub fn same(a: &Value, b: &Value) -> bool
             _ => false,
         },
         Value::Capability(x) => match b {
-            Value::Capability(y) => x.address == y.address && x.id == y.id && x.borrow.same(&y.borrow),
+            Value::Capability(y) => x.address == y.address
+                && x.id == y.id
+                && x.borrow.same(&y.borrow),
             _ => false,
         },
         Value::Array { element, values } => match b {
