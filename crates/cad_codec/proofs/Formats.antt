@@ -34,22 +34,22 @@ pub pairs : {A B : Type 0} {f : A → List ℕ} {V : A → Type 0} {at : At A} {
 pairs {A} {B} {f} {V} {at} {g} {W} {bt} first second = record {
   again = λ p rest valid. ap (then_at at bt) (append_assoc (f p.0) (g p.1) rest) ∙ rw (first.again p.0 (g p.1 ++ rest) valid.0, second.again p.1 rest valid.1) refl;
   take = λ bytes p rest fits e.
-  let a = bind_some (at bytes) (λ a. bt a.1 >>= λ b. Some ((a.0, b.0), b.1)) (p, rest) e in
-  let b = bind_some (bt a.0.1) (λ b. Some ((a.0.0, b.0), b.1)) (p, rest) a.2 in
-  let t = first.take bytes a.0.0 a.0.1 fits a.1 in
-  let u = second.take a.0.1 b.0.0 b.0.1 t.0.rest_fits b.1 in
-  subst (λ (x : (A × B) × List ℕ). Takes bytes (f x.0.0 ++ g x.0.1) x.1 × (V x.0.0 × W x.0.1)) (some_is ((a.0.0, b.0.0), b.0.1) (p, rest) b.2)
-  (Takes-then bytes (f a.0.0) a.0.1 (g b.0.0) b.0.1 t.0 u.0, (t.1, u.1));
+      let a = bind_some (at bytes) (λ a. bt a.1 >>= λ b. Some ((a.0, b.0), b.1)) (p, rest) e in
+      let b = bind_some (bt a.0.1) (λ b. Some ((a.0.0, b.0), b.1)) (p, rest) a.2 in
+      let t = first.take bytes a.0.0 a.0.1 fits a.1 in
+      let u = second.take a.0.1 b.0.0 b.0.1 t.0.rest_fits b.1 in
+      subst (λ (x : (A × B) × List ℕ). Takes bytes (f x.0.0 ++ g x.0.1) x.1 × (V x.0.0 × W x.0.1)) (some_is ((a.0.0, b.0.0), b.0.1) (p, rest) b.2)
+      (Takes-then bytes (f a.0.0) a.0.1 (g b.0.0) b.0.1 t.0 u.0, (t.1, u.1));
 }
 
 pub tested : {A : Type 0} {f : A → List ℕ} {V : A → Type 0} {at : At A} (test : A → Bool) → IsFormat f V at → IsFormat f (λ a. V a × (test a ≡ true)) (tested_at at test)
 tested {A} {f} {V} {at} test item = record {
   again = λ a rest valid. rw (item.again a rest valid.0, valid.1) refl;
   take = λ bytes a rest fits e.
-  let x = bind_some (at bytes) (λ x. cond (test x.0) (Some x) None) (a, rest) e in
-  let g = if_passed (test x.0.0) x.0 (a, rest) x.2 in
-  let t = item.take bytes x.0.0 x.0.1 fits x.1 in
-  subst (λ (y : A × List ℕ). Takes bytes (f y.0) y.1 × (V y.0 × (test y.0 ≡ true))) g.1 (t.0, (t.1, g.0));
+      let x = bind_some (at bytes) (λ x. cond (test x.0) (Some x) None) (a, rest) e in
+      let g = if_passed (test x.0.0) x.0 (a, rest) x.2 in
+      let t = item.take bytes x.0.0 x.0.1 fits x.1 in
+      subst (λ (y : A × List ℕ). Takes bytes (f y.0) y.1 × (V y.0 × (test y.0 ≡ true))) g.1 (t.0, (t.1, g.0));
 }
 
 -- what is made of a thing, and taken apart again
@@ -59,14 +59,14 @@ pub found : {A B : Type 0} {f : A → List ℕ} {V : A → Type 0} {at : At A} (
     → IsFormat f V at → IsFormat g W (found_at at make)
 found {A} {B} {f} {V} {at} g W make part back forth item = record {
   again = λ b rest valid.
-  let p = back b valid in
-  ap (λ (xs : List ℕ). found_at at make (xs ++ rest)) (sym p.1) ∙ rw (item.again (part b) rest p.0, p.2) refl;
+      let p = back b valid in
+      ap (λ (xs : List ℕ). found_at at make (xs ++ rest)) (sym p.1) ∙ rw (item.again (part b) rest p.0, p.2) refl;
   take = λ bytes b rest fits e.
-  let x = bind_some (at bytes) (λ x. make x.0 >>= λ y. Some (y, x.1)) (b, rest) e in
-  let y = bind_some (make x.0.0) (λ y. Some (y, x.0.1)) (b, rest) x.2 in
-  let t = item.take bytes x.0.0 x.0.1 fits x.1 in
-  let q = forth x.0.0 y.0 t.1 y.1 in
-  subst (λ (z : B × List ℕ). Takes bytes (g z.0) z.1 × W z.0) (some_is (y.0, x.0.1) (b, rest) y.2) (subst (λ (xs : List ℕ). Takes bytes xs x.0.1) q.1 t.0, q.0);
+      let x = bind_some (at bytes) (λ x. make x.0 >>= λ y. Some (y, x.1)) (b, rest) e in
+      let y = bind_some (make x.0.0) (λ y. Some (y, x.0.1)) (b, rest) x.2 in
+      let t = item.take bytes x.0.0 x.0.1 fits x.1 in
+      let q = forth x.0.0 y.0 t.1 y.1 in
+      subst (λ (z : B × List ℕ). Takes bytes (g z.0) z.1 × W z.0) (some_is (y.0, x.0.1) (b, rest) y.2) (subst (λ (xs : List ℕ). Takes bytes xs x.0.1) q.1 t.0, q.0);
 }
 
 -- the same where it can always be made
@@ -76,13 +76,13 @@ pub made : {A B : Type 0} {f : A → List ℕ} {V : A → Type 0} {at : At A} (g
     → IsFormat f V at → IsFormat g W (made_at at make)
 made {A} {B} {f} {V} {at} g W make part back forth item = record {
   again = λ b rest valid.
-  let p = back b valid in
-  ap (λ (xs : List ℕ). made_at at make (xs ++ rest)) (sym p.1) ∙ rw (item.again (part b) rest p.0, p.2) refl;
+      let p = back b valid in
+      ap (λ (xs : List ℕ). made_at at make (xs ++ rest)) (sym p.1) ∙ rw (item.again (part b) rest p.0, p.2) refl;
   take = λ bytes b rest fits e.
-  let x = bind_some (at bytes) (λ x. Some (make x.0, x.1)) (b, rest) e in
-  let t = item.take bytes x.0.0 x.0.1 fits x.1 in
-  let q = forth x.0.0 t.1 in
-  subst (λ (z : B × List ℕ). Takes bytes (g z.0) z.1 × W z.0) (some_is (make x.0.0, x.0.1) (b, rest) x.2) (subst (λ (xs : List ℕ). Takes bytes xs x.0.1) q.1 t.0, q.0);
+      let x = bind_some (at bytes) (λ x. Some (make x.0, x.1)) (b, rest) e in
+      let t = item.take bytes x.0.0 x.0.1 fits x.1 in
+      let q = forth x.0.0 t.1 in
+      subst (λ (z : B × List ℕ). Takes bytes (g z.0) z.1 × W z.0) (some_is (make x.0.0, x.0.1) (b, rest) x.2) (subst (λ (xs : List ℕ). Takes bytes xs x.0.1) q.1 t.0, q.0);
 }
 
 members_again : {A : Type 0} {f : A → List ℕ} {V : A → Type 0} {at : At A} → IsFormat f V at → (xs : List A) (rest : List ℕ) → AllByRecursion V xs → members_at at (length xs) (flat_map f xs ++ rest) ≡ Some (xs, rest)
@@ -111,11 +111,11 @@ unfolding counted
 lists {A} {f} {V} {at} item = record {
   again = λ xs rest valid. ap (list_at at) (append_assoc (length_field (length xs)) (flat_map f xs) rest) ∙ rw (length_again (length xs) (flat_map f xs ++ rest) valid.0) (members_again item xs rest valid.1);
   take = λ bytes xs rest fits e.
-  let n = bind_some (length_at bytes) (λ n. members_at at n.0 n.1) (xs, rest) e in
-  let l = length_takes bytes n.0.0 n.0.1 fits n.1 in
-  let m = members_take item n.0.0 n.0.1 xs rest l.0.rest_fits n.2 in
-  let both = Takes-then bytes (length_field n.0.0) n.0.1 (flat_map f xs) rest l.0 m.0 in
-  (subst (λ (k : ℕ). Takes bytes (length_field k ++ flat_map f xs) rest) (sym m.1) both, (subst (λ (k : ℕ). k < 2 ^ 32) (sym m.1) l.1, m.2));
+      let n = bind_some (length_at bytes) (λ n. members_at at n.0 n.1) (xs, rest) e in
+      let l = length_takes bytes n.0.0 n.0.1 fits n.1 in
+      let m = members_take item n.0.0 n.0.1 xs rest l.0.rest_fits n.2 in
+      let both = Takes-then bytes (length_field n.0.0) n.0.1 (flat_map f xs) rest l.0 m.0 in
+      (subst (λ (k : ℕ). Takes bytes (length_field k ++ flat_map f xs) rest) (sym m.1) both, (subst (λ (k : ℕ). k < 2 ^ 32) (sym m.1) l.1, m.2));
 }
 
 strings : IsFormat bytes_field (λ text. length text < 2 ^ 32) bytes_at
@@ -130,8 +130,8 @@ texts =
     record {
       again = λ text rest valid. t.again text rest (valid.1, is_utf8-from_IsUtf8 text valid.0);
       take = λ bytes text rest fits e.
-      let x = t.take bytes text rest fits e in
-      (x.0, (IsUtf8-from_is_utf8 text x.1.1, x.1.0));
+          let x = t.take bytes text rest fits e in
+          (x.0, (IsUtf8-from_is_utf8 text x.1.1, x.1.0));
     }
 
 pub name_format : IsFormat name_field NameInRange name_at

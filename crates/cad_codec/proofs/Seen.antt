@@ -22,13 +22,13 @@ or_in false false = refl
 pub adds : (old now : Set) (v : Vec ℕ Global) (key : List ℕ) (added : Bool) → v.items ≡ key → added ≡ not (contains (λ x y. slice_cmp nat_cmp x.items y.items) old v)
     → Updates (λ x y. slice_cmp nat_cmp x.items y.items) old now v true → Adds old now key added
 adds old now v key added same is updates known holds = (
-      is ∙ ap not (holds v ∙ ap (has_bytes known) same),
-      λ q. updates.0 q
+  is ∙ ap not (holds v ∙ ap (has_bytes known) same),
+  λ q. updates.0 q
       ∙ ap (λ b. cond b true (contains (λ x y. slice_cmp nat_cmp x.items y.items) old q)) (is_eq-slice_cmp v.items q.items ∙ ap (λ (k : List ℕ). bytes_eq k q.items) same)
       ∙ ap (cond (bytes_eq key q.items) true) (holds q)
       ∙ or_in (bytes_eq key q.items) (has_bytes known q.items)
       ∙ sym (list_any-append (λ k. bytes_eq k q.items) known (key ∷ [])),
-    )
+)
 
 abbrev some : {A : Type 0} → A → Option A
 some a = Some a
@@ -60,9 +60,9 @@ differs old now ks i key so at added =
     record {
       holds = subst (Holds now) (sym more) a.1;
       left =
-      ap (λ (xs : List (List ℕ)). all_new xs (drop (i + 1) ks)) more
-      ∙ ap (λ b. b && all_new (take i ks ++ key ∷ []) (drop (i + 1) ks)) a.0
-      ∙ ap (all_new (take i ks)) (sym less) ∙ so.left;
+          ap (λ (xs : List (List ℕ)). all_new xs (drop (i + 1) ks)) more
+          ∙ ap (λ b. b && all_new (take i ks ++ key ∷ []) (drop (i + 1) ks)) a.0
+          ∙ ap (all_new (take i ks)) (sym less) ∙ so.left;
     }
 
 pub repeats : (old now : Set) (ks : List (List ℕ)) (i : ℕ) (key : List ℕ) → Added old ks i → slice_get ks i ≡ Some key → Adds old now key false → false ≡ all_new [] ks

@@ -221,6 +221,6 @@ whole_types =
     record {
       again = λ t rest has. all.again t rest (has.0, has.1.0, omega (arith, has.1.1));
       take = λ bytes t rest fits e.
-      let x = all.take bytes t rest fits e in
-      (x.0, (x.1.0, (x.1.1, omega (arith, x.1.2))));
+          let x = all.take bytes t rest fits e in
+          (x.0, (x.1.0, (x.1.1, omega (arith, x.1.2))));
     }

@@ -247,17 +247,19 @@ dictionary_made : (h : ℕ) (x : PureType × (PureType × List PureEntry)) → T
     → ValueOk (suc h) (v.dictionary x.0 x.1.0 (entries_of x.1.1)) × (12 ∷ (type_bytes x.0 ++ (type_bytes x.1.0 ++ counted (length x.1.1) (flat_map entry_field x.1.1))) ≡ value_bytes (v.dictionary x.0 x.1.0 (entries_of x.1.1)))
 dictionary_made h x valid =
     let ok = entries_valid h x.1.1 valid.1.1.0.1 in
-    let few : length (keys (entries_of x.1.1)) < 2 ^ 32 = subst (λ (n : ℕ). n < 2 ^ 32) (entries_count x.1.1) valid.1.1.0.0 in
-    (((valid.0.0, valid.1.0.0, few, ok.in_range), (valid.0.1, valid.1.0.1, ok.are_forms, keys_apart h x.1.1 valid.1.1.0.1 valid.1.1.1), omega (arith, ok.high)),
-    λ i. 12 ∷ (type_bytes x.0 ++ (type_bytes x.1.0 ++ counted (entries_count x.1.1 i) (entries_flat x.1.1 i))))
+    let few : length (keys (entries_of x.1.1)) < 2 ^ 32 = subst (λ (n : ℕ). n < 2 ^ 32) (entries_count x.1.1) valid.1.1.0.0 in (
+      ((valid.0.0, valid.1.0.0, few, ok.in_range), (valid.0.1, valid.1.0.1, ok.are_forms, keys_apart h x.1.1 valid.1.1.0.1 valid.1.1.1), omega (arith, ok.high)),
+      λ i. 12 ∷ (type_bytes x.0 ++ (type_bytes x.1.0 ++ counted (entries_count x.1.1 i) (entries_flat x.1.1 i))),
+    )
 
 composite_made : (h : ℕ) (x : TypeId × (ℕ × List PureField)) → IdInRange x.0 × ((x.1.0 < 2 ^ 64) × (((length x.1.1 < 2 ^ 32) × AllByRecursion (FieldOk h) x.1.1) × (names_differ x.1.1 ≡ true)))
     → ValueOk (suc h) (v.composite x.0 x.1.0 (fields_of x.1.1)) × (13 ∷ (id_bytes x.0 ++ (word x.1.0 ++ counted (length x.1.1) (flat_map field_bytes x.1.1))) ≡ value_bytes (v.composite x.0 x.1.0 (fields_of x.1.1)))
 composite_made h x valid =
     let ok = fields_valid h x.1.1 valid.1.1.0.1 in
-    let few : length (names (fields_of x.1.1)) < 2 ^ 32 = subst (λ (n : ℕ). n < 2 ^ 32) (fields_count x.1.1) valid.1.1.0.0 in
-    (((valid.0, valid.1.0, few, ok.in_range), (ok.are_forms, names_apart h x.1.1 valid.1.1.0.1 valid.1.1.1), omega (arith, ok.high)),
-    λ i. 13 ∷ (id_bytes x.0 ++ (word x.1.0 ++ counted (fields_count x.1.1 i) (fields_flat x.1.1 i))))
+    let few : length (names (fields_of x.1.1)) < 2 ^ 32 = subst (λ (n : ℕ). n < 2 ^ 32) (fields_count x.1.1) valid.1.1.0.0 in (
+      ((valid.0, valid.1.0, few, ok.in_range), (ok.are_forms, names_apart h x.1.1 valid.1.1.0.1 valid.1.1.1), omega (arith, ok.high)),
+      λ i. 13 ∷ (id_bytes x.0 ++ (word x.1.0 ++ counted (fields_count x.1.1 i) (fields_flat x.1.1 i))),
+    )
 
 abbrev read_as : PureValue → List ℕ → Option (PureValue × List ℕ)
 read_as x more = Some (x, more)
@@ -314,6 +316,6 @@ values_with_bytes =
     record {
       again = λ x rest has. all.again x rest (has.0, has.1.0, has.1.1);
       take = λ bytes x rest fits e.
-      let t = all.take bytes x rest fits e in
-      (t.0, (t.1.0, (t.1.1, t.1.2)));
+          let t = all.take bytes x rest fits e in
+          (t.0, (t.1.0, (t.1.1, t.1.2)));
     }

@@ -191,11 +191,7 @@ fn read_values(
 
 /// Reads a dictionary.
 #[cycle(reads)]
-fn read_dictionary(
-    alloc: Global,
-    inner: u32,
-    reader: &mut Reader<'_>,
-) -> Result<Value, DecodeError>
+fn read_dictionary(alloc: Global, inner: u32, reader: &mut Reader<'_>) -> Result<Value, DecodeError>
     ensures { ReadsAs pure_value result (spec.value_after (spec.value_at inner) form.Dictionary reader.old) reader.new }
 {
     let key = read_whole_type(alloc, reader)?;
@@ -246,11 +242,7 @@ fn read_entries(
 
 /// Reads a composite.
 #[cycle(reads)]
-fn read_composite(
-    alloc: Global,
-    inner: u32,
-    reader: &mut Reader<'_>,
-) -> Result<Value, DecodeError>
+fn read_composite(alloc: Global, inner: u32, reader: &mut Reader<'_>) -> Result<Value, DecodeError>
     ensures { ReadsAs pure_value result (spec.value_after (spec.value_at inner) form.Composite reader.old) reader.new }
 {
     let id = read_id(alloc, reader)?;
