@@ -1,8 +1,8 @@
 -- Expressions and statements without declared types: the value and the units left, an error, or Limit.
-use Rattle.std.specs.Prelude.{true, false, [], ◌∷◌, None, ◌≡◌, refl, codes}
-use Rattle.cad_syntax.specs.Types.{basic, optional, array, dictionary, reference}
+use Rattle.std.specs.Prelude.{ℕ, Bool, true, false, List, [], ◌∷◌, Option, Some, None, ◌≡◌, refl, codes}
+use Rattle.cad_syntax.specs.Types.{PureType, basic, optional, array, dictionary, declared, reference}
 use Rattle.cad_syntax.specs.declared.kind.Kind.TheVariants as k
-use Rattle.cad_syntax.specs.declared.types.Authorization.TheVariants.{Unauthorized}
+use Rattle.cad_syntax.specs.declared.types.Authorization.TheVariants.{Unauthorized, All}
 use Rattle.cad_syntax.specs.declared.types.Basic.TheVariants as b
 use Rattle.cad_grammar.specs.declared.expression.BinaryOperator.TheVariants as o
 use Rattle.cad_grammar.specs.declared.expression.UnaryOperator.TheVariants as u
@@ -11,7 +11,7 @@ use Rattle.cad_types.specs.declared.builtin.Builtin.TheVariants as m
 use Rattle.cad_num.specs.Numbers as n
 use Rattle.cad_declarations.specs.Typed as e
 use Rattle.cad_values.specs.Values as v
-use Rattle.cad_evaluation.proofs.SampleParts.{num, minus, int, literal, int_type, block, variable, gave, failed_with, without_units, ill_typed, alone}
+use Rattle.cad_evaluation.proofs.SampleParts.{num, minus, int, literal, int_type, named, block, variable, Seen, gave, failed_with, without_units, ill_typed, alone}
 
 -- 1 + 2 * 3
 sum : alone int_type (e.return_value 0 (e.binary o.Add (literal 1) (e.binary o.Multiply (literal 2) (literal 3))) int_type ∷ []) 9 ≡ gave (int 7) 8
@@ -239,7 +239,7 @@ unfolding n.outcome
 type_name = refl
 
 -- nil?.toString() evaluates no argument and takes no unit
-optional_receiver : alone (optional int_type) (e.declare 0 (variable 0 (optional int_type)) e.nil ∷ e.return_value 0 (e.chain (e.variable 0) (e.builtin_call m.SaturatingAdd [] (e.arguments_of (record { value = (e.binary o.Divide (literal 1) (literal 0)); target = int_type } ∷ []))) true) (optional int_type) ∷ []) 9 ≡ gave v.nil 7
+optional_receiver : alone (optional int_type) (e.declare 0 (variable 0 (optional int_type)) e.nil ∷ e.return_value 0 (e.chain (e.content (e.variable 0) false) (e.builtin_call m.SaturatingAdd [] (e.arguments_of (record { value = (e.binary o.Divide (literal 1) (literal 0)); target = int_type } ∷ []))) true) (optional int_type) ∷ []) 9 ≡ gave v.nil 7
 unfolding n.outcome
 optional_receiver = refl
 

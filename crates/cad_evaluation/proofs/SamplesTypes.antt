@@ -1,16 +1,18 @@
 -- Structs, resources, interfaces, events and references, beside a small contract.
-use Rattle.std.specs.Prelude.{true, false, [], ◌∷◌, ◌≡◌, refl}
-use Rattle.cad_syntax.specs.Types.{basic, optional, array, dictionary, declared, reference}
+use Rattle.std.specs.Prelude.{ℕ, Bool, true, false, List, [], ◌∷◌, Option, Some, None, ◌≡◌, refl, codes}
+use Rattle.cad_syntax.specs.Types.{PureType, basic, optional, array, dictionary, declared, reference}
 use Rattle.cad_syntax.specs.declared.kind.Kind.TheVariants as k
-use Rattle.cad_syntax.specs.declared.types.Authorization.TheVariants.{Unauthorized}
+use Rattle.cad_syntax.specs.declared.types.Authorization.TheVariants.{Unauthorized, All}
 use Rattle.cad_syntax.specs.declared.types.Basic.TheVariants as b
+use Rattle.cad_grammar.specs.declared.expression.BinaryOperator.TheVariants as o
+use Rattle.cad_grammar.specs.declared.expression.UnaryOperator.TheVariants as u
 use Rattle.cad_grammar.specs.declared.expression.CastKind.TheVariants as c
 use Rattle.cad_types.specs.declared.builtin.Builtin.TheVariants as m
 use Rattle.cad_num.specs.Numbers as n
 use Rattle.cad_declarations.specs.Typed as e
 use Rattle.cad_values.specs.Values as v
-use Rattle.cad_evaluation.proofs.SampleParts.{num, int, literal, int_type, block, variable, gave, failed_with, ill_typed}
-use Rattle.cad_evaluation.proofs.SampleContract.{c_id, s_id, r_id, gone_id, told_id, enum_id, right, n_name, list_name, add_name, kid_type, run, leaves, left, event}
+use Rattle.cad_evaluation.proofs.SampleParts.{num, minus, int, literal, int_type, named, block, variable, Seen, gave, failed_with, without_units, ill_typed, alone}
+use Rattle.cad_evaluation.proofs.SampleContract.{c_id, s_id, r_id, i_id, gone_id, told_id, enum_id, right, n_name, list_name, kid_name, add_name, kid_type, run, leaves, left, event}
 
 -- S(5).n: the call, two statements of the initializer, and a unit for its array
 struct_made : run int_type (e.return_value 0 (e.hold 0 (declared s_id) (e.construct s_id (e.arguments_of (record { value = (literal 5); target = int_type } ∷ []))) (e.on (e.variable 0) (e.get n_name Unauthorized))) int_type ∷ []) 9 ≡ gave (int 5) 4
@@ -103,7 +105,7 @@ unfolding n.outcome
 read_as_reference = refl
 
 -- a?.add(2): the receiver is the content, and the result is wrapped
-called_on_content : run (optional int_type) (e.declare 0 (variable 0 (optional (declared s_id))) (e.construct s_id (e.arguments_of (record { value = (literal 5); target = int_type } ∷ []))) ∷ e.return_value 0 (e.chain (e.variable 0) (e.method add_name false false (e.arguments_of (record { value = (literal 2); target = int_type } ∷ []))) true) (optional int_type) ∷ []) 25 ≡ gave (v.some (int 7)) 6
+called_on_content : run (optional int_type) (e.declare 0 (variable 0 (optional (declared s_id))) (e.construct s_id (e.arguments_of (record { value = (literal 5); target = int_type } ∷ []))) ∷ e.return_value 0 (e.chain (e.content (e.variable 0) false) (e.method add_name false false (e.arguments_of (record { value = (literal 2); target = int_type } ∷ []))) true) (optional int_type) ∷ []) 25 ≡ gave (v.some (int 7)) 6
 unfolding n.outcome
 called_on_content = refl
 
@@ -111,6 +113,16 @@ called_on_content = refl
 owned_list : run int_type (e.declare 0 (variable 0 (declared s_id)) (e.construct s_id (e.arguments_of (record { value = (literal 5); target = int_type } ∷ []))) ∷ e.expression 0 (e.on (e.field (e.variable 0) (declared s_id) list_name) (e.builtin_call m.ArrayAppend [] (e.arguments_of (record { value = (literal 6); target = int_type } ∷ [])))) ∷ e.return_value 0 (e.index (e.field (e.variable 0) (declared s_id) list_name) (array int_type) (literal 1)) int_type ∷ []) 25 ≡ gave (int 6) 14
 unfolding n.outcome
 owned_list = refl
+
+-- a!.add(2): the content isn't copied
+forced_place : run int_type (e.declare 0 (variable 0 (optional (declared s_id))) (e.construct s_id (e.arguments_of (record { value = (literal 5); target = int_type } ∷ []))) ∷ e.expression 0 (e.on (e.content (e.variable 0) true) (e.method add_name false false (e.arguments_of (record { value = (literal 2); target = int_type } ∷ [])))) ∷ e.return_value 0 (e.on (e.content (e.variable 0) true) (e.get n_name Unauthorized)) int_type ∷ []) 25 ≡ gave (int 7) 5
+unfolding n.outcome
+forced_place = refl
+
+-- a!.n of nil: 106
+forced_nil : run int_type (e.declare 0 (variable 0 (optional (declared s_id))) e.nil ∷ e.return_value 0 (e.on (e.content (e.variable 0) true) (e.get n_name Unauthorized)) int_type ∷ []) 25 ≡ failed_with 106
+unfolding n.outcome
+forced_nil = refl
 
 -- K.b.rawValue
 raw_value : run int_type (e.return_value 0 (e.hold 0 (declared enum_id) (e.case enum_id 1) (e.on (e.variable 0) (e.builtin_field m.EnumRawValue))) int_type ∷ []) 9 ≡ gave (int 1) 8
