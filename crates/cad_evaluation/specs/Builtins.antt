@@ -1,22 +1,21 @@
 -- The built-in members of numbers, texts, containers, types and enums, of any value, of resources and contracts, and the
 -- built-in functions.
 use Rattle.std.specs.Prelude.{ℕ, zero, suc, ◌+◌, ◌-◌, Bool, true, false, not, ◌&&◌, List, [], ◌∷◌, length, Option, Some, None, option_map, if◌then◌else◌}
-use Rattle.cad_syntax.specs.Types.{PureType, basic, declared, reference}
+use Rattle.cad_syntax.specs.Types.{PureType, declared}
 use Rattle.cad_syntax.specs.declared.address.Address.{Address}
-use Rattle.cad_syntax.specs.declared.types.Authorization.TheVariants.{Unauthorized}
-use Rattle.cad_syntax.specs.declared.types.Basic.TheVariants as b
 use Rattle.cad_num.specs.declared.saturation.Op.TheVariants.{Add, Sub, Mul, Div}
 use Rattle.cad_types.specs.declared.builtin.Builtin.{Builtin}
 use Rattle.cad_types.specs.declared.builtin.Builtin.TheVariants as m
 use Rattle.cad_declarations.specs.Builtins.{own_account, needed}
 use Rattle.cad_values.specs.Values as v
-use Rattle.cad_values.specs.declared.value.Target.TheVariants as to
-use Rattle.cad_world.specs.Rows.{NodeShape, Row, Tree, Slot, out, free, full, slot, found}
+use Rattle.cad_world.specs.Rows.{NodeShape, Row, Tree, found}
 use Rattle.cad_world.specs.Rows as rows
 use Rattle.cad_world.specs.State.{State, Account, Contract, Action, ◌>>=◌, ◌>>◌, give, stuck, fail, spend, by_truth, choose, with_some}
-use Rattle.cad_world.specs.Trees.{of_plain, nil_tree, tree_weight}
+use Rattle.cad_world.specs.Trees.{tree_weight}
 use Rattle.cad_world.specs.Receivers.{Spot}
 use Rattle.cad_evaluation.specs.Access.{has_right}
+use Rattle.cad_evaluation.specs.Accounts.{account_reference, any_account}
+use Rattle.cad_evaluation.specs.Arguments.{argument, with_argument, with_arguments}
 use Rattle.cad_evaluation.specs.Callees.{Calls, Front}
 use Rattle.cad_evaluation.specs.Numbers.{truth_of, on_numbers, saturating, converted, greatest_tree, least_tree}
 use Rattle.cad_evaluation.specs.Reading.{read_uuid, composite_id}
@@ -27,22 +26,6 @@ use Rattle.cad_evaluation.specs.Containers.{void_tree, array_contains, array_fir
 use Rattle.cad_evaluation.specs.Casts.{type_told, instance_told, type_in_value}
 use Rattle.cad_evaluation.specs.Making.{case_from}
 use Rattle.cad_evaluation.specs.Services.{service}
-
--- ---- arguments
-
-abbrev pub in_slot : Slot → Option Tree
-in_slot (full t) = Some t
-in_slot _ = None
-
--- the argument at a place of the row
-abbrev pub argument : ℕ → Row → Option Tree
-argument i r = in_slot (slot i r)
-
-abbrev pub with_argument : Row → (Tree → Action Tree) → Action Tree
-with_argument r f = with_some (argument 0 r) f
-
-abbrev pub with_arguments : Row → (Tree → Tree → Action Tree) → Action Tree
-with_arguments r f = with_some (argument 0 r) (λ a. with_some (argument 1 r) (λ b. f a b))
 
 -- ---- what the receiver is
 
@@ -145,14 +128,6 @@ search_cost m.ArrayFirstIndex spot = tree_weight spot.tree - 1
 search_cost _ spot = 0
 
 -- ---- accounts of resources and contracts
-
-abbrev pub account_reference : PureType → Address → Tree
-account_reference (reference a type) address = of_plain (v.reference a type (to.Account address))
-account_reference _ address = nil_tree
-
--- a reference without rights
-abbrev pub any_account : Address → Tree
-any_account address = account_reference (reference Unauthorized (basic b.Account)) address
 
 abbrev pub stands_in : ℕ → Row → Bool
 stands_in l r = is_some_found (found l r)

@@ -1,10 +1,10 @@
 -- What is called, and the front end by which contracts are added.
-use Rattle.std.specs.Prelude.{ℕ, List, Option}
-use Rattle.cad_syntax.specs.declared.address.Address.{Address}
+use Rattle.std.specs.Prelude.{ℕ}
 use Rattle.cad_syntax.specs.declared.text.Name.{Name}
 use Rattle.cad_syntax.specs.declared.type_id.TypeId.{TypeId}
 use Rattle.cad_world.specs.Rows.{Row, Tree}
-use Rattle.cad_world.specs.State.{Action, Contract, Program}
+use Rattle.cad_world.specs.State.{Action}
+pub use Rattle.cad_world.specs.Fronts.{Front}
 
 pub data Callee : Type 0 where
   -- a function of the type, whose receiver is the node with the label
@@ -19,7 +19,3 @@ pub data Callee : Type 0 where
 -- The arguments stand in the row in order. The unit of a call is taken before; the depth is tested here.
 abbrev pub Calls : Type 0
 Calls = Callee → Row → Action Tree
-
--- what a code is at an address, where it is accepted beside these contracts
-abbrev pub Front : Type 0
-Front = List Contract → Address → List ℕ → Option Program

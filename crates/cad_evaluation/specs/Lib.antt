@@ -1,4 +1,9 @@
 pub mod Callees
+pub mod Arguments
+pub mod Accounts
+pub mod Storage
+pub mod Capabilities
+pub mod Adding
 pub mod Services
 pub mod Access
 pub mod Numbers

@@ -1,6 +1,5 @@
 -- Structs, resources and enums that are made.
 use Rattle.std.specs.Prelude.{ℕ, suc, ◌-◌, ◌^◌, false, nat_lt, List, [], ◌∷◌, ◌++◌, length, Option, Some, None, option_map, option_and_then, ℤ, pos, negsuc, if◌then◌else◌}
-use Rattle.std.specs.Prelude.{codes, ◌^◌}
 use Rattle.cad_syntax.specs.declared.text.Name.{Name}
 use Rattle.cad_syntax.specs.declared.type_id.TypeId.{TypeId}
 use Rattle.cad_declarations.specs.Tables.{MemberEntry, MemberForm, TypeEntry, field, function}
@@ -9,14 +8,12 @@ use Rattle.cad_world.specs.Rows.{NodeShape, composite, Row, stop, gap, node, Tre
 use Rattle.cad_world.specs.State.{Action, ok, ◌>>=◌, ◌>>◌, give, done, stuck, require, guard, with_some}
 use Rattle.cad_world.specs.Trees.{whole, wrapped, nil_tree}
 use Rattle.cad_world.specs.Rows as rows
+use Rattle.cad_world.specs.Shapes.{raw_name}
 use Rattle.cad_world.specs.Declared.{entry_of, bodies_of}
 use Rattle.cad_evaluation.specs.Callees.{initializer, Calls}
 use Rattle.cad_evaluation.specs.Numbers.{number_of, number_tree, integer_in}
 
 -- ---- cases of enums
-
-abbrev pub raw_name : Name
-raw_name = record { 0 = codes "rawValue" }
 
 -- the case with this number, counted from 0
 abbrev pub case_of : TypeEntry → ℕ → Option Tree

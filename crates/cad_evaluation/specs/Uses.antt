@@ -16,7 +16,7 @@ use Rattle.cad_world.specs.Locations.{variable, key_position}
 use Rattle.cad_world.specs.Receivers.{Spot}
 use Rattle.cad_world.specs.Transfers.{rounded}
 use Rattle.cad_evaluation.specs.Access.{member_of, serves}
-use Rattle.cad_evaluation.specs.Builtins.{in_slot}
+use Rattle.cad_evaluation.specs.Arguments.{in_slot}
 use Rattle.cad_evaluation.specs.Callees.{method, Calls}
 use Rattle.cad_evaluation.specs.Changing.{Content, nothing, content, no_optional, content_of, fill, opened}
 use Rattle.cad_evaluation.specs.Containers.{room}

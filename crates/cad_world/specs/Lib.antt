@@ -8,3 +8,13 @@ pub mod OwnTypes
 pub mod Transfers
 pub mod Locations
 pub mod Receivers
+pub mod Orders
+pub mod Fronts
+pub mod Shapes
+pub mod Storable
+pub mod Fits
+pub mod Live
+pub mod Begin
+pub mod Marks
+pub mod Registers
+pub mod Sound
