@@ -5,7 +5,8 @@ use Rattle.std.proofs.lemmas.List.{append-nil}
 use Rattle.cad_wire.proofs.FieldLaws.{some_is}
 use Rattle.cad_wire.specs.Fields.{AreBytes}
 use Rattle.cad_wire.specs.declared.error.DecodeError.{DecodeError}
-use Rattle.cad_codec.specs.Code.Fields.{At, GivesAs}
+use Rattle.cad_codec.specs.Answers.{GivesAs}
+use Rattle.cad_codec.specs.Code.Fields.{At}
 use Rattle.cad_codec.specs.Code.Values.{whole}
 use Rattle.cad_codec.proofs.Formats.{IsFormat}
 

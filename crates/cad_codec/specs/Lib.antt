@@ -1,3 +1,4 @@
+pub mod Answers
 pub mod TypeBytes
 pub mod ValueBytes
 pub mod Ranges

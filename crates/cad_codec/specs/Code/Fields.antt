@@ -18,11 +18,6 @@ ReadsAs view (Ok x) read rest = read ≡ Some (view x, rest)
 ReadsAs view (Err Damaged) read rest = read ≡ None
 ReadsAs view (Err Memory) read rest = Unit {0}
 
-abbrev pub GivesAs : {A B : Type 0} → (A → B) → Result A DecodeError → Option B → Type 0
-GivesAs view (Ok x) read = read ≡ Some (view x)
-GivesAs view (Err Damaged) read = read ≡ None
-GivesAs view (Err Memory) read = Unit {0}
-
 -- one thing, and then another
 abbrev pub then_at : {A B : Type 0} → At A → At B → At (A × B)
 then_at first second bytes = first bytes >>= λ a. second a.1 >>= λ b. Some ((a.0, b.0), b.1)
