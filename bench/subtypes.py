@@ -16,14 +16,11 @@ from proved import build
 SOURCE = r"""//! Judges a pair of types many times.
 #![tactic(auto)]
 
-ghost use Rattle.std.specs.Prelude.{◌≤◌};
-ghost use Rattle.cad_syntax.specs.Types.{pure_type, nesting};
-
 use anyhow::{Context, Result, bail};
 use cad_syntax::{
     Address, Authorization, Basic, CadType, Name, Names, Text, TypeId, TypeIds, Types,
 };
-use cad_types::{DEEPEST, Declared, Kinds, Sort, all_nest, is_closed, is_subtype};
+use cad_types::{Declared, DeclaredTypes, Sort, is_closed, is_subtype};
 use std::alloc::{AllocError, Global};
 
 const INTERFACES: u64 = 1000;
@@ -137,23 +134,15 @@ fn declarations(alloc: Global, pair: &str, size: u64) -> Result<Vec<Declared>, A
 }
 
 // One of two types, so that no turn's answer is known from the turn before.
-fn is_one_below(kinds: &Kinds, a: &CadType, other: &CadType, b: &CadType, is_first: bool) -> bool
-    requires a_nests { nesting (pure_type a.now) ≤ 512 }
-    requires other_nests { nesting (pure_type other.now) ≤ 512 }
-    requires b_nests { nesting (pure_type b.now) ≤ 512 }
-{
-    if is_first { is_subtype(kinds, a, b) } else { is_subtype(kinds, other, b) }
+fn is_one_below(types: &DeclaredTypes, a: &CadType, other: &CadType, b: &CadType, is_first: bool) -> bool {
+    if is_first { is_subtype(types, a, b) } else { is_subtype(types, other, b) }
 }
 
-fn count(kinds: &Kinds, a: &CadType, other: &CadType, b: &CadType, turns: u64) -> u64
-    requires a_nests { nesting (pure_type a.now) ≤ 512 }
-    requires other_nests { nesting (pure_type other.now) ≤ 512 }
-    requires b_nests { nesting (pure_type b.now) ≤ 512 }
-{
+fn count(types: &DeclaredTypes, a: &CadType, other: &CadType, b: &CadType, turns: u64) -> u64 {
     let mut count = 0u64;
     let mut is_first = true;
     for _ in 0..turns {
-        let is_below = is_one_below(kinds, a, other, b, is_first);
+        let is_below = is_one_below(types, a, other, b, is_first);
         if is_below {
             count = count.saturating_add(1);
         }
@@ -164,17 +153,14 @@ fn count(kinds: &Kinds, a: &CadType, other: &CadType, b: &CadType, turns: u64) -
 
 fn judged(alloc: Global, pair: &str, size: u64, turns: u64) -> Result<u64> {
     let declared = declarations(alloc, pair, size)?;
-    if !is_closed(declared.as_slice()) || !all_nest(declared.as_slice()) {
+    if !is_closed(declared.as_slice()) {
         bail!("declarations");
     }
-    let kinds = Kinds::new(alloc, declared)?;
+    let types = DeclaredTypes::new(alloc, declared)?;
     let a = lower(alloc, pair, size)?;
     let other = lower(alloc, pair, size)?;
     let b = upper(alloc, pair, size)?;
-    if a.nesting(DEEPEST).is_none() || other.nesting(DEEPEST).is_none() || b.nesting(DEEPEST).is_none() {
-        bail!("depth");
-    }
-    Ok(count(&kinds, &a, &other, &b, turns))
+    Ok(count(&types, &a, &other, &b, turns))
 }
 
 fn run(rt: &HostRuntime) -> Result<()> {

@@ -2,9 +2,9 @@
 use Rattle.std.proofs.Common.{◌≡◌, ℕ, false, List, Option, Some, None, refl, sym, ap, subst, ◌∙◌, arith}
 use Rattle.std.specs.Prelude.{IfSome, is_some, option_map, option_and_then}
 use Rattle.std.specs.Str.{IsUtf8}
-use Rattle.cad_values.specs.declared.value.Value.{Value}
-use Rattle.cad_codec.specs.Spelling.{value_bytes, HasBytes}
-use Rattle.cad_codec.proofs.Decoded.{one}
+use Rattle.cad_number_codec.specs.declared.value.Value.{Value}
+use Rattle.cad_number_codec.specs.Spelling.{value_bytes, HasBytes}
+use Rattle.cad_number_codec.proofs.Decoded.{one}
 use Rattle.cad_accounts.specs.Registers.{Map, changed}
 use Rattle.cad_accounts.specs.Accounts.{Account, Accounts, StandsFor, IsInt, IsSoundAccount, Has, stored_key, stored_at, stored_as}
 use Rattle.cad_accounts.specs.Worlds.{HasAccount}

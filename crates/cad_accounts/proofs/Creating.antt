@@ -2,7 +2,7 @@
 use Rattle.std.proofs.Common.{◌≡◌, ℕ, ◌+◌, ◌^◌, ◌<◌, eqb, Bool, true, false, cond, List, ◌++◌, Option, Some, None, refl, sym, ap, subst, ◌∙◌, arith, inl, inr}
 use Rattle.std.specs.Prelude.{IfSome, ◌≢◌, option_map, option_and_then}
 use Rattle.std.proofs.lemmas.Bool.{cases_eq, cases_Bool, eqb-true, eq-eqb}
-use Rattle.cad_codec.specs.Spelling.{value_bytes}
+use Rattle.cad_number_codec.specs.Spelling.{value_bytes}
 use Rattle.cad_wire.specs.Fields.{number_field, number_at}
 use Rattle.cad_wire.proofs.FieldLaws.{number_again}
 use Rattle.cad_accounts.specs.Registers.{Map, same_key, changed}

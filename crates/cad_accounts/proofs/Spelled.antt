@@ -6,11 +6,11 @@ use Rattle.std.proofs.lemmas.Nat.{be_bytes_8, from_be_bytes-to_be_bytes_8}
 use Rattle.std.proofs.lemmas.List.{take-append-drop, length-take, get_or-take, get_or_past}
 use Rattle.cad_syntax.specs.declared.kind.Kind.TheVariants.{Int}
 use Rattle.cad_syntax.specs.declared.num.Num.{Num}
-use Rattle.cad_values.specs.declared.value.Value.{Value}
-use Rattle.cad_values.specs.declared.value.Value.TheVariants.{Number}
+use Rattle.cad_number_codec.specs.declared.value.Value.{Value}
+use Rattle.cad_number_codec.specs.declared.value.Value.TheVariants.{Number}
 use Rattle.cad_wire.specs.Fields.{number_field, AreBytes}
 use Rattle.cad_wire.specs.Reading.{Gives}
-use Rattle.cad_codec.specs.Spelling.{value_bytes, HasBytes}
+use Rattle.cad_number_codec.specs.Spelling.{value_bytes, HasBytes}
 use Rattle.cad_accounts.specs.Accounts.{IsInt}
 use Rattle.cad_accounts.specs.Code.InOrder.{IsHead, SpellsInt}
 

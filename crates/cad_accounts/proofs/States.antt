@@ -4,9 +4,9 @@ use Rattle.std.specs.Prelude.{IfSome, ◌≢◌, option_map, option_and_then, �
 use Rattle.std.specs.Str.{IsUtf8}
 use Rattle.std.proofs.lemmas.Bool.{cases_lt, eqb-true}
 use Rattle.cad_syntax.specs.declared.kind.Kind.TheVariants.{Int, Address}
-use Rattle.cad_values.specs.declared.value.Value.{Value}
-use Rattle.cad_codec.specs.Spelling.{value_bytes, HasBytes}
-use Rattle.cad_codec.proofs.Decoded.{one}
+use Rattle.cad_number_codec.specs.declared.value.Value.{Value}
+use Rattle.cad_number_codec.specs.Spelling.{value_bytes, HasBytes}
+use Rattle.cad_number_codec.proofs.Decoded.{one}
 use Rattle.cad_wire.specs.Fields.{number_field}
 use Rattle.cad_accounts.specs.Registers.{Map, no_registers}
 use Rattle.cad_accounts.specs.Accounts.{Account, Accounts, no_accounts, AreRegisters, StandsFor, IsSound, IsSoundAccount, IsInt, Has, IsKey, head, controller, stored}

@@ -3,8 +3,8 @@ use Rattle.std.proofs.Common.{◌≡◌, ℕ, ◌^◌, ◌<◌, eqb, Bool, true,
 use Rattle.std.specs.Prelude.{IfSome, ◌≢◌, option_map, option_and_then}
 use Rattle.std.specs.Str.{IsUtf8}
 use Rattle.std.proofs.lemmas.Bool.{cases_eq, cases_Bool, eq-eqb}
-use Rattle.cad_values.specs.declared.value.Value.{Value}
-use Rattle.cad_codec.specs.Spelling.{value_bytes}
+use Rattle.cad_number_codec.specs.declared.value.Value.{Value}
+use Rattle.cad_number_codec.specs.Spelling.{value_bytes}
 use Rattle.cad_wire.specs.Fields.{number_field}
 use Rattle.cad_accounts.specs.Registers.{Map, same_key, changed}
 use Rattle.cad_accounts.specs.Accounts.{Account, Accounts, AreRegisters, StandsFor, IsSound, IsSoundAccount, IsInt, Has, stored, stored_key, stored_bytes, stored_as, storing}

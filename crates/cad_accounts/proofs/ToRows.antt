@@ -3,9 +3,9 @@ use Rattle.std.proofs.Common.{◌≡◌, ◌≢◌, ◌⊎◌, ℕ, ◌+◌, ◌
 use Rattle.std.specs.Prelude.{option_map, option_and_then, IfSome}
 use Rattle.std.specs.Str.{IsUtf8}
 use Rattle.std.proofs.lemmas.Bool.{cases_eq, cases_lt, cases_Bool, eq-eqb, ne_eqb, cond-true, cond-false}
-use Rattle.cad_values.specs.declared.value.Value.{Value}
+use Rattle.cad_number_codec.specs.declared.value.Value.{Value}
 use Rattle.cad_wire.specs.Fields.{number_field}
-use Rattle.cad_codec.specs.Spelling.{value_bytes}
+use Rattle.cad_number_codec.specs.Spelling.{value_bytes}
 use Rattle.cad_accounts.specs.declared.row.Row.{Row}
 use Rattle.cad_accounts.specs.Registers.{Map, same_key, at, are_rising}
 use Rattle.cad_accounts.specs.Accounts.{Account, Accounts, IsInt, IsSoundAccount, Has, IsKey, StandsFor, head_key, controller_key, stored_key}

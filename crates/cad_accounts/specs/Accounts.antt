@@ -3,10 +3,10 @@ use Rattle.std.specs.Prelude.{◌≡◌, ◌≢◌, ℕ, ◌+◌, ◌<◌, ◌�
 use Rattle.std.specs.Str.{IsUtf8}
 use Rattle.cad_syntax.specs.declared.kind.Kind.TheVariants.{Int}
 use Rattle.cad_syntax.specs.declared.num.Num.{Num}
-use Rattle.cad_values.specs.declared.value.Value.{Value}
-use Rattle.cad_values.specs.declared.value.Value.TheVariants.{Number}
+use Rattle.cad_number_codec.specs.declared.value.Value.{Value}
+use Rattle.cad_number_codec.specs.declared.value.Value.TheVariants.{Number}
 use Rattle.cad_wire.specs.Fields.{number_field}
-use Rattle.cad_codec.specs.Spelling.{value_bytes}
+use Rattle.cad_number_codec.specs.Spelling.{value_bytes}
 use Rattle.cad_accounts.specs.declared.row.Row.{Row}
 use Rattle.cad_accounts.specs.Registers.{Map, same_key, at, are_rising, size_of}
 

@@ -1,6 +1,6 @@
 -- What a world stands over, and what it stands for.
 use Rattle.std.specs.Prelude.{◌≡◌, ◌≢◌, List, ℕ, None}
-use Rattle.cad_values.specs.declared.value.Value.{Value}
+use Rattle.cad_number_codec.specs.declared.value.Value.{Value}
 use Rattle.cad_accounts.specs.declared.stops.ValueStop.{ValueStop}
 use Rattle.cad_accounts.specs.declared.stops.ValueStop.TheVariants.{Occupied, Memory}
 use Rattle.cad_accounts.specs.Registers.{Map}

@@ -1,5 +1,5 @@
 // Why a call on accounts ended.
-use cad_values::Value;
+use cad_number_codec::Value;
 
 /// Why no account was made.
 #[derive(Clone, Copy, Debug, PartialEq, Eq)]

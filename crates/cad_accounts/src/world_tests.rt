@@ -7,7 +7,7 @@ ghost use Rattle.cad_accounts.specs.Worlds.{AreSound, HasAccount};
 
 use super::*;
 use cad_syntax::{Address, Kind, Name, Num, Text};
-use cad_values::Value;
+use cad_number_codec::Value;
 use std::alloc::{AllocError, Global};
 use std::test::*;
 

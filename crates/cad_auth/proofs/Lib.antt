@@ -1,3 +1,4 @@
 pub mod Covers
+pub mod CoverTests
 pub mod Least
 pub mod Stronger

@@ -1,3 +1,4 @@
 pub mod Code
 pub mod Grants
 pub mod Images
+pub mod Tests

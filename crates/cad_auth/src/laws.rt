@@ -1,6 +1,7 @@
 // Laws of the definitions, which hold of every authorization.
 ghost use Rattle.cad_auth.specs.Grants.{GrantsReflexive, GrantsTransitive, GrantsStronger};
 ghost use Rattle.cad_auth.specs.Images.{ImageStronger, ImageIsLeast, TargetsCover};
+ghost use Rattle.cad_auth.specs.Tests.{CoversTells, GrantsTells};
 
 /// Each authorization grants itself.
 pub fn grants_is_reflexive()
@@ -31,4 +32,14 @@ pub fn images_are_least()
 /// An authorization that grants another has targets that cover the other's image.
 pub fn targets_cover()
     ensures { TargetsCover }
+{}
+
+/// The test whether sets cover others tells it.
+pub fn cover_tests_tell()
+    ensures { CoversTells }
+{}
+
+/// The test whether an authorization grants another tells it.
+pub fn grant_tests_tell()
+    ensures { GrantsTells }
 {}

@@ -1,2 +1,5 @@
+pub mod TypeBytes
+pub mod ValueBytes
+pub mod Ranges
+pub mod Forms
 pub mod Code
-pub mod Spelling

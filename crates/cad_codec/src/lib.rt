@@ -1,15 +1,15 @@
-//! Values as bytes, both ways.
+//! Values and types as bytes, both ways.
 #![tactic(auto)]
 
-mod kind;
+mod distinct;
+mod form;
 mod laws;
 mod reading;
+mod reading_types;
 mod writing;
+mod writing_types;
 
 pub use cad_wire::DecodeError;
 pub use laws::one_spelling;
-pub use reading::decode;
-pub use writing::encode;
-
-#[cfg(test)]
-mod tests;
+pub use reading::{decode, decode_type};
+pub use writing::{encode, encode_type};

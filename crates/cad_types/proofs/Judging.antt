@@ -1,6 +1,7 @@
 -- Judging finds the greatest classes.
-use Rattle.std.proofs.Common.{◌≡◌, ◌≢◌, ℕ, suc, ◌+◌, ◌<◌, ◌≤◌, Bool, true, false, cond, ◌&&◌, ◌||◌, ◌↔◌, IsTrue, Option, Some, None, List, [], ◌∷◌, length, map, refl, ap, sym, ◌∙◌, subst, ◌⊎◌, inl, inr, arith}
+use Rattle.std.proofs.Common.{◌≡◌, ◌≢◌, ℕ, zero, suc, ◌+◌, ◌<◌, ◌≤◌, Bool, true, false, cond, ◌&&◌, ◌||◌, ◌↔◌, IsTrue, Option, Some, None, List, [], ◌∷◌, length, map, Result, Ok, Err, IfOk, Vec, get_or, slice_set, refl, ap, sym, ◌∙◌, subst, ◌⊎◌, inl, inr, arith}
 use Rattle.std.proofs.lemmas.Bool.{false≢true}
+use Rattle.std.proofs.lemmas.List.{length-set}
 use Rattle.std.specs.List.{list_all}
 use Rattle.cad_syntax.specs.TypeIds.{same_id}
 use Rattle.cad_syntax.specs.Types.{PureType, basic, optional, array, dictionary, intersection, declared, reference, capability, capability_of}
@@ -8,7 +9,7 @@ use Rattle.cad_syntax.specs.declared.type_id.TypeId.{TypeId}
 use Rattle.cad_syntax.proofs.Members.{and_both, or_cases, or_right}
 use Rattle.cad_types.specs.Declarations.{Declaration, declaration_of, found}
 use Rattle.cad_types.specs.Classes.{fields_in, has_sort, is_data_sort, is_carried_sort, is_void, storable_rule, importable_rule, carried_rule, exportable_rule, Keeps, Storable, Importable, Exportable}
-use Rattle.cad_types.specs.Code.Judged.{unmarked, marked, storable_by, importable_by, carried_by, exportable_by, is_importable_data, is_exportable_carried, kept, each_kept, refined, IsGreatest, IsJudged}
+use Rattle.cad_types.specs.Code.Judged.{unmarked, marked, storable_by, importable_by, carried_by, exportable_by, is_importable_data, is_exportable_carried, kept, each_kept, refined, IsGreatest, IsAtLeast, IsJudged}
 use Rattle.cad_types.specs.declared.declared.Declared.{Declared}
 use Rattle.cad_types.specs.declared.marks.Marks.{Marks}
 
@@ -82,12 +83,11 @@ module _ (k : List Declaration) (marks : List Marks) where
 
   -- Marks after a turn.
 
-  after : (Declaration → Marks → Marks) → Option Declaration → Marks → Marks
+  abbrev after : (Declaration → Marks → Marks) → Option Declaration → Marks → Marks
   after keep None m = unmarked
   after keep (Some d) m = keep d m
 
   marked_kept : (keep : Declaration → Marks → Marks) (ds : List Declaration) (ms : List Marks) (id : TypeId) → length ms ≡ length ds → marked ds (each_kept keep ds ms) id ≡ after keep (found ds id) (marked ds ms id)
-  unfolding after
   marked_kept keep [] ms id whole = refl
   marked_kept keep (d ∷ ds) [] id whole = absurd (omega arith)
   marked_kept keep (d ∷ ds) (m ∷ ms) id whole = go (same_id d.id id) (marked_kept keep ds ms id (omega arith))
@@ -153,13 +153,11 @@ module _ (k : List Declaration) (marks : List Marks) where
     -- A turn loses no type of a class.
 
     storable_after : (class : PureType → Bool) → Keeps (storable_rule k) class → (o : Option Declaration) (m : Marks) → list_all class (fields_in o) ≡ true → m.storable ≡ true → (after (kept k marks) o m).storable ≡ true
-    unfolding after
     storable_after class keeps None m fields e = refl
     storable_after class keeps (Some d) m fields e =
         and_true m.storable (list_all (storable_by k marks) d.fields) e (all_weaker class (storable_by k marks) d.fields (storable_inside class keeps) fields)
 
     importable_after : (class : PureType → Bool) → Keeps (importable_rule k) class → (o : Option Declaration) (m : Marks) → (has_sort is_data_sort o && list_all class (fields_in o)) ≡ true → m.importable ≡ true → (after (kept k marks) o m).importable ≡ true
-    unfolding after
     importable_after class keeps None m fields e = absurd (false≢true fields)
     importable_after class keeps (Some d) m fields e =
         let both = and_both (is_data_sort d.sort) (list_all class d.fields) fields in
@@ -167,14 +165,13 @@ module _ (k : List Declaration) (marks : List Marks) where
         (and_true (is_data_sort d.sort) (list_all (importable_by k marks) d.fields) both.0 (all_weaker class (importable_by k marks) d.fields (importable_inside class keeps) both.1))
 
     carried_after : (importable class : PureType → Bool) → Keeps (importable_rule k) importable → Keeps (exportable_rule k importable) class → (o : Option Declaration) (m : Marks) → (has_sort is_carried_sort o && list_all class (fields_in o)) ≡ true → m.carried ≡ true → (after (kept k marks) o m).carried ≡ true
-    unfolding after
     carried_after importable class keeps keeps' None m fields e = absurd (false≢true fields)
     carried_after importable class keeps keeps' (Some d) m fields e =
         let both = and_both (is_carried_sort d.sort) (list_all class d.fields) fields in
         and_true m.carried (is_exportable_carried k marks d) e
         (and_true (is_carried_sort d.sort) (list_all (exportable_by k marks) d.fields) both.0 (all_weaker class (exportable_by k marks) d.fields (exportable_inside importable class keeps keeps') both.1))
 
-    pub greatest_after : length marks ≡ length k → IsGreatest k (refined k marks)
+    greatest_after : length marks ≡ length k → IsGreatest k (refined k marks)
     greatest_after whole = record {
       storables = λ class keeps id e. rw (marked_kept (kept k marks) k marks id whole) (storable_after class keeps (found k id) (marked k marks id) (keeps (declared id) e) (greatest.storables class keeps id e));
       importables = λ class keeps id e. rw (marked_kept (kept k marks) k marks id whole) (importable_after class keeps (found k id) (marked k marks id) (keeps (declared id) e) (greatest.importables class keeps id e));
@@ -186,8 +183,11 @@ module _ (k : List Declaration) (marks : List Marks) where
   length_kept keep (d ∷ ds) [] whole = absurd (omega arith)
   length_kept keep (d ∷ ds) (m ∷ ms) whole = ap suc (length_kept keep ds ms (omega arith))
 
-  pub whole_after : length marks ≡ length k → length (refined k marks) ≡ length k
+  whole_after : length marks ≡ length k → length (refined k marks) ≡ length k
   whole_after whole = length_kept (kept k marks) k marks whole
+
+  pub at_least_after : IsAtLeast k marks → IsAtLeast k (refined k marks)
+  at_least_after before = record { whole = whole_after before.whole; greatest = greatest_after before.greatest before.whole }
 
   pub fewer_after : length marks ≡ length k → refined k marks ≢ marks → trues (refined k marks) < trues marks
   fewer_after whole changed =
@@ -202,17 +202,14 @@ module _ (k : List Declaration) (marks : List Marks) where
     stays id = ap (λ ms. marked k ms id) (sym judged.stable) ∙ marked_kept (kept k marks) k marks id judged.whole
 
     storable_fields : (o : Option Declaration) (m : Marks) → m ≡ after (kept k marks) o m → m.storable ≡ true → list_all (storable_by k marks) (fields_in o) ≡ true
-    unfolding after
     storable_fields None m e holds = refl
     storable_fields (Some d) m e holds = (and_both m.storable (list_all (storable_by k marks) d.fields) (sym (ap (λ (x : Marks). x.storable) e) ∙ holds)).1
 
     importable_fields : (o : Option Declaration) (m : Marks) → m ≡ after (kept k marks) o m → m.importable ≡ true → (has_sort is_data_sort o && list_all (importable_by k marks) (fields_in o)) ≡ true
-    unfolding after
     importable_fields None m e holds = absurd (false≢true (sym (ap (λ (x : Marks). x.importable) e) ∙ holds))
     importable_fields (Some d) m e holds = (and_both m.importable (is_importable_data k marks d) (sym (ap (λ (x : Marks). x.importable) e) ∙ holds)).1
 
     carried_fields : (o : Option Declaration) (m : Marks) → m ≡ after (kept k marks) o m → m.carried ≡ true → (has_sort is_carried_sort o && list_all (exportable_by k marks) (fields_in o)) ≡ true
-    unfolding after
     carried_fields None m e holds = absurd (false≢true (sym (ap (λ (x : Marks). x.carried) e) ∙ holds))
     carried_fields (Some d) m e holds = (and_both m.carried (is_exportable_carried k marks d) (sym (ap (λ (x : Marks). x.carried) e) ∙ holds)).1
 
@@ -294,7 +291,7 @@ unmarked_none (d ∷ ds) (m ∷ ms) id e = go (same_id d.id id) e (unmarked_none
 abbrev pub all_marks : Marks
 all_marks = record { storable = true; importable = true; carried = true }
 
-pub greatest_first : (ds : List Declared) (ms : List Marks) → ms ≡ map (λ d. all_marks) ds → IsGreatest (map declaration_of ds) ms
+greatest_first : (ds : List Declared) (ms : List Marks) → ms ≡ map (λ d. all_marks) ds → IsGreatest (map declaration_of ds) ms
 greatest_first ds ms e =
     let k = map declaration_of ds in
     let of_all : (id : TypeId) → (marked k ms id ≡ all_marks) ⊎ (found k id ≡ None) = λ id. subst (λ (x : List Marks). (marked k x id ≡ all_marks) ⊎ (found k id ≡ None)) (sym e) (all_or_none all_marks ds id) in
@@ -310,9 +307,77 @@ greatest_first ds ms e =
       ];
     }
 
-pub whole_first : (ds : List Declared) (ms : List Marks) → ms ≡ map (λ d. all_marks) ds → length ms ≡ length (map declaration_of ds)
+whole_first : (ds : List Declared) (ms : List Marks) → ms ≡ map (λ d. all_marks) ds → length ms ≡ length (map declaration_of ds)
 whole_first ds ms e = rw e (same_length ds)
   where
     same_length : (ds : List Declared) → length (map (λ d. all_marks) ds) ≡ length (map declaration_of ds)
     same_length [] = refl
     same_length (d ∷ ds) = ap suc (same_length ds)
+
+at_least_first : (ds : List Declared) (ms : List Marks) → ms ≡ map (λ d. all_marks) ds → IsAtLeast (map declaration_of ds) ms
+at_least_first ds ms e = record { whole = whole_first ds ms e; greatest = greatest_first ds ms e }
+
+pub at_least_of : {A E : Type 0} (k : List Declaration) (ds : List Declared) → map declaration_of ds ≡ k → (result : Result (Vec Marks A) E) → IfOk result (λ marks. marks.items ≡ map (λ d. all_marks) ds) → IfOk result (λ marks. IsAtLeast k marks.items)
+at_least_of k ds are (Ok marks) first = subst (λ (x : List Declaration). IsAtLeast x marks.items) are (at_least_first ds marks.items first)
+at_least_of k ds are (Err e) first = tt
+
+-- One declaration loses marks.
+
+-- marks with others at one place: what is found there, or what was found before
+set_marked : (ds : List Declared) (ms : List Marks) (place : ℕ) (new : Marks) (d : Declared) (m : Marks) (id : TypeId) → place < length ds → length ms ≡ length (map declaration_of ds)
+    → (marked (map declaration_of ds) (slice_set ms place new) id ≡ marked (map declaration_of ds) ms id)
+    ⊎ ((found (map declaration_of ds) id ≡ Some (declaration_of (get_or ds place d))) × (marked (map declaration_of ds) (slice_set ms place new) id ≡ new) × (marked (map declaration_of ds) ms id ≡ get_or ms place m))
+set_marked [] ms place new d m id below whole = absurd (omega arith)
+set_marked (x ∷ ds) [] place new d m id below whole = absurd (omega arith)
+set_marked (x ∷ ds) (y ∷ ms) zero new d m id below whole = go (same_id x.id id)
+  where
+    go : (b : Bool) → (cond b new (marked (map declaration_of ds) ms id) ≡ cond b y (marked (map declaration_of ds) ms id))
+        ⊎ ((cond b (Some (declaration_of x)) (found (map declaration_of ds) id) ≡ Some (declaration_of x)) × (cond b new (marked (map declaration_of ds) ms id) ≡ new) × (cond b y (marked (map declaration_of ds) ms id) ≡ y))
+    go true = inr (refl, refl, refl)
+    go false = inl refl
+set_marked (x ∷ ds) (y ∷ ms) (suc place) new d m id below whole = go (same_id x.id id) (set_marked ds ms place new d m id (omega arith) (omega arith))
+  where
+    rest_old : Marks
+    rest_old = marked (map declaration_of ds) ms id
+
+    rest_new : Marks
+    rest_new = marked (map declaration_of ds) (slice_set ms place new) id
+
+    go : (b : Bool) → (rest_new ≡ rest_old) ⊎ ((found (map declaration_of ds) id ≡ Some (declaration_of (get_or ds place d))) × (rest_new ≡ new) × (rest_old ≡ get_or ms place m))
+        → (cond b y rest_new ≡ cond b y rest_old) ⊎ ((cond b (Some (declaration_of x)) (found (map declaration_of ds) id) ≡ Some (declaration_of (get_or ds place d))) × (cond b y rest_new ≡ new) × (cond b y rest_old ≡ get_or ms place m))
+    go true h = inl refl
+    go false h = h
+
+-- a fact of an identifier's marks that is true of the old ones, and of those that its declaration keeps
+kept_or_same : (P : Marks → Type 0) (k : List Declaration) (marks : List Marks) (d : Declaration) (old new later : Marks) (id : TypeId) → new ≡ kept k marks d old
+    → (later ≡ marked k marks id) ⊎ ((found k id ≡ Some d) × (later ≡ new) × (marked k marks id ≡ old)) → P (marked k marks id) → (found k id ≡ Some d → P (kept k marks d (marked k marks id))) → P later
+kept_or_same P k marks d old new later id is (inl same) before step = subst P (sym same) before
+kept_or_same P k marks d old new later id is (inr h) before step =
+    subst P (sym (h.1 ∙ is ∙ ap (kept k marks d) (sym h.2))) (step h.0)
+
+lowered : (ds : List Declared) (marks : List Marks) (place : ℕ) (new : Marks) (d : Declared) (m : Marks) → place < length ds → IsAtLeast (map declaration_of ds) marks
+    → new ≡ kept (map declaration_of ds) marks (declaration_of (get_or ds place d)) (get_or marks place m) → IsAtLeast (map declaration_of ds) (slice_set marks place new)
+lowered ds marks place new d m below before is =
+    let k = map declaration_of ds in
+    let x = declaration_of (get_or ds place d) in
+    let old = get_or marks place m in
+    let here = λ (id : TypeId). set_marked ds marks place new d m id below before.whole in
+    let then_marked = marked k (slice_set marks place new) in
+    record {
+      whole = length-set marks place new ∙ before.whole;
+      greatest = record {
+        storables = λ class keeps id e. kept_or_same (λ (n : Marks). n.storable ≡ true) k marks x old new (then_marked id) id is (here id) (before.greatest.storables class keeps id e) (λ f.
+            subst (λ (o : Option Declaration). (after k marks (kept k marks) o (marked k marks id)).storable ≡ true) f (storable_after k marks before.greatest class keeps (found k id) (marked k marks id) (keeps (declared id) e) (before.greatest.storables class keeps id e)));
+        importables = λ class keeps id e. kept_or_same (λ (n : Marks). n.importable ≡ true) k marks x old new (then_marked id) id is (here id) (before.greatest.importables class keeps id e) (λ f.
+            subst (λ (o : Option Declaration). (after k marks (kept k marks) o (marked k marks id)).importable ≡ true) f (importable_after k marks before.greatest class keeps (found k id) (marked k marks id) (keeps (declared id) e) (before.greatest.importables class keeps id e)));
+        carrieds = λ importable class keeps keeps' id e. kept_or_same (λ (n : Marks). n.carried ≡ true) k marks x old new (then_marked id) id is (here id) (before.greatest.carrieds importable class keeps keeps' id e) (λ f.
+            subst (λ (o : Option Declaration). (after k marks (kept k marks) o (marked k marks id)).carried ≡ true) f (carried_after k marks before.greatest importable class keeps keeps' (found k id) (marked k marks id) e (before.greatest.carrieds importable class keeps keeps' id e)));
+      };
+    }
+
+pub lowered_of : (k : List Declaration) (ds : List Declared) (marks : List Marks) (place : ℕ) (new : Marks) (d : Declared) (m : Marks) → map declaration_of ds ≡ k → place < length ds → IsAtLeast k marks
+    → new ≡ kept k marks (declaration_of (get_or ds place d)) (get_or marks place m) → IsAtLeast k (slice_set marks place new)
+lowered_of k ds marks place new d m are below before is =
+    subst (λ (x : List Declaration). IsAtLeast x (slice_set marks place new)) are
+    (lowered ds marks place new d m below (subst (λ (x : List Declaration). IsAtLeast x marks) (sym are) before)
+    (subst (λ (x : List Declaration). new ≡ kept x marks (declaration_of (get_or ds place d)) (get_or marks place m)) (sym are) is))

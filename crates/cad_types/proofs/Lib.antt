@@ -1,4 +1,9 @@
+pub mod Conditions
 pub mod Order
+pub mod Decision
+pub mod Reading
+pub mod Transfers
+pub mod Growing
 pub mod Turns
 pub mod Judging
 pub mod Closed

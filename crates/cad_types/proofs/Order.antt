@@ -1,5 +1,5 @@
 -- The order by recursion is reflexive and transitive, and is the least relation with the rules.
-use Rattle.std.proofs.Common.{◌≡◌, Bool, true, false, not, ◌||◌, ◌↔◌, IsTrue, List, Contains, refl, ap, sym, ◌∙◌, subst, ◌⊎◌, inl, inr}
+use Rattle.std.proofs.Common.{◌≡◌, Bool, true, false, not, ◌||◌, List, Contains, refl, ap, sym, ◌∙◌, subst, ◌⊎◌, inl, inr}
 use Rattle.std.proofs.lemmas.Bool.{false≢true}
 use Rattle.std.specs.List.{list_any, list_all}
 use Rattle.cad_syntax.specs.TypeIds.{same_id, has}
@@ -14,7 +14,8 @@ use Rattle.cad_auth.proofs.Covers.{covers_itself, covers_on, has_to, to_has}
 use Rattle.cad_types.specs.Declarations.{Declaration, interfaces_of, is_any_resource, is_resource_id, resource, IsClosed}
 use Rattle.cad_types.specs.Sub as s
 use Rattle.cad_types.specs.Sub.{Sub, is_optional, HasInterface}
-use Rattle.cad_types.specs.Below.{is_never, reaches_resource, by_class, is_path_into, BasicBelow, has_interface, Narrower, Conforms, Below}
+use Rattle.cad_types.specs.Below.{is_never, reaches_resource, by_class, is_path_into, has_interface}
+use Rattle.cad_types.proofs.Conditions.{BasicBelow, Narrower, Conforms, Below}
 
 not_false : (x : Bool) → not x ≡ true → x ≡ false
 not_false true e = absurd (false≢true e)
@@ -505,7 +506,3 @@ module _ (k : List Declaration) where
   to_sub (capability_of t) capability h = s.capability_untyped
   to_sub (capability_of t) (basic c) h = plain_sub (capability_of t) false c refl refl h
   to_sub (capability_of t) u h = absurd h
-
--- the answer of the test
-pub tells_sub : (k : List Declaration) (r : Bool) (t u : PureType) → IsClosed k → (IsTrue r ↔ Below k t u) → (IsTrue r ↔ Sub k t u)
-tells_sub k r t u closed h = (λ yes. to_sub k t u (h.0 yes), λ sub. h.1 (from_sub k closed sub))

@@ -1,5 +1,5 @@
 -- The loops of judging.
-use Rattle.std.proofs.Common.{◌≡◌, ℕ, zero, suc, ◌+◌, ◌<◌, Bool, true, false, ◌&&◌, ◌||◌, List, [], ◌∷◌, length, map, drop, get_or, refl, ap, sym, ◌∙◌, add-one, arith}
+use Rattle.std.proofs.Common.{◌≡◌, ℕ, zero, suc, ◌+◌, ◌<◌, Bool, true, false, cond, ◌&&◌, ◌||◌, Option, Some, None, option_map, subst, List, [], ◌∷◌, length, map, drop, get_or, refl, ap, sym, ◌∙◌, add-one, arith}
 use Rattle.std.proofs.lemmas.Bool.{false≢true}
 use mathlib.Core.Bool.{beq}
 use Rattle.std.specs.List.{list_any}
@@ -9,7 +9,8 @@ use Rattle.cad_syntax.proofs.Same.{Tells}
 use Rattle.cad_syntax.specs.declared.type_id.TypeId.{TypeId}
 use Rattle.cad_types.specs.Declarations.{Declaration, declaration_of, interfaces_of}
 use Rattle.cad_types.specs.Below.{has_interface}
-use Rattle.cad_types.specs.Code.Judged.{marked, unmarked}
+use Rattle.cad_types.specs.Code.Declarations.{place_of}
+use Rattle.cad_types.specs.Code.Judged.{marked, marks_at, unmarked}
 use Rattle.cad_types.specs.declared.declared.Declared.{Declared}
 use Rattle.cad_types.specs.declared.marks.Marks.{Marks}
 
@@ -67,3 +68,18 @@ some_of_two p q (x ∷ xs) = ap (λ r. (p x || q x) || r) (some_of_two p q xs) �
 -- an interface is had where it is there itself or one of those there has it
 pub interface_by : (k : List Declaration) (ids : List TypeId) (id : TypeId) → has_interface k ids id ≡ (has ids id || list_any (λ i. has (interfaces_of k i) id) ids)
 interface_by k ids id = some_of_two (λ i. same_id i id) (λ i. has (interfaces_of k i) id) ids
+
+-- the marks of an identifier are those at the place of its first declaration
+pub marked_there : (k : List Declaration) (marks : List Marks) (id : TypeId) (place : ℕ) → place_of k id ≡ Some place → marked k marks id ≡ marks_at marks place
+marked_there [] marks id place e = cc
+marked_there (d ∷ ds) [] id place e = sym (nothing_at place)
+  where
+    nothing_at : (place : ℕ) → marks_at [] place ≡ unmarked
+    nothing_at zero = refl
+    nothing_at (suc place) = refl
+marked_there (d ∷ ds) (m ∷ ms) id place e = go (same_id d.id id) (place_of ds id) (marked_there ds ms id) e
+  where
+    go : (b : Bool) (o : Option ℕ) → ((p : ℕ) → o ≡ Some p → marked ds ms id ≡ marks_at ms p) → cond b (Some 0) (option_map suc o) ≡ Some place → cond b m (marked ds ms id) ≡ marks_at (m ∷ ms) place
+    go true o rest e = let z : 0 ≡ place = cc in subst (λ (p : ℕ). m ≡ marks_at (m ∷ ms) p) z refl
+    go false None rest e = cc
+    go false (Some p) rest e = let z : suc p ≡ place = cc in subst (λ (q : ℕ). marked ds ms id ≡ marks_at (m ∷ ms) q) z (rest p refl)

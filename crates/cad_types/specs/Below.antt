@@ -1,12 +1,13 @@
--- The order of types by recursion, which needs no steps between.
-use Rattle.std.specs.Prelude.{◌≡◌, Bool, true, false, not, ◌||◌, ◌⊎◌, List}
+-- The order of types as a test, by recursion, which needs no steps between.
+use Rattle.std.specs.Prelude.{Bool, true, false, not, ◌&&◌, ◌||◌, List}
 use Rattle.std.specs.List.{list_any, list_all}
 use Rattle.cad_syntax.specs.TypeIds.{same_id, has}
 use Rattle.cad_syntax.specs.Types.{PureType, basic, optional, array, dictionary, intersection, declared, reference, capability, capability_of}
 use Rattle.cad_syntax.specs.declared.type_id.TypeId.{TypeId}
 use Rattle.cad_syntax.specs.declared.types.Basic.{Basic}
 use Rattle.cad_syntax.specs.declared.types.Basic.TheVariants as b
-use Rattle.cad_auth.specs.Grants.{Grants}
+use Rattle.cad_auth.specs.Tests.{grants}
+use Rattle.cad_types.specs.Basics.{same_basic}
 use Rattle.cad_types.specs.Declarations.{Declaration, interfaces_of, resource, is_any_resource, is_resource_id}
 
 abbrev pub is_never : Basic → Bool
@@ -36,45 +37,52 @@ is_path_into b.StoragePath b.Path = true
 is_path_into b.PublicPath b.Path = true
 is_path_into _ _ = false
 
-abbrev pub BasicBelow : Basic → Basic → Type 0
-BasicBelow t u = (t ≡ u) ⊎ ((is_never t || (by_class (is_any_resource t) (is_any_resource t) u || is_path_into t u)) ≡ true)
+abbrev pub same_truth : Bool → Bool → Bool
+same_truth true x = x
+same_truth false x = not x
 
+abbrev pub below_basic : Basic → Basic → Bool
+below_basic t u = same_basic t u || (is_never t || (by_class (is_any_resource t) (is_any_resource t) u || is_path_into t u))
+
+-- one of these interfaces is that interface, or has it
 abbrev pub has_interface : List Declaration → List TypeId → TypeId → Bool
 has_interface k ids id = list_any (λ i. same_id i id || has (interfaces_of k i) id) ids
 
 -- the interfaces of one intersection are had by another of its class
-abbrev pub Narrower : List Declaration → List TypeId → List TypeId → Type 0
-Narrower k these those = (list_any (is_resource_id k) these ≡ list_any (is_resource_id k) those) × (list_all (has_interface k these) those ≡ true)
+abbrev pub narrower : List Declaration → List TypeId → List TypeId → Bool
+narrower k these those = same_truth (list_any (is_resource_id k) these) (list_any (is_resource_id k) those) && list_all (has_interface k these) those
 
-abbrev pub Conforms : List Declaration → TypeId → List TypeId → Type 0
-Conforms k id ids = (is_resource_id k id ≡ list_any (is_resource_id k) ids) × (list_all (has (interfaces_of k id)) ids ≡ true)
+-- a declared type has these interfaces, and is of their class
+abbrev pub conforms : List Declaration → TypeId → List TypeId → Bool
+conforms k id ids = same_truth (is_resource_id k id) (list_any (is_resource_id k) ids) && list_all (has (interfaces_of k id)) ids
 
-abbrev pub Below : List Declaration → PureType → PureType → Type 0
-Below k (basic t) (basic u) = BasicBelow t u
-Below k (basic t) _ = is_never t ≡ true
-Below k (optional t) (optional u) = Below k t u
-Below k (optional t) (basic u) = by_class (resource k t) false u ≡ true
-Below k (optional t) _ = ⊥
-Below k (array t) (array u) = Below k t u
-Below k (array t) (basic u) = by_class (resource k t) (reaches_resource k t) u ≡ true
-Below k (array t) _ = ⊥
-Below k (dictionary p t) (dictionary q u) = Below k p q × Below k t u
-Below k (dictionary p t) (basic u) = by_class (resource k t) (reaches_resource k t) u ≡ true
-Below k (dictionary p t) _ = ⊥
-Below k (intersection these) (intersection those) = Narrower k these those
-Below k (intersection these) (basic u) = by_class (list_any (is_resource_id k) these) (list_any (is_resource_id k) these) u ≡ true
-Below k (intersection these) _ = ⊥
-Below k (declared id) (declared other) = id ≡ other
-Below k (declared id) (intersection ids) = Conforms k id ids
-Below k (declared id) (basic u) = by_class (is_resource_id k id) (is_resource_id k id) u ≡ true
-Below k (declared id) _ = ⊥
-Below k (reference x t) (reference y u) = Grants x y × Below k t u
-Below k (reference x t) (basic u) = by_class false false u ≡ true
-Below k (reference x t) _ = ⊥
-Below k capability capability = Unit {0}
-Below k capability (basic u) = by_class false false u ≡ true
-Below k capability _ = ⊥
-Below k (capability_of t) (capability_of u) = Below k t u
-Below k (capability_of t) capability = Unit {0}
-Below k (capability_of t) (basic u) = by_class false false u ≡ true
-Below k (capability_of t) _ = ⊥
+-- t is below u
+abbrev pub below : List Declaration → PureType → PureType → Bool
+below k (basic t) (basic u) = below_basic t u
+below k (basic t) _ = is_never t
+below k (optional t) (optional u) = below k t u
+below k (optional t) (basic u) = by_class (resource k t) false u
+below k (optional t) _ = false
+below k (array t) (array u) = below k t u
+below k (array t) (basic u) = by_class (resource k t) (reaches_resource k t) u
+below k (array t) _ = false
+below k (dictionary p t) (dictionary q u) = below k p q && below k t u
+below k (dictionary p t) (basic u) = by_class (resource k t) (reaches_resource k t) u
+below k (dictionary p t) _ = false
+below k (intersection these) (intersection those) = narrower k these those
+below k (intersection these) (basic u) = by_class (list_any (is_resource_id k) these) (list_any (is_resource_id k) these) u
+below k (intersection these) _ = false
+below k (declared id) (declared other) = same_id id other
+below k (declared id) (intersection ids) = conforms k id ids
+below k (declared id) (basic u) = by_class (is_resource_id k id) (is_resource_id k id) u
+below k (declared id) _ = false
+below k (reference x t) (reference y u) = grants x y && below k t u
+below k (reference x t) (basic u) = by_class false false u
+below k (reference x t) _ = false
+below k capability capability = true
+below k capability (basic u) = by_class false false u
+below k capability _ = false
+below k (capability_of t) (capability_of u) = below k t u
+below k (capability_of t) capability = true
+below k (capability_of t) (basic u) = by_class false false u
+below k (capability_of t) _ = false

@@ -1,8 +1,9 @@
 -- Declarations of types, and what is found in a list of them.
-use Rattle.std.specs.Prelude.{◌≡◌, Bool, true, false, List, [], ◌∷◌, Option, Some, None, map, nat_le, if◌then◌else◌}
-use Rattle.std.specs.List.{list_any, list_all}
+use Rattle.std.specs.Prelude.{◌≡◌, Bool, true, false, List, [], ◌∷◌, Option, Some, None, map, if◌then◌else◌}
+use Rattle.std.specs.List.{list_any}
+use Rattle.std.specs.Option.{is_some}
 use Rattle.cad_syntax.specs.TypeIds.{same_id, has}
-use Rattle.cad_syntax.specs.Types.{PureType, basic, optional, array, dictionary, intersection, declared, reference, capability, capability_of, pure_type, nesting}
+use Rattle.cad_syntax.specs.Types.{PureType, basic, optional, array, dictionary, intersection, declared, reference, capability, capability_of, pure_type}
 use Rattle.cad_syntax.specs.declared.type_id.TypeId.{TypeId}
 use Rattle.cad_syntax.specs.declared.types.Basic.{Basic}
 use Rattle.cad_syntax.specs.declared.types.Basic.TheVariants as b
@@ -24,6 +25,9 @@ declaration_of d = record { id = d.id; sort = d.sort; fields = map pure_type d.f
 abbrev pub found : List Declaration → TypeId → Option Declaration
 found [] id = None
 found (d ∷ ds) id = if same_id d.id id then Some d else found ds id
+
+abbrev pub is_declared : List Declaration → TypeId → Bool
+is_declared k id = is_some (found k id)
 
 abbrev pub interfaces_in : Option Declaration → List TypeId
 interfaces_in None = []
@@ -66,10 +70,3 @@ resource k (capability_of t) = false
 -- the interfaces of an interface that a type has are its own too
 abbrev pub IsClosed : List Declaration → Type 0
 IsClosed k = (i j m : TypeId) → has (interfaces_of k i) j ≡ true → has (interfaces_of k j) m ≡ true → has (interfaces_of k i) m ≡ true
-
--- no field's type nests more than 512 deep
-abbrev pub fields_nest : Declaration → Bool
-fields_nest d = list_all (λ t. nat_le (nesting t) 512) d.fields
-
-abbrev pub all_nest : List Declaration → Bool
-all_nest k = list_all fields_nest k

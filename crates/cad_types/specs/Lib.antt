@@ -1,7 +1,10 @@
+pub mod Basics
 pub mod Below
 pub mod Classes
 pub mod Code
 pub mod Declarations
+pub mod Growth
 pub mod Laws
+pub mod Optionals
 pub mod Sub
 pub mod Views

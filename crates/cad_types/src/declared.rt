@@ -1,12 +1,14 @@
 // Declared types.
-ghost use Rattle.std.specs.Prelude.{◌≡◌, ◌↔◌, IsTrue, IfSome, Some, true, map, option_map, nat_le};
+ghost use Rattle.std.specs.Prelude.{◌≡◌, ◌↔◌, IsTrue, IfOk, IfSome, Some, true, map, option_map};
 ghost use Rattle.std.specs.List.{list_all};
-ghost use Rattle.cad_syntax.specs.TypeIds.{has};
-ghost use Rattle.cad_syntax.specs.Types.{nesting, pure_type};
+ghost use Rattle.cad_syntax.specs.TypeIds.{has, type_text};
+ghost use Rattle.cad_syntax.specs.Types.{pure_type};
 ghost use Rattle.cad_types.specs.Declarations as spec;
 ghost use Rattle.cad_types.specs.Code.Declarations as tests;
 
-use cad_syntax::{CadType, TypeId, TypeIds, Types, contains};
+use cad_syntax::{TypeId, TypeIds, Types, contains};
+use std::alloc::{AllocError, Global};
+use std::collections::HashSet;
 
 /// What a declared type is.
 #[derive(Clone, Copy, Debug, PartialEq, Eq)]
@@ -30,9 +32,6 @@ pub struct Declared {
     pub interfaces: TypeIds,
 }
 
-/// How deep a type may nest.
-pub const DEEPEST: u32 = 512;
-
 /// The first declaration of an identifier.
 pub(crate) fn find<'a>(declared: &'a [Declared], id: &TypeId) -> Option<&'a Declared>
     ensures { option_map (λ d. spec.declaration_of d.now) result ≡ spec.found (map spec.declaration_of declared.now) id.now }
@@ -45,27 +44,28 @@ pub(crate) fn find<'a>(declared: &'a [Declared], id: &TypeId) -> Option<&'a Decl
     None
 }
 
-fn is_declared(declared: &[Declared], id: &TypeId) -> bool
-    ensures { result ≡ tests.is_declared (map spec.declaration_of declared.now) id.now }
+/// Whether no two identifiers have one text, and so none is declared twice.
+pub(crate) fn are_distinct(alloc: Global, declared: &[Declared]) -> Result<bool, AllocError>
+    ensures { IfOk result (λ distinct. distinct ≡ true → tests.all_distinct (map spec.declaration_of declared.now) ≡ true) }
 {
-    match find(declared, id) {
-        Some(_) => true,
-        None => false,
+    let mut texts = HashSet::new(alloc);
+    let mut left = declared.len();
+    while left > 0 {
+        left -= 1;
+        let text = text_of(alloc, &declared[left].id)?;
+        if !texts.insert(text)? {
+            return Ok(false);
+        }
     }
+    Ok(true)
 }
 
-/// Whether no identifier is declared twice.
-pub(crate) fn are_distinct(declared: &[Declared]) -> bool
-    ensures { result ≡ tests.all_distinct (map spec.declaration_of declared.now) }
+/// The bytes of an identifier's text.
+fn text_of(alloc: Global, id: &TypeId) -> Result<Vec<u8>, AllocError>
+    ensures { IfOk result (λ text. text.items ≡ type_text id.now) }
 {
-    let mut left = declared;
-    while let [first, others @ ..] = left {
-        if is_declared(others, &first.id) {
-            return false;
-        }
-        left = others;
-    }
-    true
+    let text = id.to_text(alloc)?;
+    text.as_bytes().to_vec(alloc)
 }
 
 /// The declaration at a place, if it is that of the identifier.
@@ -82,6 +82,15 @@ pub(crate) fn find_at<'a>(
         return Some(&declared[place]);
     }
     None
+}
+
+/// Whether the declaration at a place is that of the identifier.
+#[tactic(auto, using(crate::proofs::Distinct::first_place))]
+pub(crate) fn is_at(declared: &[Declared], place: usize, id: &TypeId) -> bool
+    requires distinct { tests.all_distinct (map spec.declaration_of declared.now) ≡ true }
+    ensures { IsTrue result → tests.place_of (map spec.declaration_of declared.now) id.now ≡ Some place }
+{
+    place < declared.len() && declared[place].id.same(id)
 }
 
 /// The interfaces that a declared type has.
@@ -124,33 +133,4 @@ pub(crate) fn includes(interfaces: &[TypeId], ids: &[TypeId]) -> bool
     ensures { result ≡ list_all (has interfaces.now) ids.now }
 {
     ids.iter().all(|id| contains(interfaces, id))
-}
-
-/// Whether no field's type nests more than 512 deep.
-pub fn all_nest(declared: &[Declared]) -> bool
-    ensures { result ≡ spec.all_nest (map spec.declaration_of declared.now) }
-{
-    for d in declared {
-        if !fields_nest(d) {
-            return false;
-        }
-    }
-    true
-}
-
-fn fields_nest(d: &Declared) -> bool
-    ensures { result ≡ spec.fields_nest (spec.declaration_of d.now) }
-{
-    for t in d.fields.as_slice() {
-        if !nests(t) {
-            return false;
-        }
-    }
-    true
-}
-
-fn nests(t: &CadType) -> bool
-    ensures { result ≡ nat_le (nesting (pure_type t.now)) 512 }
-{
-    t.nesting(DEEPEST).is_some()
 }

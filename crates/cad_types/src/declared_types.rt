@@ -1,78 +1,54 @@
 // The declared types that an order of types is judged by.
-ghost use Rattle.std.specs.Prelude.{◌≡◌, map};
-ghost use Rattle.cad_types.specs.Declarations.{IsClosed, declaration_of};
-ghost use Rattle.cad_types.specs.Code.Declarations.{all_distinct};
+ghost use Rattle.std.specs.Prelude.{◌≡◌};
+ghost use Rattle.cad_types.specs.Declarations.{IsClosed};
+ghost use Rattle.cad_types.specs.Code.Views.{listed};
 ghost use Rattle.cad_types.specs.Declarations as spec;
 ghost use Rattle.cad_types.specs.Code.Judged.{IsJudged};
 
-use crate::declared::{Declared, Sort, are_distinct, find, find_at};
+use crate::declared::{Declared, Sort};
 use crate::marks::{Marks, is_exportable_by, is_importable_by, is_storable_by, judge};
-use crate::places::Places;
+use crate::table::TypeTable;
 use cad_syntax::{CadType, TypeId};
 use std::alloc::{AllocError, Global};
 
 /// Declared types, judged for the classes. The interfaces of an interface that a type has are its own too.
 #[derive(Debug, Drop)]
 pub struct DeclaredTypes {
-    declared: Vec<Declared>,
+    table: TypeTable,
     marks: Vec<Marks>,
-    places: Places,
-    distinct: bool,
-    ghost closed: { IsClosed (map declaration_of declared.items) },
-    ghost known: { distinct ≡ all_distinct (map declaration_of declared.items) },
-    ghost judged: { IsJudged (map declaration_of declared.items) marks.items },
+    ghost closed: { IsClosed (listed table) },
+    ghost judged: { IsJudged (listed table) marks.items },
 }
 
 impl DeclaredTypes {
     ghost use Rattle.std.specs.Prelude.{◌≡◌, ◌↔◌, map, option_map, IsTrue, IfOk, IfSome, Some, true};
     ghost use Rattle.cad_syntax.specs.Types.{pure_type};
     ghost use Rattle.cad_types.specs.Classes.{Storable, Importable, Exportable};
-    ghost use Rattle.cad_types.specs.Declarations.{IsClosed, all_nest, declaration_of, found, interfaces_of, is_resource_id};
+    ghost use Rattle.cad_types.specs.Declarations.{IsClosed, declaration_of, found, interfaces_of, is_resource_id};
     ghost use Rattle.cad_types.specs.Views.{declarations};
 
-    /// The types of these declarations. No field's type nests more than 512 deep.
+    /// The types of these declarations.
     pub fn new(alloc: Global, declared: Vec<Declared>) -> Result<DeclaredTypes, AllocError>
         requires closed { IsClosed (map declaration_of declared.items) }
-        requires nests { all_nest (map declaration_of declared.items) ≡ true }
         ensures { IfOk result (λ declared_types. declarations declared_types ≡ map declaration_of declared.items) }
     {
-        let marks = judge(alloc, declared.as_slice())?;
-        let places = Places::new(alloc, declared.as_slice())?;
-        let distinct = are_distinct(declared.as_slice());
-        Ok(DeclaredTypes {
-            declared,
-            marks,
-            places,
-            distinct,
-        })
+        let table = TypeTable::new(alloc, declared)?;
+        let marks = judge(alloc, &table)?;
+        Ok(DeclaredTypes { table, marks })
     }
 
     /// The declarations.
     pub fn declared(&self) -> &[Declared]
         ensures { map declaration_of result.now ≡ declarations self.now }
     {
-        self.declared.as_slice()
+        self.table.declared()
     }
 
     /// The first declaration of an identifier.
     pub fn find(&self, id: &TypeId) -> Option<&Declared>
         ensures { option_map (λ d. declaration_of d.now) result ≡ found (declarations self.now) id.now }
     {
-        if let Some(d) = self.find_placed(id) {
-            return Some(d);
-        }
-        find(self.declared.as_slice(), id)
-    }
-
-    /// The declaration of an identifier where its place is known.
-    fn find_placed(&self, id: &TypeId) -> Option<&Declared>
-        ensures { IfSome result (λ d. found (declarations self.now) id.now ≡ Some (declaration_of d.now)) }
-    {
-        if !self.distinct {
-            return None;
-        }
-        let place = self.places.find(self.declared.as_slice(), id)?;
-        find_at(self.declared.as_slice(), place, id)
+        self.table.find(id)
     }
 
     /// The interfaces that a declared type has.
@@ -89,21 +65,21 @@ impl DeclaredTypes {
     pub(crate) fn is_storable(&self, t: &CadType) -> bool
         ensures { IsTrue result ↔ Storable (declarations self.now) (pure_type t.now) }
     {
-        is_storable_by(self.declared.as_slice(), self.marks.as_slice(), t)
+        is_storable_by(&self.table, self.marks.as_slice(), t)
     }
 
     /// Whether a type is importable.
     pub(crate) fn is_importable(&self, t: &CadType) -> bool
         ensures { IsTrue result ↔ Importable (declarations self.now) (pure_type t.now) }
     {
-        is_importable_by(self.declared.as_slice(), self.marks.as_slice(), t)
+        is_importable_by(&self.table, self.marks.as_slice(), t)
     }
 
     /// Whether a type is exportable.
     pub(crate) fn is_exportable(&self, t: &CadType) -> bool
         ensures { IsTrue result ↔ Exportable (declarations self.now) (pure_type t.now) }
     {
-        is_exportable_by(self.declared.as_slice(), self.marks.as_slice(), t)
+        is_exportable_by(&self.table, self.marks.as_slice(), t)
     }
 
     /// Whether an identifier is that of a resource or of an interface of resources.

@@ -8,10 +8,12 @@ mod declared_types;
 pub mod laws;
 mod marks;
 mod places;
+mod settle;
 mod subtype;
+mod table;
 
 pub use builtin::Builtin;
 pub use classes::{is_exportable, is_importable, is_storable};
-pub use declared::{DEEPEST, Declared, Sort, all_nest, is_closed};
+pub use declared::{Declared, Sort, is_closed};
 pub use declared_types::DeclaredTypes;
 pub use subtype::{is_resource, is_subtype};

@@ -5,8 +5,11 @@ ghost use Rattle.cad_syntax.specs.Types.{pure_type};
 ghost use Rattle.cad_types.specs.Classes as class;
 ghost use Rattle.cad_types.specs.Declarations.{declaration_of};
 ghost use Rattle.cad_types.specs.Code.Judged as spec;
+ghost use Rattle.cad_types.specs.Code.Views.{listed};
 
 use crate::declared::{Declared, Sort};
+use crate::settle::settle;
+use crate::table::TypeTable;
 use cad_syntax::{Basic, CadType, TypeId};
 use std::alloc::{AllocError, Global};
 
@@ -19,22 +22,30 @@ pub struct Marks {
 }
 
 /// The marks of declarations: each has all at first, and loses those that its fields don't allow, until none is lost.
-pub fn judge(alloc: Global, declared: &[Declared]) -> Result<Vec<Marks>, AllocError>
-    ensures { IfOk result (λ marks. spec.IsJudged (map declaration_of declared.now) marks.items) }
+pub fn judge(alloc: Global, table: &TypeTable) -> Result<Vec<Marks>, AllocError>
+    ensures { IfOk result (λ marks. spec.IsJudged (listed table.now) marks.items) }
+{
+    let mut marks = first_marks(alloc, table)?;
+    settle(alloc, table, &mut marks)?;
+    loop {
+        let next = refined(alloc, table, marks.as_slice())?;
+        if same_marks(next.as_slice(), marks.as_slice()) {
+            return Ok(marks);
+        }
+        marks = next;
+    }
+}
+
+/// All marks for each declaration.
+fn first_marks(alloc: Global, table: &TypeTable) -> Result<Vec<Marks>, AllocError>
+    ensures { IfOk result (λ marks. spec.IsAtLeast (listed table.now) marks.items) }
 {
     let all = Marks {
         storable: true,
         importable: true,
         carried: true,
     };
-    let mut marks = all_marked(alloc, all, declared)?;
-    loop {
-        let next = refined(alloc, declared, marks.as_slice())?;
-        if same_marks(next.as_slice(), marks.as_slice()) {
-            return Ok(marks);
-        }
-        marks = next;
-    }
+    all_marked(alloc, all, table.declared())
 }
 
 /// The same marks for each declaration.
@@ -55,13 +66,14 @@ fn same_marks(a: &[Marks], b: &[Marks]) -> bool
 }
 
 /// One turn of judging.
-fn refined(alloc: Global, declared: &[Declared], marks: &[Marks]) -> Result<Vec<Marks>, AllocError>
-    ensures { IfOk result (λ next. next.items ≡ spec.refined (map declaration_of declared.now) marks.now) }
+fn refined(alloc: Global, table: &TypeTable, marks: &[Marks]) -> Result<Vec<Marks>, AllocError>
+    ensures { IfOk result (λ next. next.items ≡ spec.refined (listed table.now) marks.now) }
 {
     let mut next = Vec::new(alloc);
+    let declared = table.declared();
     for (i, d) in declared.iter().enumerate() {
         match marks.get(i) {
-            Some(m) => next.push(kept(declared, marks, d, *m))?,
+            Some(m) => next.push(kept(table, marks, d, *m))?,
             None => return Ok(next),
         }
     }
@@ -69,12 +81,12 @@ fn refined(alloc: Global, declared: &[Declared], marks: &[Marks]) -> Result<Vec<
 }
 
 /// The marks that a declaration keeps.
-fn kept(declared: &[Declared], marks: &[Marks], d: &Declared, m: Marks) -> Marks
-    ensures { result ≡ spec.kept (map declaration_of declared.now) marks.now (declaration_of d.now) m }
+pub(crate) fn kept(table: &TypeTable, marks: &[Marks], d: &Declared, m: Marks) -> Marks
+    ensures { result ≡ spec.kept (listed table.now) marks.now (declaration_of d.now) m }
 {
-    let storable = m.storable && are_storable(declared, marks, d.fields.as_slice());
-    let importable = m.importable && is_importable_data(declared, marks, d);
-    let carried = m.carried && is_exportable_carried(declared, marks, d);
+    let storable = m.storable && are_storable(table, marks, d.fields.as_slice());
+    let importable = m.importable && is_importable_data(table, marks, d);
+    let carried = m.carried && is_exportable_carried(table, marks, d);
     Marks {
         storable,
         importable,
@@ -82,16 +94,16 @@ fn kept(declared: &[Declared], marks: &[Marks], d: &Declared, m: Marks) -> Marks
     }
 }
 
-fn is_importable_data(declared: &[Declared], marks: &[Marks], d: &Declared) -> bool
-    ensures { result ≡ spec.is_importable_data (map declaration_of declared.now) marks.now (declaration_of d.now) }
+fn is_importable_data(table: &TypeTable, marks: &[Marks], d: &Declared) -> bool
+    ensures { result ≡ spec.is_importable_data (listed table.now) marks.now (declaration_of d.now) }
 {
-    is_data_sort(d.sort) && are_importable(declared, marks, d.fields.as_slice())
+    is_data_sort(d.sort) && are_importable(table, marks, d.fields.as_slice())
 }
 
-fn is_exportable_carried(declared: &[Declared], marks: &[Marks], d: &Declared) -> bool
-    ensures { result ≡ spec.is_exportable_carried (map declaration_of declared.now) marks.now (declaration_of d.now) }
+fn is_exportable_carried(table: &TypeTable, marks: &[Marks], d: &Declared) -> bool
+    ensures { result ≡ spec.is_exportable_carried (listed table.now) marks.now (declaration_of d.now) }
 {
-    is_carried_sort(d.sort) && are_exportable(declared, marks, d.fields.as_slice())
+    is_carried_sort(d.sort) && are_exportable(table, marks, d.fields.as_slice())
 }
 
 fn is_data_sort(sort: Sort) -> bool
@@ -106,33 +118,33 @@ fn is_carried_sort(sort: Sort) -> bool
     matches!(sort, Sort::Resource | Sort::Event)
 }
 
-fn are_storable(declared: &[Declared], marks: &[Marks], types: &[CadType]) -> bool
-    ensures { result ≡ list_all (spec.storable_by (map declaration_of declared.now) marks.now) (map pure_type types.now) }
+fn are_storable(table: &TypeTable, marks: &[Marks], types: &[CadType]) -> bool
+    ensures { result ≡ list_all (spec.storable_by (listed table.now) marks.now) (map pure_type types.now) }
 {
     for t in types {
-        if !is_storable_by(declared, marks, t) {
+        if !is_storable_by(table, marks, t) {
             return false;
         }
     }
     true
 }
 
-fn are_importable(declared: &[Declared], marks: &[Marks], types: &[CadType]) -> bool
-    ensures { result ≡ list_all (spec.importable_by (map declaration_of declared.now) marks.now) (map pure_type types.now) }
+fn are_importable(table: &TypeTable, marks: &[Marks], types: &[CadType]) -> bool
+    ensures { result ≡ list_all (spec.importable_by (listed table.now) marks.now) (map pure_type types.now) }
 {
     for t in types {
-        if !is_importable_by(declared, marks, t) {
+        if !is_importable_by(table, marks, t) {
             return false;
         }
     }
     true
 }
 
-fn are_exportable(declared: &[Declared], marks: &[Marks], types: &[CadType]) -> bool
-    ensures { result ≡ list_all (spec.exportable_by (map declaration_of declared.now) marks.now) (map pure_type types.now) }
+fn are_exportable(table: &TypeTable, marks: &[Marks], types: &[CadType]) -> bool
+    ensures { result ≡ list_all (spec.exportable_by (listed table.now) marks.now) (map pure_type types.now) }
 {
     for t in types {
-        if !is_exportable_by(declared, marks, t) {
+        if !is_exportable_by(table, marks, t) {
             return false;
         }
     }
@@ -140,7 +152,31 @@ fn are_exportable(declared: &[Declared], marks: &[Marks], types: &[CadType]) -> 
 }
 
 /// The marks of the first declaration of an identifier.
-fn marked(declared: &[Declared], marks: &[Marks], id: &TypeId) -> Marks
+fn marked(table: &TypeTable, marks: &[Marks], id: &TypeId) -> Marks
+    ensures { result ≡ spec.marked (listed table.now) marks.now id.now }
+{
+    match table.place(id) {
+        Some(place) => marks_at(marks, place),
+        None => first_marked(table.declared(), marks, id),
+    }
+}
+
+/// The marks at a place.
+fn marks_at(marks: &[Marks], place: usize) -> Marks
+    ensures { result ≡ spec.marks_at marks.now place }
+{
+    match marks.get(place) {
+        Some(m) => *m,
+        None => Marks {
+            storable: true,
+            importable: false,
+            carried: false,
+        },
+    }
+}
+
+/// The marks of the first declaration of an identifier, by a walk over all.
+fn first_marked(declared: &[Declared], marks: &[Marks], id: &TypeId) -> Marks
     ensures { result ≡ spec.marked (map declaration_of declared.now) marks.now id.now }
 {
     let unmarked = Marks {
@@ -156,17 +192,17 @@ fn marked(declared: &[Declared], marks: &[Marks], id: &TypeId) -> Marks
     unmarked
 }
 
-pub(crate) fn is_storable_by(declared: &[Declared], marks: &[Marks], t: &CadType) -> bool
-    ensures { result ≡ spec.storable_by (map declaration_of declared.now) marks.now (pure_type t.now) }
+pub(crate) fn is_storable_by(table: &TypeTable, marks: &[Marks], t: &CadType) -> bool
+    ensures { result ≡ spec.storable_by (listed table.now) marks.now (pure_type t.now) }
 {
     match t {
         CadType::Basic(basic) => is_storable_basic(*basic),
-        CadType::Optional(part) | CadType::Array(part) => is_storable_by(declared, marks, part),
+        CadType::Optional(part) | CadType::Array(part) => is_storable_by(table, marks, part),
         CadType::Dictionary(key, value) => {
-            is_storable_by(declared, marks, key) && is_storable_by(declared, marks, value)
+            is_storable_by(table, marks, key) && is_storable_by(table, marks, value)
         }
         CadType::Intersection(_) | CadType::Capability | CadType::CapabilityOf(_) => true,
-        CadType::Declared(id) => marked(declared, marks, id).storable,
+        CadType::Declared(id) => marked(table, marks, id).storable,
         CadType::Reference(_, _) => false,
     }
 }
@@ -186,16 +222,16 @@ fn is_storable_basic(basic: Basic) -> bool
     )
 }
 
-pub(crate) fn is_importable_by(declared: &[Declared], marks: &[Marks], t: &CadType) -> bool
-    ensures { result ≡ spec.importable_by (map declaration_of declared.now) marks.now (pure_type t.now) }
+pub(crate) fn is_importable_by(table: &TypeTable, marks: &[Marks], t: &CadType) -> bool
+    ensures { result ≡ spec.importable_by (listed table.now) marks.now (pure_type t.now) }
 {
     match t {
         CadType::Basic(basic) => is_importable_basic(*basic),
-        CadType::Optional(part) | CadType::Array(part) => is_importable_by(declared, marks, part),
+        CadType::Optional(part) | CadType::Array(part) => is_importable_by(table, marks, part),
         CadType::Dictionary(key, value) => {
-            is_importable_by(declared, marks, key) && is_importable_by(declared, marks, value)
+            is_importable_by(table, marks, key) && is_importable_by(table, marks, value)
         }
-        CadType::Declared(id) => marked(declared, marks, id).importable,
+        CadType::Declared(id) => marked(table, marks, id).importable,
         _ => false,
     }
 }
@@ -216,10 +252,10 @@ fn is_importable_basic(basic: Basic) -> bool
     }
 }
 
-pub(crate) fn is_exportable_by(declared: &[Declared], marks: &[Marks], t: &CadType) -> bool
-    ensures { result ≡ spec.exportable_by (map declaration_of declared.now) marks.now (pure_type t.now) }
+pub(crate) fn is_exportable_by(table: &TypeTable, marks: &[Marks], t: &CadType) -> bool
+    ensures { result ≡ spec.exportable_by (listed table.now) marks.now (pure_type t.now) }
 {
-    is_importable_by(declared, marks, t) || is_void(t) || is_carried_by(declared, marks, t)
+    is_importable_by(table, marks, t) || is_void(t) || is_carried_by(table, marks, t)
 }
 
 fn is_void(t: &CadType) -> bool
@@ -231,11 +267,11 @@ fn is_void(t: &CadType) -> bool
     }
 }
 
-fn is_carried_by(declared: &[Declared], marks: &[Marks], t: &CadType) -> bool
-    ensures { result ≡ spec.carried_by (map declaration_of declared.now) marks.now (pure_type t.now) }
+fn is_carried_by(table: &TypeTable, marks: &[Marks], t: &CadType) -> bool
+    ensures { result ≡ spec.carried_by (listed table.now) marks.now (pure_type t.now) }
 {
     match t {
-        CadType::Declared(id) => marked(declared, marks, id).carried,
+        CadType::Declared(id) => marked(table, marks, id).carried,
         _ => false,
     }
 }

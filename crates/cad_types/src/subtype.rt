@@ -1,9 +1,11 @@
 // The order of types.
-ghost use Rattle.std.specs.Prelude.{◌≡◌, ◌≤◌, ◌↔◌, IsTrue};
+ghost use Rattle.std.specs.Prelude.{◌≡◌, ◌↔◌, IsTrue};
 ghost use Rattle.std.specs.List.{list_any, list_all};
 ghost use Rattle.cad_syntax.specs.TypeIds.{has};
-ghost use Rattle.cad_syntax.specs.Types.{pure_type, nesting, basic};
+ghost use Rattle.cad_syntax.specs.Types.{pure_type, basic};
 ghost use Rattle.cad_types.specs.Declarations.{resource, is_resource_id, is_any_resource, interfaces_of};
+ghost use Rattle.cad_auth.specs.Tests as tests;
+ghost use Rattle.cad_types.specs.Basics as basics;
 ghost use Rattle.cad_types.specs.Below as spec;
 ghost use Rattle.cad_types.specs.Sub.{Sub};
 ghost use Rattle.cad_types.specs.Views.{declarations};
@@ -11,32 +13,23 @@ ghost use Rattle.cad_types.specs.Views.{declarations};
 use crate::declared::includes;
 use crate::declared_types::DeclaredTypes;
 use cad_auth::grants;
-use cad_syntax::{Basic, CadType, TypeId, contains};
+use cad_syntax::{Authorization, Basic, CadType, TypeId, contains};
 
-/// Whether one type is below another. Neither nests more than 512 deep.
+/// Whether one type is below another.
 pub fn is_subtype(declared_types: &DeclaredTypes, a: &CadType, b: &CadType) -> bool
-    requires a_nests { nesting (pure_type a.now) ≤ 512 }
-    requires b_nests { nesting (pure_type b.now) ≤ 512 }
     ensures { IsTrue result ↔ Sub (declarations declared_types.now) (pure_type a.now) (pure_type b.now) }
 {
     is_below(declared_types, a, b)
 }
 
-/// Whether a type is a resource type. It nests at most 512 deep.
+/// Whether a type is a resource type.
 pub fn is_resource(declared_types: &DeclaredTypes, t: &CadType) -> bool
-    requires { nesting (pure_type t.now) ≤ 512 }
-    ensures { result ≡ resource (declarations declared_types.now) (pure_type t.now) }
-{
-    is_resource_type(declared_types, t)
-}
-
-fn is_resource_type(declared_types: &DeclaredTypes, t: &CadType) -> bool
     ensures { result ≡ resource (declarations declared_types.now) (pure_type t.now) }
 {
     match t {
         CadType::Basic(basic) => is_any_resource(*basic),
         CadType::Optional(part) | CadType::Array(part) | CadType::Dictionary(_, part) => {
-            is_resource_type(declared_types, part)
+            is_resource(declared_types, part)
         }
         CadType::Intersection(ids) => some_is_resource(declared_types, ids.as_slice()),
         CadType::Declared(id) => declared_types.is_resource(id),
@@ -78,7 +71,7 @@ fn is_never(basic: Basic) -> bool
 }
 
 fn is_below(declared_types: &DeclaredTypes, a: &CadType, b: &CadType) -> bool
-    ensures { IsTrue result ↔ spec.Below (declarations declared_types.now) (pure_type a.now) (pure_type b.now) }
+    ensures { result ≡ spec.below (declarations declared_types.now) (pure_type a.now) (pure_type b.now) }
 {
     if let CadType::Basic(u) = b {
         return is_below_basic(declared_types, a, *u);
@@ -112,7 +105,7 @@ fn is_below(declared_types: &DeclaredTypes, a: &CadType, b: &CadType) -> bool
             _ => false,
         },
         CadType::Reference(x, t) => match b {
-            CadType::Reference(y, u) => grants(x, y) && is_below(declared_types, t, u),
+            CadType::Reference(y, u) => is_granted(x, y) && is_below(declared_types, t, u),
             _ => false,
         },
         CadType::Capability => matches!(b, CadType::Capability),
@@ -126,11 +119,11 @@ fn is_below(declared_types: &DeclaredTypes, a: &CadType, b: &CadType) -> bool
 
 /// Whether a type is below a basic one.
 fn is_below_basic(declared_types: &DeclaredTypes, a: &CadType, u: Basic) -> bool
-    ensures { IsTrue result ↔ spec.Below (declarations declared_types.now) (pure_type a.now) (basic u) }
+    ensures { result ≡ spec.below (declarations declared_types.now) (pure_type a.now) (basic u) }
 {
     match a {
         CadType::Basic(t) => basic_is_below(*t, u),
-        CadType::Optional(t) => is_below_by_class(is_resource_type(declared_types, t), false, u),
+        CadType::Optional(t) => is_below_by_class(is_resource(declared_types, t), false, u),
         CadType::Array(t) | CadType::Dictionary(_, t) => container_is_below(declared_types, t, u),
         CadType::Intersection(ids) => {
             let is_resource = some_is_resource(declared_types, ids.as_slice());
@@ -146,11 +139,27 @@ fn is_below_basic(declared_types: &DeclaredTypes, a: &CadType, u: Basic) -> bool
     }
 }
 
+/// Whether what a holder has serves where `need` is asked for.
+fn is_granted(holder: &Authorization, need: &Authorization) -> bool
+    ensures { result ≡ tests.grants holder.now need.now }
+{
+    grants(holder, need)
+}
+
+fn same_basic(t: Basic, u: Basic) -> bool
+    ensures { result ≡ basics.same_basic t u }
+{
+    t == u
+}
+
 fn basic_is_below(t: Basic, u: Basic) -> bool
-    ensures { IsTrue result ↔ spec.BasicBelow t u }
+    ensures { result ≡ spec.below_basic t u }
 {
     let is_resource = is_any_resource(t);
-    t == u || is_never(t) || is_below_by_class(is_resource, is_resource, u) || is_path_into(t, u)
+    same_basic(t, u)
+        || is_never(t)
+        || is_below_by_class(is_resource, is_resource, u)
+        || is_path_into(t, u)
 }
 
 /// Whether a container of a type is below a basic type.
@@ -158,7 +167,7 @@ fn container_is_below(declared_types: &DeclaredTypes, t: &CadType, u: Basic) -> 
     ensures { result ≡ spec.by_class (resource (declarations declared_types.now) (pure_type t.now)) (spec.reaches_resource (declarations declared_types.now) (pure_type t.now)) u }
 {
     is_below_by_class(
-        is_resource_type(declared_types, t),
+        is_resource(declared_types, t),
         reaches_resource(declared_types, t),
         u,
     )
@@ -187,7 +196,7 @@ fn is_path_into(t: Basic, u: Basic) -> bool
 
 /// Whether these interfaces, or those that they have, are all of those, and both are of resources or neither is.
 fn is_narrower(declared_types: &DeclaredTypes, these: &[TypeId], those: &[TypeId]) -> bool
-    ensures { IsTrue result ↔ spec.Narrower (declarations declared_types.now) these.now those.now }
+    ensures { result ≡ spec.narrower (declarations declared_types.now) these.now those.now }
 {
     some_is_resource(declared_types, these) == some_is_resource(declared_types, those)
         && has_interfaces(declared_types, these, those)
@@ -217,7 +226,7 @@ fn some_has_interface(declared_types: &DeclaredTypes, ids: &[TypeId], id: &TypeI
 
 /// Whether a declared type has all of these interfaces, and both are of resources or neither is.
 fn conforms(declared_types: &DeclaredTypes, id: &TypeId, ids: &[TypeId]) -> bool
-    ensures { IsTrue result ↔ spec.Conforms (declarations declared_types.now) id.now ids.now }
+    ensures { result ≡ spec.conforms (declarations declared_types.now) id.now ids.now }
 {
     declared_types.is_resource(id) == some_is_resource(declared_types, ids)
         && includes(declared_types.interfaces(id), ids)

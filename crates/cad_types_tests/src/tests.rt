@@ -3,8 +3,8 @@ use cad_syntax::{
     Address, Authorization, Basic, CadType, Kind, Name, Names, Text, TypeId, TypeIds, Types,
 };
 use cad_types::{
-    DEEPEST, Declared, DeclaredTypes, Sort, all_nest, is_closed, is_exportable, is_importable,
-    is_resource, is_storable, is_subtype,
+    Declared, DeclaredTypes, Sort, is_closed, is_exportable, is_importable, is_resource,
+    is_storable, is_subtype,
 };
 use std::alloc::{AllocError, Global};
 use std::test::Fail;
@@ -126,10 +126,10 @@ fn declarations(alloc: Global, lines: &str) -> Result<Vec<Declared>, AllocError>
     Ok(declared)
 }
 
-/// The kinds of declarations, if they are closed and nest as they must.
+/// The declared types of lines, if they are closed.
 fn declared_types(alloc: Global, lines: &str) -> Result<Option<DeclaredTypes>, AllocError> {
     let declared = declarations(alloc, lines)?;
-    if is_closed(declared.as_slice()) && all_nest(declared.as_slice()) {
+    if is_closed(declared.as_slice()) {
         return Ok(Some(DeclaredTypes::new(alloc, declared)?));
     }
     Ok(None)
@@ -142,12 +142,6 @@ R R RJ,RI\n\
 SI SI SI\n\
 RI RI RI\n\
 RJ RI RJ,RI";
-
-fn below(declared_types: &DeclaredTypes, a: &CadType, b: &CadType) -> Option<bool> {
-    a.nesting(DEEPEST)?;
-    b.nesting(DEEPEST)?;
-    Some(is_subtype(declared_types, a, b))
-}
 
 /// Types, and for each of them which of them it is below. The rows are those of the least relation with the rules, closed under
 /// steps between by a program of its own.
@@ -197,7 +191,7 @@ fn types(alloc: Global, lines: &str) -> Result<Vec<CadType>, AllocError> {
 
 fn is_row(declared_types: &DeclaredTypes, a: &CadType, types: &[CadType], row: &str) -> bool {
     for (b, answer) in types.iter().zip(row.as_bytes()) {
-        if below(declared_types, a, b) != Some(*answer == b'1') {
+        if is_subtype(declared_types, a, b) != (*answer == b'1') {
             return false;
         }
     }
@@ -220,9 +214,6 @@ fn types_stand_in_their_order(rt: HostRuntime) -> Result<(), Fail> {
 
 /// Whether the type is storable, importable and exportable: three digits.
 fn is_judged(declared_types: &DeclaredTypes, t: &CadType, answers: &str) -> bool {
-    if t.nesting(DEEPEST).is_none() {
-        return false;
-    }
     let judged = [
         is_storable(declared_types, t),
         is_importable(declared_types, t),
@@ -296,33 +287,34 @@ fn nested(alloc: Global, signs: &[u8; 4], name: &str, depth: usize) -> Result<Ca
     Ok(t)
 }
 
+/// How deep a type in bytes may nest.
+const DEEPEST: u32 = 1024;
+
 #[test]
-fn walks_go_512_deep(rt: HostRuntime) -> Result<(), Fail> {
+fn walks_go_1024_deep(rt: HostRuntime) -> Result<(), Fail> {
     let declared_types = declared_types(rt.alloc(), RECURSIVE)?.ok_or("there are no interfaces")?;
-    let ring = nested(rt.alloc(), b"?[:&", "Ring", 512)?;
-    let never = nested(rt.alloc(), b"?[:&", "Never", 512)?;
-    assert!(rt; below(&declared_types, &never, &ring) == Some(true));
-    assert!(rt; below(&declared_types, &ring, &never) == Some(false));
-    assert!(rt; below(&declared_types, &ring, &ring) == Some(true));
-    let rings = nested(rt.alloc(), b"[:[:", "Ring", 512)?;
-    assert!(rt; below(&declared_types, &rings, &CadType::Basic(Basic::AnyResource)) == Some(true));
-    assert!(rt; below(&declared_types, &rings, &CadType::Basic(Basic::AnyStruct)) == Some(false));
+    let ring = nested(rt.alloc(), b"?[:&", "Ring", 1024)?;
+    let never = nested(rt.alloc(), b"?[:&", "Never", 1024)?;
+    assert!(rt; is_subtype(&declared_types, &never, &ring));
+    assert!(rt; !is_subtype(&declared_types, &ring, &never));
+    assert!(rt; is_subtype(&declared_types, &ring, &ring));
+    let rings = nested(rt.alloc(), b"[:[:", "Ring", 1024)?;
+    assert!(rt; is_subtype(&declared_types, &rings, &CadType::Basic(Basic::AnyResource)));
+    assert!(rt; !is_subtype(&declared_types, &rings, &CadType::Basic(Basic::AnyStruct)));
     assert!(rt; is_judged(&declared_types, &rings, "100"));
-    let nevers = nested(rt.alloc(), b"[:[:", "Never", 512)?;
+    let nevers = nested(rt.alloc(), b"[:[:", "Never", 1024)?;
     assert!(rt;
-        below(
+        is_subtype(
             &declared_types,
             &nevers,
             &CadType::Basic(Basic::AnyResource)
-        ) == Some(true)
+        )
     );
-    assert!(rt; below(&declared_types, &nevers, &CadType::Basic(Basic::AnyStruct)) == Some(true));
-    let trees = nested(rt.alloc(), b"?[:[", "Tree", 512)?;
+    assert!(rt; is_subtype(&declared_types, &nevers, &CadType::Basic(Basic::AnyStruct)));
+    let trees = nested(rt.alloc(), b"?[:[", "Tree", 1024)?;
     assert!(rt; is_judged(&declared_types, &trees, "111"));
-    assert_eq!(rt; trees.nesting(DEEPEST), Some(512));
-    if rings.nesting(DEEPEST).is_some() {
-        assert!(rt; is_resource(&declared_types, &rings));
-    }
+    assert_eq!(rt; trees.nesting(DEEPEST), Some(DEEPEST));
+    assert!(rt; is_resource(&declared_types, &rings));
     Ok(())
 }
 
@@ -331,16 +323,31 @@ fn declarations_are_tested(rt: HostRuntime) -> Result<(), Fail> {
     let alloc = rt.alloc();
     let open = declarations(alloc, "R R RJ\nRJ RI RI")?;
     assert!(rt; !is_closed(open.as_slice()));
-    let mut high = declarations(alloc, "High S .")?;
-    assert!(rt; all_nest(high.as_slice()));
-    for d in &mut high {
-        d.fields.push(nested(alloc, b"????", "Int", 513)?)?;
-    }
-    assert!(rt; !all_nest(high.as_slice()));
     let declared_types = declared_types(alloc, INTERFACES)?.ok_or("the interfaces are closed")?;
     assert!(rt; declared_types.find(&id(alloc, "R")?).is_some());
     assert_eq!(rt; declared_types.interfaces(&id(alloc, "R")?).len(), 2);
     assert_eq!(rt; declared_types.declared().len(), 5);
     assert!(rt; declared_types.is_resource(&id(alloc, "RI")?));
+    Ok(())
+}
+
+/// A struct whose field nests as deep as a type may.
+#[test]
+fn deep_fields_are_judged(rt: HostRuntime) -> Result<(), Fail> {
+    let alloc = rt.alloc();
+    let mut declared = declarations(alloc, "High S .")?;
+    for d in &mut declared {
+        d.fields.push(nested(alloc, b"?[:[", "Int", 1024)?)?;
+    }
+    if is_closed(declared.as_slice()) {
+        let declared_types = DeclaredTypes::new(alloc, declared)?;
+        assert!(rt;
+            is_judged(
+                &declared_types,
+                &CadType::Declared(id(alloc, "High")?),
+                "111"
+            )
+        );
+    }
     Ok(())
 }

@@ -9,7 +9,7 @@ use Rattle.cad_declarations.specs.Typed as e
 use Rattle.cad_typing.specs.Calls.{Call, Invocation, of_chain, invoke}
 use Rattle.cad_typing.specs.Environments.{Environment, Typing, kinds, typed, when, ◌>=>◌}
 use Rattle.cad_typing.specs.Fields.{Found, declared_member, built_in_member, Reading, found_member, read_found, read_member, is_owned}
-use Rattle.cad_typing.specs.Order.{core}
+use Rattle.cad_types.specs.Optionals.{core}
 use Rattle.cad_typing.specs.Receivers.{Receiver, Base, value, chained, receiver_in, receiver_at, closed, held, owned}
 use Rattle.cad_typing.specs.Types.{content, is_optional_type, optional_once}
 

@@ -11,7 +11,8 @@ use Rattle.cad_declarations.specs.Formed.{is_key_type}
 use Rattle.cad_declarations.specs.Typed as e
 use Rattle.cad_typing.specs.Calls.{Parameter, Takes, fitting, any_number, any_storable, any_plain, Count, last_optional, more_follow}
 use Rattle.cad_typing.specs.Environments.{Environment, Typing, kinds, typed, when, ◌>=>◌}
-use Rattle.cad_typing.specs.Order.{below, core, fits}
+use Rattle.cad_types.specs.Below.{below}
+use Rattle.cad_types.specs.Optionals.{core, fits}
 use Rattle.cad_typing.specs.Types.{element_type, is_number_type, is_storable}
 
 abbrev pub is_move : s.ExprTree → Bool

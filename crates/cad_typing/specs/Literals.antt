@@ -14,7 +14,7 @@ use Rattle.cad_text.specs.Texts.{characters}
 use Rattle.cad_declarations.specs.BuiltinNames.{is_integer}
 use Rattle.cad_declarations.specs.Typed as e
 use Rattle.cad_typing.specs.Environments.{Typing, typed, when, ◌>=>◌}
-use Rattle.cad_typing.specs.Order.{core}
+use Rattle.cad_types.specs.Optionals.{core}
 use Rattle.cad_typing.specs.Types.{never, bool, number, kind_of, is_address, is_signed}
 
 -- ---- numbers

@@ -11,7 +11,8 @@ use Rattle.cad_declarations.specs.Typed as e
 use Rattle.cad_typing.specs.Environments.{Environment, Typing, kinds, typed, when, ◌>=>◌}
 use Rattle.cad_typing.specs.Fields.{is_owned}
 use Rattle.cad_typing.specs.Literals.{signed_whole, signed_fixed}
-use Rattle.cad_typing.specs.Order.{below, fits}
+use Rattle.cad_types.specs.Below.{below}
+use Rattle.cad_types.specs.Optionals.{fits}
 use Rattle.cad_typing.specs.Receivers.{Receiver, Base, receiver_in, closed}
 use Rattle.cad_typing.specs.Types.{bool, void, content, is_never_type, is_optional_type, is_signed_type, is_same_basic, is_ordered}
 

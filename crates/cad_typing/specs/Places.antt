@@ -9,6 +9,7 @@ use Rattle.cad_grammar.specs.Trees as s
 use Rattle.cad_grammar.specs.declared.statement.Transfer.{Transfer}
 use Rattle.cad_grammar.specs.declared.statement.Transfer.TheVariants as sign
 use Rattle.cad_types.specs.Declarations.{resource}
+use Rattle.cad_types.specs.Optionals.{fits}
 use Rattle.cad_declarations.specs.Builtins.{may_replace_elements}
 use Rattle.cad_declarations.specs.Tables.{MemberEntry, MemberForm, field, function}
 use Rattle.cad_declarations.specs.Typed as e
@@ -19,7 +20,6 @@ use Rattle.cad_typing.specs.Environments.{Environment, Local, Part, prepare_body
 use Rattle.cad_typing.specs.Expressions.{infer, infer_place, infer_arguments, based}
 use Rattle.cad_typing.specs.Fields.{Found, declared_member, built_in_member, found_member, indexed_type, index_of}
 use Rattle.cad_typing.specs.Names.{Head, local, type_head, head, type_inside, transaction_field}
-use Rattle.cad_typing.specs.Order.{fits}
 use Rattle.cad_typing.specs.Receivers.{Receiver, Base, value, contract, transaction, receiver_in, of_contract, is_place}
 
 -- ---- places to which is written

@@ -12,7 +12,8 @@ use Rattle.cad_declarations.specs.Typed as e
 use Rattle.cad_typing.specs.Environments.{Environment, Typing, kinds, scope, typed, when, ◌>=>◌}
 use Rattle.cad_typing.specs.Fields.{is_owned}
 use Rattle.cad_typing.specs.Names.{is_contract_type}
-use Rattle.cad_typing.specs.Order.{below, core, fits}
+use Rattle.cad_types.specs.Below.{below}
+use Rattle.cad_types.specs.Optionals.{core, fits}
 use Rattle.cad_typing.specs.Receivers.{Receiver, Base, receiver_in, closed, is_self}
 use Rattle.cad_typing.specs.Types.{is_copied}
 

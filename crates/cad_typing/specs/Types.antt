@@ -13,7 +13,7 @@ use Rattle.cad_types.specs.Below.{is_never}
 use Rattle.cad_types.specs.Classes.{is_storable_basic, is_importable_basic, is_data_sort, is_carried_sort, is_void, has_sort}
 use Rattle.cad_types.specs.Declarations.{Declaration, found}
 use Rattle.cad_declarations.specs.BuiltinNames.{is_integer, is_primitive_basic}
-use Rattle.cad_typing.specs.Order.{same_basic}
+use Rattle.cad_types.specs.Basics.{same_basic}
 
 abbrev pub never : PureType
 never = basic b.Never

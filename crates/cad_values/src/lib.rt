@@ -1,6 +1,12 @@
-//! Values.
+//! Values: their equality, sizes and own types.
 #![tactic(auto)]
 
+mod equal;
+mod own_type;
+mod size;
 mod value;
 
-pub use value::Value;
+pub use equal::{same, same_key};
+pub use own_type::type_of_value;
+pub use size::{height, identities, weight};
+pub use value::{Cap, CompositeField, DictionaryEntry, Reference, Target, Value};

@@ -4,8 +4,8 @@ use Rattle.cad_syntax.specs.declared.kind.Kind.TheVariants.{Int}
 use Rattle.cad_syntax.specs.declared.num.Num.{Num}
 use Rattle.cad_num.specs.declared.error.NumError.{NumError}
 use Rattle.cad_num.specs.Numbers.{value_of}
-use Rattle.cad_values.specs.declared.value.Value.{Value}
-use Rattle.cad_values.specs.declared.value.Value.TheVariants.{Number}
+use Rattle.cad_number_codec.specs.declared.value.Value.{Value}
+use Rattle.cad_number_codec.specs.declared.value.Value.TheVariants.{Number}
 use Rattle.cad_accounts.specs.declared.stops.ValueStop.{ValueStop}
 use Rattle.cad_accounts.specs.declared.stops.ValueStop.TheVariants.{Occupied}
 use Rattle.cad_accounts.specs.Registers.{Map}

@@ -4,11 +4,11 @@ use Rattle.cad_syntax.specs.declared.kind.Kind.{Kind}
 use Rattle.cad_syntax.specs.declared.kind.Kind.TheVariants.{Int}
 use Rattle.cad_syntax.specs.declared.num.Num.{Num}
 use Rattle.cad_syntax.specs.Kinds.{signed, is_kept}
-use Rattle.cad_codec.proofs.Numbers.{same_fields}
+use Rattle.cad_number_codec.proofs.Nums.{same_fields}
 use Rattle.cad_num.specs.declared.error.NumError.{NumError}
 use Rattle.cad_num.specs.Numbers.{value_of}
-use Rattle.cad_values.specs.declared.value.Value.{Value}
-use Rattle.cad_values.specs.declared.value.Value.TheVariants.{Number}
+use Rattle.cad_number_codec.specs.declared.value.Value.{Value}
+use Rattle.cad_number_codec.specs.declared.value.Value.TheVariants.{Number}
 use Rattle.cad_accounts.specs.Accounts.{Accounts, HasSize, stored_at, stored_as, most_accounts}
 use Rattle.cad_forms.specs.Sums.{sum_value}
 use Rattle.cad_forms.specs.Saves.{Save, saved_value}

@@ -8,7 +8,7 @@ use Rattle.cad_num.specs.Decimal.{written}
 use Rattle.cad_syntax.specs.Addresses.{address_text}
 use Rattle.cad_syntax.specs.declared.kind.Kind.TheVariants.{Int}
 use Rattle.cad_syntax.specs.declared.num.Num.{Num}
-use Rattle.cad_values.specs.declared.value.Value.TheVariants.{Number}
+use Rattle.cad_number_codec.specs.declared.value.Value.TheVariants.{Number}
 use Rattle.cad_accounts.specs.Accounts.{Accounts, Has, HasSize, created, stored_at, stored_as, most_accounts}
 use Rattle.cad_forms.specs.Sums.{sum_value}
 use Rattle.cad_forms.specs.Saves.{Save, saved_value}

@@ -2,7 +2,7 @@
 use Rattle.std.specs.Prelude.{◌≡◌, ◌≢◌, ℕ, List, [], Option, Some, None}
 use Rattle.cad_syntax.specs.declared.num.Num.{Num}
 use Rattle.cad_num.specs.Numbers.{value_of}
-use Rattle.cad_values.specs.declared.value.Value.TheVariants.{Number}
+use Rattle.cad_number_codec.specs.declared.value.Value.TheVariants.{Number}
 use Rattle.cad_wire.specs.declared.entry.Entry.{Entry}
 use Rattle.cad_accounts.specs.Registers.{Map, applied, Leads}
 use Rattle.cad_accounts.specs.Accounts.{Accounts, StandsFor, stored_at, stored_as}

@@ -20,7 +20,7 @@ use cad_forms::{Asked, Save, value_of_save, value_of_sum};
 use cad_num::NumError;
 use cad_store::Store;
 use cad_syntax::{Address, Kind, Name, Num};
-use cad_values::Value;
+use cad_number_codec::Value;
 use std::alloc::{AllocError, Global};
 
 /// What a request comes to: an answer, and the registers that it changes where it changes accounts.

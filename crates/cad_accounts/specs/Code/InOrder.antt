@@ -1,9 +1,9 @@
 -- Registers of sound accounts, one behind another: the head, the controllers in the order of their addresses, and what is stored.
 use Rattle.std.specs.Prelude.{◌≡◌, ℕ, ◌+◌, ◌<◌, ◌≤◌, ◌^◌, List, [], ◌∷◌, ◌++◌, ◌⊎◌}
 use Rattle.std.specs.Str.{IsUtf8}
-use Rattle.cad_values.specs.declared.value.Value.{Value}
+use Rattle.cad_number_codec.specs.declared.value.Value.{Value}
 use Rattle.cad_wire.specs.Fields.{number_field}
-use Rattle.cad_codec.specs.Spelling.{value_bytes}
+use Rattle.cad_number_codec.specs.Spelling.{value_bytes}
 use Rattle.cad_accounts.specs.declared.row.Row.{Row}
 use Rattle.cad_accounts.specs.Accounts.{IsInt, head_key, controller_key, stored_key, most_accounts}
 

@@ -1,18 +1,19 @@
 -- Tests of a list of declarations.
-use Rattle.std.specs.Prelude.{Bool, true, not, ◌&&◌, List, [], ◌∷◌}
+use Rattle.std.specs.Prelude.{ℕ, suc, Bool, true, not, ◌&&◌, List, [], ◌∷◌, Option, Some, None, option_map, if◌then◌else◌}
 use Rattle.std.specs.List.{list_all}
-use Rattle.std.specs.Option.{is_some}
-use Rattle.cad_syntax.specs.TypeIds.{has}
+use Rattle.cad_syntax.specs.TypeIds.{same_id, has}
 use Rattle.cad_syntax.specs.declared.type_id.TypeId.{TypeId}
-use Rattle.cad_types.specs.Declarations.{Declaration, found, interfaces_of}
-
-abbrev pub is_declared : List Declaration → TypeId → Bool
-is_declared k id = is_some (found k id)
+use Rattle.cad_types.specs.Declarations.{Declaration, is_declared, interfaces_of}
 
 -- no identifier is declared twice
 abbrev pub all_distinct : List Declaration → Bool
 all_distinct [] = true
 all_distinct (d ∷ ds) = not (is_declared ds d.id) && all_distinct ds
+
+-- the place of the first declaration of an identifier
+abbrev pub place_of : List Declaration → TypeId → Option ℕ
+place_of [] id = None
+place_of (d ∷ ds) id = if same_id d.id id then Some 0 else option_map suc (place_of ds id)
 
 -- the same of one identifier, as a test
 abbrev pub closed_at : List Declaration → TypeId → Bool

@@ -1,5 +1,5 @@
 -- Marks of declared types, by which the classes of all types are found.
-use Rattle.std.specs.Prelude.{◌≡◌, Bool, true, false, ◌&&◌, ◌||◌, List, [], ◌∷◌, length, if◌then◌else◌}
+use Rattle.std.specs.Prelude.{◌≡◌, ℕ, Option, Some, None, slice_get, Bool, true, false, ◌&&◌, ◌||◌, List, [], ◌∷◌, length, if◌then◌else◌}
 use Rattle.std.specs.List.{list_all}
 use Rattle.cad_syntax.specs.TypeIds.{same_id}
 use Rattle.cad_syntax.specs.Types.{PureType, basic, optional, array, dictionary, intersection, declared, reference, capability, capability_of}
@@ -11,6 +11,14 @@ use Rattle.cad_types.specs.declared.marks.Marks.{Marks}
 -- of what isn't declared
 abbrev pub unmarked : Marks
 unmarked = record { storable = true; importable = false; carried = false }
+
+abbrev pub or_unmarked : Option Marks → Marks
+or_unmarked None = unmarked
+or_unmarked (Some m) = m
+
+-- the marks at a place
+abbrev pub marks_at : List Marks → ℕ → Marks
+marks_at marks place = or_unmarked (slice_get marks place)
 
 -- the marks of the first declaration of an identifier
 abbrev pub marked : List Declaration → List Marks → TypeId → Marks
@@ -72,6 +80,11 @@ pub record IsGreatest (k : List Declaration) (marks : List Marks) : Type 0 where
   pub storables : (class : PureType → Bool) → Keeps (storable_rule k) class → (id : TypeId) → class (declared id) ≡ true → (marked k marks id).storable ≡ true
   pub importables : (class : PureType → Bool) → Keeps (importable_rule k) class → (id : TypeId) → class (declared id) ≡ true → (marked k marks id).importable ≡ true
   pub carrieds : (importable class : PureType → Bool) → Keeps (importable_rule k) importable → Keeps (exportable_rule k importable) class → (id : TypeId) → carried_rule k class (declared id) ≡ true → (marked k marks id).carried ≡ true
+
+-- the marks of declarations, of which none that a class needs is lost
+pub record IsAtLeast (k : List Declaration) (marks : List Marks) : Type 0 where
+  pub whole : length marks ≡ length k
+  pub greatest : IsGreatest k marks
 
 -- the marks are those of the greatest classes
 pub record IsJudged (k : List Declaration) (marks : List Marks) : Type 0 where

@@ -1,10 +1,11 @@
-use Rattle.std.proofs.Common.{[], ◌∙◌}
-use Rattle.std.proofs.lemmas.Result.{err_from_is_err_and}
-use Rattle.cad_codec.proofs.Decoded.{err_whole, to_front}
+use Rattle.std.proofs.Common.{arith}
+use Rattle.cad_values.specs.Values.{pure_value}
+use Rattle.cad_codec.proofs.Decoded.{decoded, only}
+use Rattle.cad_codec.proofs.ValueFormats.{values_with_bytes}
 use Rattle.cad_codec.proofs.reading.decode.Goals as goal
 
-pub returns-in_err-value-clause-only : goal.returns-in_err-value-clause-only
-returns-in_err-value-clause-only c =
-    λ v has e.
-    let p = err_from_is_err_and c.from_residual.result c.from_residual.ensures.1 in
-    rw (p.1, p.2) (err_whole c.in_err-value.field-0.0 v c.read_value.new.reader (c.in_err-value.ensures.only v [] has (c.new-reader.ensures ∙ to_front v c.args.bytes.now e)))
+pub returns-clause-found : goal.returns-clause-found
+returns-clause-found c = decoded pure_value values_with_bytes c.args.bytes.now c.read_all.result (λ i. omega (arith, c.type_inv.bytes i)) c.read_all.ensures
+
+pub returns-clause-only : goal.returns-clause-only
+returns-clause-only c = only pure_value values_with_bytes c.args.bytes.now c.read_all.result c.read_all.ensures

@@ -1,11 +1,7 @@
-use Rattle.std.proofs.Common.{◌≡◌, false, arith, subst, sym, ◌∙◌}
-use Rattle.cad_syntax.specs.TypeIds.{same_id}
-use Rattle.cad_types.specs.declared.declared.Declared.{Declared}
-use Rattle.cad_types.proofs.Turns.{marked_more}
+use Rattle.std.proofs.Common.{sym, ◌∙◌}
+use Rattle.cad_types.specs.Code.Views.{listed}
+use Rattle.cad_types.proofs.Turns.{marked_there}
 use Rattle.cad_types.proofs.marks.marked.Goals as goal
 
-pub loop-i-preserved : goal.loop-i-preserved
-loop-i-preserved c =
-    let here = c.index-declared-i in
-    let other = subst (λ (d : Declared). same_id d.id c.args.id.now ≡ false) here.is (sym c.same.ensures.value ∙ c.if-same.false) in
-    marked_more c.args.declared.now c.args.marks.now c.args.id.now c.loop-i.i here.result (omega arith) other c.loop-i.invariant
+pub returns-in-Some : goal.returns-in-Some
+returns-in-Some c = c.marks_at.ensures ∙ sym (marked_there (listed c.args.table.now) c.args.marks.now c.args.id.now c.in-Some.place c.in-Some.ensures)

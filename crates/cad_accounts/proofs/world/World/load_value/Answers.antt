@@ -1,5 +1,5 @@
 use Rattle.std.proofs.Common.{◌≡◌, List, ℕ, Some, None, sym, ap, ◌∙◌}
-use Rattle.cad_codec.specs.Spelling.{value_bytes}
+use Rattle.cad_number_codec.specs.Spelling.{value_bytes}
 use Rattle.cad_accounts.specs.Registers.{Map, changed}
 use Rattle.cad_accounts.specs.Layers.{current}
 use Rattle.cad_accounts.specs.Accounts.{stored_key, stored_as}

@@ -1,9 +1,7 @@
-use Rattle.std.proofs.Common.{List, map, ap, ◌∙◌}
+use Rattle.std.proofs.Common.{List, ap, ◌∙◌}
 use Rattle.cad_syntax.specs.Types.{pure_type}
-use Rattle.cad_types.specs.Declarations.{declaration_of}
 use Rattle.cad_types.specs.Code.Judged.{storable_by}
 use Rattle.cad_types.specs.Views.{declarations}
-use Rattle.cad_types.specs.declared.declared.Declared.{Declared}
 use Rattle.cad_types.specs.declared.marks.Marks.{Marks}
 use Rattle.cad_types.proofs.Judging.{storable_tells}
 use Rattle.cad_types.proofs.declared_types.DeclaredTypes.is_storable.Goals as goal
@@ -12,8 +10,5 @@ pub returns : goal.returns
 returns c =
     let declared_types = c.args.self.now in
     let t = pure_type c.args.t.now in
-    let answer =
-    c.is_storable_by.ensures
-    ∙ ap (λ (ds : List Declared). storable_by (map declaration_of ds) c.as_slice-2.result.now t) c.as_slice.ensures.value
-    ∙ ap (λ (ms : List Marks). storable_by (declarations declared_types) ms t) c.as_slice-2.ensures.value in
+    let answer = c.is_storable_by.ensures ∙ ap (λ (ms : List Marks). storable_by (declarations declared_types) ms t) c.as_slice.ensures.value in
     storable_tells (declarations declared_types) declared_types.marks.items declared_types.judged c.is_storable_by.result t answer

@@ -1,0 +1,2 @@
+//! What programs mean: evaluation of elaborated trees. Definitions in specs/.
+#![tactic(auto)]

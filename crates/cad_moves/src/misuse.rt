@@ -1,0 +1,13 @@
+// How a variable is misused.
+use cad_paths::{MoveKind, Position};
+use cad_syntax::Name;
+
+/// A variable that is misused, how, and where.
+#[derive(Drop)]
+pub struct Misuse {
+    pub variable: Name,
+    /// How many variables were in scope when it was declared.
+    pub number: u32,
+    pub kind: MoveKind,
+    pub at: Position,
+}

@@ -1,0 +1,10 @@
+pub mod Bodies
+pub mod Fields
+pub mod Initialisation
+pub mod Letters
+pub mod Linear
+pub mod Marks
+pub mod Paths
+pub mod Purity
+pub mod Returns
+pub mod WholePaths

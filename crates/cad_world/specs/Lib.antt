@@ -1,0 +1,10 @@
+pub mod Rows
+pub mod State
+pub mod Same
+pub mod Trees
+pub mod Declared
+pub mod Labels
+pub mod OwnTypes
+pub mod Transfers
+pub mod Locations
+pub mod Receivers

@@ -1,0 +1,2 @@
+//! The state of a run: nodes in rows of places, calls, accounts and contracts. Definitions in specs/.
+#![tactic(auto)]
