@@ -1,0 +1,10 @@
+mod SampleProgram
+mod SamplesCalls
+mod SamplesConditions
+mod SamplesLiterals
+mod SamplesMembers
+mod SamplesMoves
+mod SamplesNames
+mod SamplesOperators
+mod SamplesReferences
+mod SamplesTrees

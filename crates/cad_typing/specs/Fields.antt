@@ -19,12 +19,8 @@ use Rattle.cad_typing.specs.Environments.{Environment, Position, Typing, kinds, 
 use Rattle.cad_declarations.specs.Members.{member, type_in}
 use Rattle.cad_declarations.specs.Names.{same_name}
 use Rattle.cad_typing.specs.Names.{type_inside, transaction_field, variable_value, variable_base}
-<<<<<<< HEAD
-use Rattle.cad_typing.specs.Receivers.{Receiver, Base, value, contract, type_name, transaction, chained, closed, receiver_at, held, of_contract}
-=======
 use Rattle.cad_types.specs.Optionals.{fits, reading}
-use Rattle.cad_typing.specs.Receivers.{Receiver, Base, value, contract, type_name, transaction, closed, receiver_at, held, of_contract}
->>>>>>> bd2bc0a49b5f92f7abdf3ed2fdd73609f63dbfa2
+use Rattle.cad_typing.specs.Receivers.{Receiver, Base, value, contract, type_name, transaction, chained, closed, receiver_at, held, of_contract}
 use Rattle.cad_typing.specs.Types.{void, is_integer_type}
 
 -- ---- members
