@@ -1,0 +1,4 @@
+pub mod SampleParts
+mod SamplesFunctions
+mod SamplesPrograms
+mod SamplesStatements
