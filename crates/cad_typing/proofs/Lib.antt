@@ -1,4 +1,5 @@
 pub mod SampleParts
+mod SamplesBodies
 mod SamplesFunctions
 mod SamplesPrograms
 mod SamplesStatements
