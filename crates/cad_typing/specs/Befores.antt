@@ -1,8 +1,9 @@
 -- What stands under `before` in an expression.
-use Rattle.std.specs.Prelude.{ℕ, ◌+◌, Bool, false, Some, List, [], ◌∷◌, ◌++◌, codes, length, if◌then◌else◌}
+use Rattle.std.specs.Prelude.{ℕ, ◌+◌, Bool, false, Option, Some, None, List, [], ◌∷◌, ◌++◌, codes, length, if◌then◌else◌}
+use Rattle.std.specs.List.{flat_map}
 use Rattle.cad_grammar.specs.Trees as s
 use Rattle.cad_declarations.specs.Names.{is_spelled}
-use Rattle.cad_typing.specs.Environments.{Environment, Part, postcondition, before_value}
+use Rattle.cad_typing.specs.Environments.{Environment, Local, before_value}
 
 abbrev pub is_before : s.ExprTree → Bool
 is_before (s.name n) = is_spelled (codes "before") n
@@ -46,10 +47,14 @@ abbrev mutual
 abbrev pub behind : s.ExprTree → Environment → Environment
 behind e env = record env { befores = env.befores + length (befores e) }
 
-abbrev pub variables_at_entry : Part → ℕ → ℕ
-variables_at_entry (postcondition (Some v)) in_use = v.number
-variables_at_entry _ in_use = in_use
+abbrev pub locals_in : Option (List Local) → List Local
+locals_in None = []
+locals_in (Some locals) = locals
 
--- where what stands under `before` is evaluated: at entry, where there is no result
+-- the variables that have names: in a postcondition the parameters, and in a transaction its fields too
+abbrev pub named_variables : Environment → ℕ
+named_variables env = length (flat_map (λ locals. locals) env.scopes) + length (locals_in env.transaction_fields)
+
+-- where what stands under `before` is evaluated: at entry, where there is no result and no hidden variable
 abbrev pub at_entry : Environment → Environment
-at_entry env = record env { part = before_value; in_use = variables_at_entry env.part env.in_use }
+at_entry env = record env { part = before_value; in_use = named_variables env }

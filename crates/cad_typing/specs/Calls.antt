@@ -24,7 +24,7 @@ use Rattle.cad_typing.specs.Environments.{Environment, Typing, kinds, scope, typ
 use Rattle.cad_typing.specs.Fields.{Found, declared_member, built_in_member, found_member, serves, grant_of}
 use Rattle.cad_declarations.specs.Members.{type_in}
 use Rattle.cad_typing.specs.Names.{Head, function, type_head, builtin_head, type_inside, is_postcondition}
-use Rattle.cad_typing.specs.Receivers.{Receiver, Hidden, Base, value, contract, type_name, transaction, closed, of_contract}
+use Rattle.cad_typing.specs.Receivers.{Receiver, Hidden, Base, value, contract, type_name, transaction, chained, closed, of_contract}
 use Rattle.cad_typing.specs.Types.{void, is_never_type, is_storable}
 
 -- ---- parameters
@@ -300,6 +300,7 @@ call_member env types name (value r) = method_call env types name r
 call_member env types name (contract id) = option_or (method_call env types name (of_contract id)) (type_inside_call env types id name)
 call_member env types name (type_name t) = type_method_call env types name t
 call_member env types name transaction = None
+call_member env types name (chained r wrapped) = None
 
 -- ---- `create`
 

@@ -11,14 +11,14 @@ use Rattle.cad_declarations.specs.Formed.{resolved_annotation}
 use Rattle.cad_declarations.specs.Typed as e
 use Rattle.cad_typing.specs.Befores.{is_before, behind, at_entry}
 use Rattle.cad_typing.specs.Calls.{Call, Callee, of_before, Count, Parameter, call_head, call_member, create_call, before_call, call_typed}
-use Rattle.cad_typing.specs.Chains.{chain_value, chain_call}
+use Rattle.cad_typing.specs.Chains.{chain_value, chain_call, base_of_chain, forced_base}
 use Rattle.cad_typing.specs.Containers.{element, array_typed, dictionary_typed, expected_element, expected_key, expected_value, argument, expected_argument, next_parameter, may_end}
 use Rattle.cad_typing.specs.Environments.{Environment, Position, ordinary, moved, Typing, scope, when, ◌>=>◌}
 use Rattle.cad_typing.specs.Fields.{value_of_member, base_of_member, index_of, index_value, index_base}
 use Rattle.cad_typing.specs.Literals.{whole_literal, fixed_literal, text_literal, bool_literal, nil_literal, path_literal}
 use Rattle.cad_typing.specs.Names.{head, value_of_head, base_of_head, self_value, self_base, is_postcondition}
 use Rattle.cad_typing.specs.Operators.{literal_under_minus, negated, inverted, destroyed, taken, forced, arithmetic, ordered, compared, compared_with_nil, joined, chosen, coalesced}
-use Rattle.cad_typing.specs.Receivers.{Base, receiver_in, held, beside, is_path, is_place, is_nil}
+use Rattle.cad_typing.specs.Receivers.{Base, receiver_in, held, beside, is_path, is_path_of_chain, is_place, is_nil}
 use Rattle.cad_typing.specs.References.{borrowed, dereferenced, cast_static, cast_failable, cast_forced}
 use Rattle.cad_typing.specs.Types.{content, is_number_type, is_integer_type}
 
@@ -82,6 +82,14 @@ based env a looked_up evaluated = by_form (is_path a)
     by_form true = looked_up tt
     by_form false = evaluated tt >=> held env
 
+-- what stands before `?.`
+abbrev pub based_in_chain : Environment → ExprTree → (Unit {0} → Option Base) → (Unit {0} → Option Typing) → Option Base
+based_in_chain env a looked_up evaluated = by_form (is_path_of_chain a)
+  where
+    by_form : Bool → Option Base
+    by_form true = looked_up tt
+    by_form false = evaluated tt >=> held env
+
 -- where the arguments of a call stand: behind what is called, and under `before` at entry
 abbrev pub environment_of : Environment → ExprTree → Call → Environment
 environment_of env f c = by_callee c.callee
@@ -117,7 +125,7 @@ abbrev mutual
   infer env position expected (s.member a n) =
       based env a (λ u. infer_place env a) (λ u. infer env ordinary None a) >=> value_of_member env position n
   infer env position expected (s.optional_member a n) =
-      based env a (λ u. infer_place env a) (λ u. infer env ordinary None a) >=> chain_value env n
+      based_in_chain env a (λ u. infer_place env a) (λ u. infer env ordinary None a) >=> chain_value env n
   infer env position expected (s.index a b) =
       based env a (λ u. infer_place env a) (λ u. infer env ordinary None a) >=> receiver_in >=> (λ r.
       index_of env r (λ v. infer (beside r.hidden (behind a env)) ordinary v b) >=> index_value env r)
@@ -142,7 +150,7 @@ abbrev mutual
       infer env ordinary None a >=> (λ x. infer (behind a env) ordinary expected b >=> (λ y.
       infer (behind b (behind a env)) ordinary expected c >=> chosen env x y))
 
-  -- where a name, `self`, a member or an index stands
+  -- where a name, `self`, a member, an element or a content stands
   pub infer_place : Environment → ExprTree → Option Base
   infer_place env (s.name n) = head env n >=> base_of_head env
   infer_place env s.self = self_base env
@@ -151,6 +159,10 @@ abbrev mutual
   infer_place env (s.index a b) =
       based env a (λ u. infer_place env a) (λ u. infer env ordinary None a) >=> receiver_in >=> (λ r.
       index_of env r (λ v. infer (beside r.hidden (behind a env)) ordinary v b) >=> index_base env r)
+  infer_place env (s.force a) =
+      based env a (λ u. infer_place env a) (λ u. infer env ordinary None a) >=> receiver_in >=> forced_base env
+  infer_place env (s.optional_member a n) =
+      based_in_chain env a (λ u. infer_place env a) (λ u. infer env ordinary None a) >=> base_of_chain env n
   infer_place env _ = None
 
   -- what is called
@@ -159,7 +171,7 @@ abbrev mutual
   infer_callee env types (s.member a n) =
       based env a (λ u. infer_place env a) (λ u. infer env ordinary None a) >=> call_member env types n
   infer_callee env types (s.optional_member a n) =
-      based env a (λ u. infer_place env a) (λ u. infer env ordinary None a) >=> chain_call env types n
+      based_in_chain env a (λ u. infer_place env a) (λ u. infer env ordinary None a) >=> chain_call env types n
   infer_callee env types _ = None
 
   -- arguments, each with the type to which it is transferred

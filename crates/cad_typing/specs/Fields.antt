@@ -20,7 +20,7 @@ use Rattle.cad_declarations.specs.Members.{member, type_in}
 use Rattle.cad_declarations.specs.Names.{same_name}
 use Rattle.cad_typing.specs.Names.{type_inside, transaction_field, variable_value, variable_base}
 use Rattle.cad_types.specs.Optionals.{fits, reading}
-use Rattle.cad_typing.specs.Receivers.{Receiver, Base, value, contract, type_name, transaction, closed, receiver_at, held, of_contract}
+use Rattle.cad_typing.specs.Receivers.{Receiver, Base, value, contract, type_name, transaction, chained, closed, receiver_at, held, of_contract}
 use Rattle.cad_typing.specs.Types.{void, is_integer_type}
 
 -- ---- members
@@ -142,12 +142,14 @@ value_of_member env position name (value r) = member_value env r name
 value_of_member env position name (contract id) = member_value env (of_contract id) name
 value_of_member env position name (type_name t) = type_member env t name
 value_of_member env position name transaction = transaction_field env name >=> variable_value env position
+value_of_member env position name (chained r wrapped) = None
 
 abbrev pub base_of_member : Environment → Name → Base → Option Base
 base_of_member env name (value r) = member_of_receiver env r name
 base_of_member env name (contract id) = option_or (member_of_receiver env (of_contract id) name) (option_map type_name (type_inside env id name))
 base_of_member env name (type_name t) = type_member env t name >=> held env
 base_of_member env name transaction = transaction_field env name >=> variable_base env
+base_of_member env name (chained r wrapped) = None
 
 -- ---- `a[e]`
 

@@ -1,6 +1,6 @@
 -- Places to which is written, variables that are spent, values after the sign of a move, and events.
 use Rattle.std.specs.Prelude.{Bool, true, false, not, ◌&&◌, ◌||◌, Option, Some, None, if◌then◌else◌}
-use Rattle.std.specs.Option.{is_none}
+use Rattle.std.specs.Option.{is_none, is_some}
 use Rattle.cad_syntax.specs.Types.{PureType, declared}
 use Rattle.cad_syntax.specs.declared.text.Name.{Name}
 use Rattle.cad_syntax.specs.declared.type_id.TypeId.{TypeId}
@@ -9,6 +9,7 @@ use Rattle.cad_grammar.specs.Trees as s
 use Rattle.cad_grammar.specs.declared.statement.Transfer.{Transfer}
 use Rattle.cad_grammar.specs.declared.statement.Transfer.TheVariants as sign
 use Rattle.cad_types.specs.Declarations.{resource}
+use Rattle.cad_types.specs.Optionals.{fits}
 use Rattle.cad_declarations.specs.Builtins.{may_replace_elements}
 use Rattle.cad_declarations.specs.Tables.{MemberEntry, MemberForm, field, function}
 use Rattle.cad_declarations.specs.Typed as e
@@ -19,8 +20,7 @@ use Rattle.cad_typing.specs.Environments.{Environment, Local, Part, prepare_body
 use Rattle.cad_typing.specs.Expressions.{infer, infer_place, infer_arguments, based}
 use Rattle.cad_typing.specs.Fields.{Found, declared_member, built_in_member, found_member, indexed_type, index_of}
 use Rattle.cad_typing.specs.Names.{Head, local, type_head, head, type_inside, transaction_field}
-use Rattle.cad_types.specs.Optionals.{fits}
-use Rattle.cad_typing.specs.Receivers.{Receiver, Base, value, contract, type_name, transaction, receiver_in, of_contract}
+use Rattle.cad_typing.specs.Receivers.{Receiver, Base, value, contract, transaction, receiver_in, of_contract, is_place}
 
 -- ---- places to which is written
 
@@ -38,8 +38,8 @@ abbrev pub base_of : Environment → s.ExprTree → Option Base
 base_of env a = based env a (λ u. infer_place env a) (λ u. infer env ordinary None a)
 
 -- what is written is in a place of the program, or behind a reference
-abbrev pub is_lasting : Receiver → Bool
-is_lasting r = is_none r.hidden
+abbrev pub is_lasting : s.ExprTree → Receiver → Bool
+is_lasting a r = is_none r.hidden && (is_some r.grant || is_place a)
 
 -- only variables that are declared by `var` are assigned
 abbrev pub variable_target : Head → Option Target
@@ -64,14 +64,14 @@ abbrev pub found_target : Environment → Receiver → Found → Option Target
 found_target env r (declared_member m) = form_target env r m m.form
 found_target env r (built_in_member b) = None
 
-abbrev pub field_target : Environment → Name → Receiver → Option Target
-field_target env name r = when (is_lasting r) (found_member env r.type name >=> found_target env r)
+abbrev pub field_target : Environment → s.ExprTree → Name → Receiver → Option Target
+field_target env a name r = when (is_lasting a r) (found_member env r.type name >=> found_target env r)
 
-abbrev pub member_target : Environment → Name → Base → Option Target
-member_target env name (value r) = field_target env name r
-member_target env name (contract id) = field_target env name (of_contract id)
-member_target env name (type_name t) = None
-member_target env name transaction = transaction_field env name >=> transaction_target env
+abbrev pub member_target : Environment → s.ExprTree → Name → Base → Option Target
+member_target env a name (value r) = field_target env a name r
+member_target env a name (contract id) = field_target env a name (of_contract id)
+member_target env a name transaction = transaction_field env name >=> transaction_target env
+member_target env a name _ = None
 
 -- elements are replaced by their owner, and through a reference with the rights for it
 abbrev pub may_replace : Receiver → Bool
@@ -84,16 +84,16 @@ may_replace r = may_by r.grant
 abbrev pub element_target : Environment → Receiver → Typing → Option Target
 element_target env r i = indexed_type env r.type i.type >=> (λ t. Some (target false (e.element r.place r.type i.term) t))
 
-abbrev pub index_target : Environment → s.ExprTree → Receiver → Option Target
-index_target env i r =
-    when (is_lasting r && may_replace r) (index_of env r (λ v. infer env ordinary v i) >=> element_target env r)
+abbrev pub index_target : Environment → s.ExprTree → s.ExprTree → Receiver → Option Target
+index_target env a i r =
+    when (is_lasting a r && may_replace r) (index_of env r (λ v. infer env ordinary v i) >=> element_target env r)
 
 -- the target of an assignment, a swap or a second value: a variable, or a member or element of a place or behind a
 -- reference
 abbrev pub infer_target : Environment → s.ExprTree → Option Target
 infer_target env (s.name n) = head env n >=> variable_target
-infer_target env (s.member a n) = base_of env a >=> member_target env n
-infer_target env (s.index a i) = base_of env a >=> receiver_in >=> index_target env i
+infer_target env (s.member a n) = base_of env a >=> member_target env a n
+infer_target env (s.index a i) = base_of env a >=> receiver_in >=> index_target env a i
 infer_target env _ = None
 
 -- ---- variables that are spent

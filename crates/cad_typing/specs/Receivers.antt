@@ -32,6 +32,8 @@ pub data Base : Type 0 where
   type_name : PureType → Base
   -- `self` in a transaction
   transaction : Base
+  -- what a chain gives that doesn't meet nil: a field of the content of an optional, and whether it is wrapped in an optional
+  chained : Receiver → Bool → Base
 
 -- a form whose parts are taken of a hidden variable
 abbrev pub closed : Option Hidden → e.TermTree → e.TermTree
@@ -74,13 +76,19 @@ beside (Some h) env = record env { in_use = env.in_use + 1 }
 
 -- ---- forms of expressions
 
--- a name, `self`, or a member or index: what may stand for a place itself
+-- a name, `self`, a member, an index or what is under `!`: it is looked up where it stands
 abbrev pub is_path : s.ExprTree → Bool
 is_path (s.name n) = true
 is_path s.self = true
 is_path (s.member a n) = true
 is_path (s.index a b) = true
+is_path (s.force a) = true
 is_path _ = false
+
+-- the same before `?.`, where a chain is looked up too
+abbrev pub is_path_of_chain : s.ExprTree → Bool
+is_path_of_chain (s.optional_member a n) = true
+is_path_of_chain a = is_path a
 
 -- a place: a name, `self`, or a member or index of a place
 abbrev pub is_place : s.ExprTree → Bool
