@@ -1,11 +1,9 @@
 // The first type of a program that doesn't meet its interfaces.
 ghost use Rattle.std.specs.Prelude.{◌≡◌, ◌↔◌, IsTrue, IsOk, IsNone, IfErr, IfSome, map, option_map, filter_map};
-ghost use Rattle.std.specs.List.{starts_with};
 ghost use Rattle.cad_types.specs.Views.{declarations};
 ghost use Rattle.cad_declarations.specs.Members as members;
 ghost use Rattle.cad_declarations.specs.Meets as spec;
 ghost use Rattle.cad_declarations.specs.Meets.{Each};
-ghost use Rattle.cad_declarations.specs.Names.{same_name};
 ghost use Rattle.cad_declarations.specs.Imports as imports;
 ghost use Rattle.cad_declarations.specs.Views.{member_of, type_entry_of, tables_of};
 ghost use Rattle.cad_conform.specs.Refusals.{Refuses, IsStop};
@@ -77,7 +75,7 @@ fn is_part_of(contract: &TypeId, id: &TypeId) -> bool
 }
 
 fn begin_with(names: &[Name], first: &[Name]) -> bool
-    ensures { result ≡ starts_with same_name names.now first.now }
+    ensures { result ≡ imports.begin_with names.now first.now }
 {
     let mut left = names;
     for name in first {

@@ -1,6 +1,5 @@
 -- What deployed contracts declare, and which of them a program imports, at any depth.
-use Rattle.std.specs.Prelude.{ℕ, Bool, ◌&&◌, ◌==◌, Option, List, [], ◌∷◌, map, filter, filter_map, find, flat_map}
-use Rattle.std.specs.List.{starts_with}
+use Rattle.std.specs.Prelude.{ℕ, Bool, ◌&&◌, ◌==◌, Option, List, [], ◌∷◌, map, filter, filter_map, find, flat_map, true, false}
 use Rattle.std.specs.Option.{is_some}
 use Rattle.cad_syntax.specs.TypeIds.{same_id}
 use Rattle.cad_syntax.specs.declared.text.Name.{Name}
@@ -19,9 +18,15 @@ pub record ContractEntry : Type 0 where
   pub entitlements : List TypeId
   pub mappings : List MappingEntry
 
+-- names that begin with those others
+abbrev pub begin_with : List Name → List Name → Bool
+begin_with names [] = true
+begin_with [] (name ∷ more) = false
+begin_with (own ∷ names) (name ∷ more) = same_name own name && begin_with names more
+
 -- an identifier is the contract's, or that of something declared in it
 abbrev pub is_part_of : TypeId → TypeId → Bool
-is_part_of contract id = (id.address.0 == contract.address.0) && starts_with same_name id.names contract.names
+is_part_of contract id = (id.address.0 == contract.address.0) && begin_with id.names contract.names
 
 -- what the tables of a contract's program tell of the contract itself
 abbrev pub contract_entry : TypeId → ProgramTables → ContractEntry

@@ -5,10 +5,9 @@ ghost use Rattle.cad_scopes.specs.Views.{scope_of, meaning_view};
 
 use crate::meaning::Meaning;
 use crate::scope::{Scope, meaning};
-use cad_declarations::MemberAccess;
+use cad_declarations::{MemberAccess, is_interface_sort};
 use cad_grammar::{Access, Dotted, Entitlements};
 use cad_syntax::{Authorization, Name, TypeId, TypeIds};
-use cad_types::Sort;
 use std::alloc::{AllocError, Global};
 
 /// The entitlement of a written name; None where there is none.
@@ -67,12 +66,6 @@ fn interface_of(found: Meaning) -> Option<TypeId>
         }
         _ => None,
     }
-}
-
-pub(crate) fn is_interface_sort(sort: Sort) -> bool
-    ensures { result ≡ spec.is_interface_sort sort }
-{
-    matches!(sort, Sort::StructInterface | Sort::ResourceInterface)
 }
 
 /// What written entitlements grant; None where one of them isn't there.

@@ -1,16 +1,14 @@
 // What names are looked up in, and what they stand for.
 ghost use Rattle.std.specs.Prelude.{◌≡◌, IfOk, option_copied, option_map, map, find};
-ghost use Rattle.std.specs.List.{list_any};
 ghost use Rattle.cad_syntax.specs.TypeIds.{has};
 ghost use Rattle.cad_types.specs.Declarations.{found};
 ghost use Rattle.cad_types.specs.Views.{declarations};
-ghost use Rattle.cad_declarations.specs.Names.{same_name};
 ghost use Rattle.cad_declarations.specs.Scopes as spec;
 ghost use Rattle.cad_scopes.specs.Views.{scope_of, meaning_view};
 
 use crate::meaning::Meaning;
 use crate::names::{basic_type, built_in_as, inside, is_entitlement_name, is_spelled};
-use cad_declarations::MappingDeclaration;
+use cad_declarations::{MappingDeclaration, is_same_name};
 use cad_syntax::{Name, TypeId, contains};
 use cad_types::{DeclaredTypes, Sort};
 use std::alloc::{AllocError, Global};
@@ -152,16 +150,9 @@ fn is_contract_name(contract: &TypeId, name: &Name) -> bool
     ensures { result ≡ spec.is_contract_name name.now contract.now }
 {
     match contract.names.as_slice() {
-        [own] => is_same(own, name),
+        [own] => is_same_name(own, name),
         _ => false,
     }
-}
-
-/// Whether two names are one.
-pub fn is_same(a: &Name, b: &Name) -> bool
-    ensures { result ≡ same_name a.now b.now }
-{
-    is_spelled(a, b.0.as_str())
 }
 
 /// A contract, or what it declares under the one name behind it.
