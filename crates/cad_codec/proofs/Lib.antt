@@ -1,6 +1,14 @@
-mod Counts
-mod Members
-mod NumberParts
-mod Seen
-mod Tables
-mod Texts
+pub mod Counts
+pub mod Decoded
+pub mod Distincts
+pub mod Formats
+pub mod Keys
+pub mod Lists
+pub mod Members
+pub mod NumberParts
+pub mod Seen
+pub mod Steps
+pub mod Tables
+pub mod Texts
+pub mod TypeFormats
+pub mod ValueFormats

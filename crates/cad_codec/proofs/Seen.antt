@@ -5,7 +5,7 @@ use Rattle.std.specs.Ordering.{nat_cmp}
 use Rattle.std.specs.Cmp.Lexicographic.{slice_cmp}
 use Rattle.std.specs.Str.{bytes_eq}
 use Rattle.std.specs.List.{list_any}
-use Rattle.std.specs.BTreeSet.{contains, Updates, IsEmpty}
+use Rattle.std.specs.BTreeSet.{contains, Updates}
 use Rattle.std.specs.declared.vec.Vec.{Vec}
 use Rattle.std.specs.declared.alloc.Global.{Global}
 use Rattle.std.proofs.lemmas.List.Folds.{list_any-append}
@@ -22,13 +22,13 @@ or_in false false = refl
 pub adds : (old now : Set) (v : Vec ℕ Global) (key : List ℕ) (added : Bool) → v.items ≡ key → added ≡ not (contains (λ x y. slice_cmp nat_cmp x.items y.items) old v)
     → Updates (λ x y. slice_cmp nat_cmp x.items y.items) old now v true → Adds old now key added
 adds old now v key added same is updates known holds = (
-      is ∙ ap not (holds v ∙ ap (has_bytes known) same),
-      λ q. updates.0 q
+  is ∙ ap not (holds v ∙ ap (has_bytes known) same),
+  λ q. updates.0 q
       ∙ ap (λ b. cond b true (contains (λ x y. slice_cmp nat_cmp x.items y.items) old q)) (is_eq-slice_cmp v.items q.items ∙ ap (λ (k : List ℕ). bytes_eq k q.items) same)
       ∙ ap (cond (bytes_eq key q.items) true) (holds q)
       ∙ or_in (bytes_eq key q.items) (has_bytes known q.items)
       ∙ sym (list_any-append (λ k. bytes_eq k q.items) known (key ∷ [])),
-    )
+)
 
 abbrev some : {A : Type 0} → A → Option A
 some a = Some a
@@ -51,9 +51,6 @@ pub record Added (seen : Set) (ks : List (List ℕ)) (i : ℕ) : Type 0 where
   pub holds : Holds seen (take i ks)
   pub left : all_new (take i ks) (drop i ks) ≡ all_new [] ks
 
-pub starts : (seen : Set) (ks : List (List ℕ)) → IsEmpty seen → Added seen ks 0
-starts seen ks empty = record { holds = λ q. ?; left = refl }
-
 pub differs : (old now : Set) (ks : List (List ℕ)) (i : ℕ) (key : List ℕ) → Added old ks i → slice_get ks i ≡ Some key → Adds old now key true → Added now ks (i + 1)
 differs old now ks i key so at added =
     let a = added (take i ks) so.holds in
@@ -63,9 +60,9 @@ differs old now ks i key so at added =
     record {
       holds = subst (Holds now) (sym more) a.1;
       left =
-      ap (λ (xs : List (List ℕ)). all_new xs (drop (i + 1) ks)) more
-      ∙ ap (λ b. b && all_new (take i ks ++ key ∷ []) (drop (i + 1) ks)) a.0
-      ∙ ap (all_new (take i ks)) (sym less) ∙ so.left;
+          ap (λ (xs : List (List ℕ)). all_new xs (drop (i + 1) ks)) more
+          ∙ ap (λ b. b && all_new (take i ks ++ key ∷ []) (drop (i + 1) ks)) a.0
+          ∙ ap (all_new (take i ks)) (sym less) ∙ so.left;
     }
 
 pub repeats : (old now : Set) (ks : List (List ℕ)) (i : ℕ) (key : List ℕ) → Added old ks i → slice_get ks i ≡ Some key → Adds old now key false → false ≡ all_new [] ks

@@ -39,6 +39,20 @@ fn key_bytes(alloc: Global, key: &Value) -> Result<Bytes, AllocError>
     }
 }
 
+/// Bytes that tell which entries have the same key.
+fn entry_bytes(alloc: Global, entry: &DictionaryEntry) -> Result<Bytes, AllocError>
+    ensures { IfOk result (λ bytes. bytes ≡ spec.key_bytes (pure_entry entry.now).key) }
+{
+    key_bytes(alloc, &entry.key)
+}
+
+/// The bytes of a field's name.
+fn name_bytes(alloc: Global, field: &CompositeField) -> Result<Bytes, AllocError>
+    ensures { IfOk result (λ bytes. bytes ≡ (pure_field field.now).name.0) }
+{
+    Bytes::from_slice(alloc, field.name.0.as_bytes())
+}
+
 /// Adds a key to those seen before. Tells whether it is new.
 fn add_key(seen: &mut BTreeSet<Vec<u8>>, key: Bytes) -> Result<bool, AllocError>
     ensures { IfOk result (λ added. Adds seen.old seen.new key added) }
@@ -55,7 +69,7 @@ pub fn keys_differ(alloc: Global, entries: &[DictionaryEntry]) -> Result<bool, A
 {
     let mut seen = BTreeSet::new(alloc);
     for entry in entries {
-        let key = key_bytes(alloc, &entry.key)?;
+        let key = entry_bytes(alloc, entry)?;
         if !add_key(&mut seen, key)? {
             return Ok(false);
         }
@@ -69,7 +83,7 @@ pub fn names_differ(alloc: Global, fields: &[CompositeField]) -> Result<bool, Al
 {
     let mut seen = BTreeSet::new(alloc);
     for field in fields {
-        let name = Bytes::from_slice(alloc, field.name.0.as_bytes())?;
+        let name = name_bytes(alloc, field)?;
         if !add_key(&mut seen, name)? {
             return Ok(false);
         }

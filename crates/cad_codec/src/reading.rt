@@ -1,12 +1,16 @@
 // Bytes to values.
-ghost use Rattle.std.specs.Prelude.{◌≡◌, map, slice_get};
-ghost use Rattle.cad_syntax.specs.Types.{pure_type};
+ghost use Rattle.std.specs.Prelude.{◌≡◌, map, slice_get, Some, IfOk};
+ghost use Rattle.cad_syntax.specs.Types.{PureType, pure_type};
 ghost use Rattle.cad_number_codec.specs.Parts.{parts_at};
-ghost use Rattle.cad_values.specs.Values.{pure_value, pure_entry, pure_field};
+ghost use Rattle.cad_values.specs.Sizes.{most_high};
+ghost use Rattle.cad_values.specs.Values.{PureValue, pure_value, pure_entry, pure_field};
 ghost use Rattle.cad_wire.specs.Fields.{byte_at, number_at};
-ghost use Rattle.cad_codec.specs.Code.Fields.{ReadsAs, then_at, made_at, found_at, tested_at, members_at, list_at, text_at, name_at};
+ghost use Rattle.cad_codec.specs.Code.Fields.{ReadsAs, GivesAs, then_at, made_at, found_at, tested_at, members_at, list_at, text_at, name_at};
 ghost use Rattle.cad_codec.specs.declared.form.ValueForm.TheVariants as form;
 ghost use Rattle.cad_codec.specs.Code.Values as spec;
+ghost use Rattle.cad_codec.specs.Forms.{HasBytes, TypeHasBytes};
+ghost use Rattle.cad_codec.specs.TypeBytes.{type_bytes};
+ghost use Rattle.cad_codec.specs.ValueBytes.{value_bytes};
 
 use crate::distinct::{keys_differ, names_differ};
 use crate::form::{ValueForm, value_form};
@@ -187,11 +191,7 @@ fn read_values(
 
 /// Reads a dictionary.
 #[cycle(reads)]
-fn read_dictionary(
-    alloc: Global,
-    inner: u32,
-    reader: &mut Reader<'_>,
-) -> Result<Value, DecodeError>
+fn read_dictionary(alloc: Global, inner: u32, reader: &mut Reader<'_>) -> Result<Value, DecodeError>
     ensures { ReadsAs pure_value result (spec.value_after (spec.value_at inner) form.Dictionary reader.old) reader.new }
 {
     let key = read_whole_type(alloc, reader)?;
@@ -242,11 +242,7 @@ fn read_entries(
 
 /// Reads a composite.
 #[cycle(reads)]
-fn read_composite(
-    alloc: Global,
-    inner: u32,
-    reader: &mut Reader<'_>,
-) -> Result<Value, DecodeError>
+fn read_composite(alloc: Global, inner: u32, reader: &mut Reader<'_>) -> Result<Value, DecodeError>
     ensures { ReadsAs pure_value result (spec.value_after (spec.value_at inner) form.Composite reader.old) reader.new }
 {
     let id = read_id(alloc, reader)?;
@@ -293,4 +289,49 @@ fn read_fields(
         fields.push(field)?;
     }
     Ok(fields)
+}
+
+/// Reads a value that all of the bytes spell.
+fn read_all(alloc: Global, bytes: &[u8]) -> Result<Value, DecodeError>
+    ensures { GivesAs pure_value result (spec.whole (spec.value_at most_high bytes.now)) }
+{
+    let mut reader = Reader::new(bytes);
+    let value = read_value(alloc, MOST_HIGH, &mut reader)?;
+    if reader.left() > 0 {
+        return Err(DecodeError::Damaged);
+    }
+    Ok(value)
+}
+
+/// The value with these bytes. Damaged exactly where no value has them. It has a height of 256 at most, and its types nest
+/// 1,024 deep at most.
+pub fn decode(alloc: Global, bytes: &[u8]) -> Result<Value, DecodeError>
+    // What is read is spelled so.
+    ensures found { IfOk result (λ value. HasBytes (pure_value value) × (bytes.now ≡ value_bytes (pure_value value))) }
+    // What is spelled so is read, unless memory runs out.
+    ensures only { (value : PureValue) → HasBytes value → bytes.now ≡ value_bytes value → GivesAs pure_value result (Some value) }
+{
+    read_all(alloc, bytes)
+}
+
+/// Reads a type that all of the bytes spell.
+fn read_all_of_type(alloc: Global, bytes: &[u8]) -> Result<CadType, DecodeError>
+    ensures { GivesAs pure_type result (spec.whole (spec.whole_type_at bytes.now)) }
+{
+    let mut reader = Reader::new(bytes);
+    let t = read_whole_type(alloc, &mut reader)?;
+    if reader.left() > 0 {
+        return Err(DecodeError::Damaged);
+    }
+    Ok(t)
+}
+
+/// The type with these bytes. Damaged exactly where no type has them. It nests 1,024 deep at most.
+pub fn decode_type(alloc: Global, bytes: &[u8]) -> Result<CadType, DecodeError>
+    // What is read is spelled so.
+    ensures found { IfOk result (λ t. TypeHasBytes (pure_type t) × (bytes.now ≡ type_bytes (pure_type t))) }
+    // What is spelled so is read, unless memory runs out.
+    ensures only { (t : PureType) → TypeHasBytes t → bytes.now ≡ type_bytes t → GivesAs pure_type result (Some t) }
+{
+    read_all_of_type(alloc, bytes)
 }

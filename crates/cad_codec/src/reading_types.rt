@@ -7,7 +7,9 @@ ghost use Rattle.cad_codec.specs.Code.Fields.{ReadsAs, members_at, list_at, test
 ghost use Rattle.cad_codec.specs.Code.Types as spec;
 
 use crate::form::{TypeForm, type_form};
-use cad_syntax::{Address, Authorization, Basic, CadType, Kind, Name, Names, Text, TypeId, TypeIds};
+use cad_syntax::{
+    Address, Authorization, Basic, CadType, Kind, Name, Names, Text, TypeId, TypeIds,
+};
 use cad_wire::{DecodeError, Reader};
 use std::alloc::Global;
 use std::str;
@@ -32,7 +34,11 @@ pub fn read_name(alloc: Global, reader: &mut Reader<'_>) -> Result<Name, DecodeE
 }
 
 /// Reads so many names.
-fn read_name_members(alloc: Global, count: u32, reader: &mut Reader<'_>) -> Result<Names, DecodeError>
+fn read_name_members(
+    alloc: Global,
+    count: u32,
+    reader: &mut Reader<'_>,
+) -> Result<Names, DecodeError>
     ensures { ReadsAs (λ ns. ns) result (members_at name_at count reader.old) reader.new }
 {
     let mut names = Names::new(alloc);
@@ -61,7 +67,11 @@ pub fn read_id(alloc: Global, reader: &mut Reader<'_>) -> Result<TypeId, DecodeE
 }
 
 /// Reads so many identifiers.
-fn read_id_members(alloc: Global, count: u32, reader: &mut Reader<'_>) -> Result<TypeIds, DecodeError>
+fn read_id_members(
+    alloc: Global,
+    count: u32,
+    reader: &mut Reader<'_>,
+) -> Result<TypeIds, DecodeError>
     ensures { ReadsAs (λ ids. ids) result (members_at id_at count reader.old) reader.new }
 {
     let mut ids = TypeIds::new(alloc);

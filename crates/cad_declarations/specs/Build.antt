@@ -9,10 +9,12 @@ use Rattle.cad_syntax.specs.declared.type_id.TypeId.{TypeId}
 use Rattle.cad_grammar.specs.Trees as t
 use Rattle.cad_grammar.specs.declared.declaration.Import.{Import}
 use Rattle.cad_declarations.specs.Entries.{types_in, mappings_by, top_function}
+use Rattle.cad_declarations.specs.Deployed.{linked_type}
 use Rattle.cad_declarations.specs.Imports.{ContractEntry, contract_id, all_imported, is_deployed, import_links, closure}
 use Rattle.cad_declarations.specs.Own.{OwnContract, own_contract, program_scope, parent_links}
 use Rattle.cad_declarations.specs.Points.{Point, is_new, misplaced, declaration_point, types_are_there, transaction_name, contract_points, function_point, transaction_points}
-use Rattle.cad_declarations.specs.Reached.{Link, reached_from, linearised}
+use Rattle.cad_declarations.specs.Reached.{reached_from, linearised}
+use Rattle.cad_declarations.specs.declared.link.Link.{Link}
 use Rattle.cad_declarations.specs.Scopes.{Scope}
 use Rattle.cad_declarations.specs.Tables.{TypeEntry, MappingEntry, ProgramTables}
 use Rattle.cad_declarations.specs.declared.stop.Stop.{Stop}
@@ -132,10 +134,6 @@ resolve_stop deployed place program =
     first_stop (setting deployed place program).scope (program_points deployed place program (setting deployed place program))
 
 -- ---- tables
-
--- an imported type, with all its interfaces
-abbrev pub linked_type : List Link → TypeEntry → TypeEntry
-linked_type links t = record t { interfaces = linearised links t.id }
 
 abbrev pub own_mappings : Scope → OwnContract → List MappingEntry
 own_mappings scope own = flat_map (mappings_by scope own.id) own.members

@@ -105,7 +105,7 @@ replaces_elements set = has set (built_in (codes "Mutate")) || (has set (built_i
 abbrev pub may_replace_elements : Authorization → Bool
 may_replace_elements authorization = list_all replaces_elements (sets authorization)
 
--- a member that is met through a reference alone: those of accounts and of their parts
+-- a member that is met through a reference alone: those of accounts, of their parts and of controllers
 abbrev pub needs_reference : Builtin → Bool
 needs_reference m.AccountAddress = true
 needs_reference m.AccountStorage = true
@@ -127,6 +127,13 @@ needs_reference m.CapabilitiesUnpublish = true
 needs_reference m.CapabilitiesStorage = true
 needs_reference m.StorageCapabilitiesIssue = true
 needs_reference m.StorageCapabilitiesGetController = true
+needs_reference m.ControllerCapabilityId = true
+needs_reference m.ControllerBorrowType = true
+needs_reference m.ControllerTag = true
+needs_reference m.ControllerSetTag = true
+needs_reference m.ControllerTarget = true
+needs_reference m.ControllerRetarget = true
+needs_reference m.ControllerDelete = true
 needs_reference _ = false
 
 -- ---- type arguments

@@ -16,7 +16,8 @@ use Rattle.cad_types.specs.declared.declared.Sort.TheVariants as s
 use Rattle.cad_declarations.specs.BuiltinNames.{is_integer}
 use Rattle.cad_declarations.specs.Names.{is_spelled}
 use Rattle.cad_declarations.specs.Own.{OwnContract, composite_sort, interface_sort, parents_of}
-use Rattle.cad_declarations.specs.Reached.{Link, linearised}
+use Rattle.cad_declarations.specs.Reached.{linearised}
+use Rattle.cad_declarations.specs.declared.link.Link.{Link}
 use Rattle.cad_declarations.specs.Scopes.{Scope, inside, resolved_access, resolved_entitlement, resolved_type, option_both}
 use Rattle.cad_declarations.specs.Tables.{ParameterType, SignatureType, field, function, MemberEntry, TypeEntry, MappingEntry}
 use Rattle.cad_declarations.specs.declared.member.MemberAccess.{MemberAccess}

@@ -7,7 +7,8 @@ use Rattle.cad_syntax.specs.declared.text.Name.{Name}
 use Rattle.cad_syntax.specs.declared.type_id.TypeId.{TypeId}
 use Rattle.cad_grammar.specs.declared.declaration.Import.{Import}
 use Rattle.cad_declarations.specs.Names.{same_name}
-use Rattle.cad_declarations.specs.Reached.{Link, reached_from}
+use Rattle.cad_declarations.specs.Reached.{reached_from}
+use Rattle.cad_declarations.specs.declared.link.Link.{Link}
 use Rattle.cad_declarations.specs.Tables.{TypeEntry, MappingEntry, ProgramTables}
 
 -- a deployed contract: the contracts that it imports by name, and what it declares itself

@@ -1,11 +1,14 @@
 pub mod Build
 pub mod BuiltinNames
 pub mod Builtins
+pub mod Code
+pub mod Deployed
 pub mod Entries
 pub mod Formed
 pub mod Imports
 pub mod Kinds
 pub mod Meets
+pub mod MemberViews
 pub mod Members
 pub mod Names
 pub mod Own

@@ -9,8 +9,9 @@ use Rattle.cad_grammar.specs.declared.declaration.CompositeKind.TheVariants as c
 use Rattle.cad_types.specs.Declarations.{Declaration}
 use Rattle.cad_types.specs.declared.declared.Sort.{Sort}
 use Rattle.cad_types.specs.declared.declared.Sort.TheVariants as s
+use Rattle.cad_declarations.specs.Deployed.{parent_links_of}
 use Rattle.cad_declarations.specs.Imports.{ContractEntry, all_imported, contract_id}
-use Rattle.cad_declarations.specs.Reached.{Link}
+use Rattle.cad_declarations.specs.declared.link.Link.{Link}
 use Rattle.cad_declarations.specs.Scopes.{Scope, inside, resolved_interface}
 
 -- ---- the contract that the program is
@@ -98,9 +99,6 @@ parent_links_by scope contract _ = []
 abbrev pub parent_links_in : Scope → OwnContract → List Link
 parent_links_in scope own = flat_map (parent_links_by scope own.id) own.members
 
-abbrev pub imported_parent_links : ContractEntry → List Link
-imported_parent_links c = map (λ t. record { id = t.id; to = t.parents }) c.types
-
 -- to the interfaces that a type names, of all types of a program and its imports
 abbrev pub parent_links : List ContractEntry → Scope → Option OwnContract → List Link
-parent_links imports scope own = flat_map imported_parent_links imports ++ flat_map (parent_links_in scope) (option_to_list own)
+parent_links imports scope own = flat_map parent_links_of imports ++ flat_map (parent_links_in scope) (option_to_list own)

@@ -14,7 +14,8 @@ use Rattle.cad_types.specs.declared.declared.Sort.{Sort}
 use Rattle.cad_types.specs.declared.declared.Sort.TheVariants as s
 use Rattle.cad_declarations.specs.Names.{is_spelled, has_name}
 use Rattle.cad_declarations.specs.Own.{interface_sort}
-use Rattle.cad_declarations.specs.Reached.{Link, is_on_circle}
+use Rattle.cad_declarations.specs.Reached.{is_on_circle}
+use Rattle.cad_declarations.specs.declared.link.Link.{Link}
 use Rattle.cad_declarations.specs.Scopes.{Scope, Meaning, type_meaning, meaning, inside, resolved_access, resolved_entitlement, resolved_type}
 use Rattle.cad_declarations.specs.Written.{types_of_option, types_of_parameters, types_of_head, rows_of_block, rows_of_option, rows_of_conditions, rows_of_body}
 

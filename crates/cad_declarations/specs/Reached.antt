@@ -2,11 +2,7 @@
 use Rattle.std.specs.Prelude.{ℕ, zero, suc, ◌+◌, Bool, List, [], ◌∷◌, ◌++◌, length, sum_by, if◌then◌else◌}
 use Rattle.cad_syntax.specs.TypeIds.{same_id, has}
 use Rattle.cad_syntax.specs.declared.type_id.TypeId.{TypeId}
-
--- an identifier, and those to which it leads
-pub record Link : Type 0 where
-  pub id : TypeId
-  pub to : List TypeId
+use Rattle.cad_declarations.specs.declared.link.Link.{Link}
 
 -- where the first link of an identifier leads
 abbrev pub linked : List Link → TypeId → List TypeId

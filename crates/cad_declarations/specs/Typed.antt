@@ -30,6 +30,8 @@ mutual
     field : PlaceTree → PureType → Name → PlaceTree
     -- an element of a place of this type, by its index or key
     element : PlaceTree → PureType → TermTree → PlaceTree
+    -- the content of an optional place: whether nil is an error there, as in `a!`; else the chain that stands on it gives nil
+    content : PlaceTree → Bool → PlaceTree
 
   -- what is done with a receiver
   pub data UseTree : Type 0 where
@@ -70,7 +72,8 @@ mutual
     builtin : Builtin → List PureType → Arguments → TermTree
     -- `a.n`, `a.f(..)`
     on : PlaceTree → UseTree → TermTree
-    -- `a?.n`, `a?.f(..)`: whether the result is wrapped in an optional
+    -- `a?.n`, `a?.f(..)`, of the contents of optionals that stand in the place: nil where one of them is nil, and whether
+    -- the result is wrapped in an optional
     chain : PlaceTree → UseTree → Bool → TermTree
     -- `a[e]`, where a has this type
     index : PlaceTree → PureType → TermTree → TermTree

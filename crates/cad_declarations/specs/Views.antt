@@ -2,14 +2,8 @@
 use Rattle.std.specs.Prelude.{ℕ, Option, Some, None, option_map, List, map}
 use Rattle.cad_syntax.specs.Types.{pure_type}
 use Rattle.cad_declarations.specs.Tables as t
+pub use Rattle.cad_declarations.specs.MemberViews.{parameter_of, signature_of, form_of, member_of, type_entry_of, mapping_entry_of}
 use Rattle.cad_declarations.specs.Typed as e
-use Rattle.cad_declarations.specs.declared.member.Parameter.{Parameter}
-use Rattle.cad_declarations.specs.declared.member.Signature.{Signature}
-use Rattle.cad_declarations.specs.declared.member.Member.{Member}
-use Rattle.cad_declarations.specs.declared.member.MemberKind.{MemberKind}
-use Rattle.cad_declarations.specs.declared.member.MemberKind.TheVariants as kind
-use Rattle.cad_declarations.specs.declared.tables.TypeDeclaration.{TypeDeclaration}
-use Rattle.cad_declarations.specs.declared.tables.MappingDeclaration.{MappingDeclaration}
 use Rattle.cad_declarations.specs.declared.tables.Tables.{Tables}
 use Rattle.cad_declarations.specs.declared.term.Place.{Place, Place-F, fold-Place}
 use Rattle.cad_declarations.specs.declared.term.Use.{Use, Use-F, fold-Use}
@@ -34,34 +28,6 @@ use Rattle.cad_declarations.specs.declared.body.Bodies.{Bodies}
 
 -- ---- tables
 
-abbrev pub parameter_of : Parameter → t.ParameterType
-parameter_of x = record { label = x.label; name = x.name; type = pure_type x.declared }
-
-abbrev pub signature_of : Signature → t.SignatureType
-signature_of x = record { is_view = x.is_view; parameters = map parameter_of x.parameters.items; result = pure_type x.result }
-
-abbrev pub form_of : MemberKind → t.MemberForm
-form_of (kind.Field k declared) = t.field k (pure_type declared)
-form_of (kind.Function signature has_body) = t.function (signature_of signature) has_body
-
-abbrev pub member_of : Member → t.MemberEntry
-member_of x = record { name = x.name; access = x.access; declared_by = x.declared_by; form = form_of x.kind }
-
-abbrev pub type_entry_of : TypeDeclaration → t.TypeEntry
-type_entry_of x = record {
-  id = x.id;
-  sort = x.sort;
-  parents = x.parents;
-  interfaces = x.interfaces;
-  members = map member_of x.members.items;
-  initializer = option_map signature_of x.initializer;
-  cases = x.cases;
-  raw = x.raw;
-}
-
-abbrev pub mapping_entry_of : MappingDeclaration → t.MappingEntry
-mapping_entry_of x = record { id = x.id; mapping = x.mapping }
-
 abbrev pub tables_of : Tables → t.ProgramTables
 tables_of x = record {
   place = x.place;
@@ -82,6 +48,7 @@ place_step (Place-F.Contract id) = e.contract id
 place_step (Place-F.Target x) = e.target x.value
 place_step (Place-F.Place::Field base of name) = e.field base.value (pure_type of) name
 place_step (Place-F.Element base of i) = e.element base.value (pure_type of) i.value
+place_step (Place-F.Content base forces) = e.content base.value forces
 
 abbrev pub use_step : Use-F e.PlaceTree e.TermTree e.UseTree e.TargetedTerm e.TermPair → e.UseTree
 use_step (Use-F.Use::Field name authorization) = e.get name authorization

@@ -3,6 +3,8 @@
 #![tactic(auto)]
 
 mod body;
+mod link;
+mod lookup;
 mod member;
 mod program;
 mod statement;
@@ -14,6 +16,8 @@ pub use body::{
     Bodies, DestroyedEvent, TypedBefore, TypedBody, TypedCondition, TypedFunction, TypedMember,
     TypedTransaction, TypedType,
 };
+pub use link::{Link, linearised, linked, reached_from};
+pub use lookup::{default_in, find_member, find_type, interface_member, is_interface_sort, is_same_name, own_member};
 pub use member::{Member, MemberAccess, MemberKind, Parameter, Signature};
 pub use program::{Checked, Deployed, Installed};
 pub use statement::{TypedBlock, TypedCase, TypedStatement, Variable};

@@ -1,4 +1,9 @@
 // The declarations of a program and of all that it imports.
+ghost use Rattle.std.specs.Prelude.{map};
+ghost use Rattle.cad_types.specs.Declarations.{IsClosed};
+ghost use Rattle.cad_declarations.specs.Kinds.{declaration_of};
+ghost use Rattle.cad_declarations.specs.MemberViews.{type_entry_of};
+
 use crate::member::{Member, Signature};
 use cad_auth::Mapping;
 use cad_syntax::{Address, Kind, Names, TypeId, TypeIds};
@@ -43,4 +48,6 @@ pub struct Tables {
     pub mappings: Vec<MappingDeclaration>,
     /// The functions that stand outside a contract.
     pub functions: Vec<Member>,
+    /// The interfaces of an interface that a type has are its own too.
+    pub ghost closed: { IsClosed (map declaration_of (map type_entry_of types.items)) },
 }

@@ -27,6 +27,12 @@ pub enum Place {
         of: CadType,
         index: Box<Term>,
     },
+    /// The content of an optional place: whether nil is an error there, as in `a!`; else the chain that stands on it gives
+    /// nil.
+    Content {
+        base: Box<Place>,
+        forces: bool,
+    },
 }
 
 /// What is done with a receiver.
@@ -103,7 +109,8 @@ pub enum Term {
     },
     /// `a.n`, `a.f(..)`
     On(Box<Place>, Box<Use>),
-    /// `a?.n`, `a?.f(..)`: whether the result is wrapped in an optional.
+    /// `a?.n`, `a?.f(..)`, of the contents of optionals that stand in the place: nil where one of them is nil, and
+    /// whether the result is wrapped in an optional.
     Chain {
         base: Box<Place>,
         member: Box<Use>,

@@ -1,0 +1,4 @@
+pub mod SampleParts
+pub mod SamplesTerms
+pub mod SampleContract
+pub mod SamplesTypes

@@ -92,9 +92,9 @@ cast_from type x None f otherwise = stuck
 cast_from type x (Some t) f otherwise = with_type t (λ own s. choose (below (declarations s) own type) (take x >>= transferred type >>= f) otherwise s)
 
 abbrev pub if_cast_at : PureType → e.VariableEntry → Action Flow → Action Flow → Standing → Action Flow
-if_cast_at type x body otherwise (here rights place) =
+if_cast_at type x body otherwise (here rights place zero) =
     guard (is_variable place) (read place >>= (λ t. cast_from type place t (λ v. transferred (optional type) (wrapped v) >>= if_content None x body otherwise) otherwise))
-if_cast_at type x body otherwise (led_by t) = stuck
+if_cast_at type x body otherwise _ = stuck
 
 -- ---- switch
 

@@ -11,7 +11,7 @@ use Rattle.cad_world.specs.State.{State, Action, ◌>>=◌, give, stuck, guard, 
 use Rattle.cad_world.specs.Trees.{nil_tree, value_of}
 use Rattle.cad_world.specs.Labels.{position_of}
 use Rattle.cad_world.specs.Locations.{Location, variable, part, element, entry, read, name}
-use Rattle.cad_world.specs.Receivers.{Receiver, standing, through, Spot, spot_at, deref, is_reference, receiver_at}
+use Rattle.cad_world.specs.Receivers.{Receiver, standing, through, Spot, deref, is_reference, receiver_with}
 use Rattle.cad_evaluation.specs.Access.{own_member, serves, may_write}
 use Rattle.cad_evaluation.specs.Changing.{Content, nothing, content, no_optional, content_of, take}
 use Rattle.cad_evaluation.specs.Casts.{borrowed}
@@ -19,24 +19,56 @@ use Rattle.cad_evaluation.specs.Numbers.{integer_in}
 use Rattle.cad_evaluation.specs.Reading.{composite_id, field_names}
 
 pub data Standing : Type 0 where
-  -- the value stands here, met by its owner or through a reference
-  here : Option Authorization → Location → Standing
+  -- the value stands here, without so many of its optionals; met by its owner or through a reference
+  here : Option Authorization → Location → ℕ → Standing
   -- what this reference leads to
   led_by : Tree → Standing
+  -- an optional on the way is nil, which ends the chain
+  nowhere : Standing
+
+-- a value without so many of its optionals
+abbrev pub without : ℕ → Option Tree → Option Tree
+without n None = None
+without n (Some t) = Some (record t { optionals = t.optionals - n })
+
+-- what the chain goes on with
+abbrev pub onward : (Standing → Action Standing) → Standing → Action Standing
+onward f nowhere = give nowhere
+onward f place = f place
+
+-- ---- optionals
+
+-- nil is 106 under `!`, and else ends the chain
+abbrev pub nil_at : Bool → Action Standing
+nil_at true = fail 106
+nil_at false = give nowhere
+
+abbrev pub content_with : Bool → Option Authorization → Location → ℕ → Content → Action Standing
+content_with forces rights x n nothing = nil_at forces
+content_with forces rights x n (content t) = give (here rights x (suc n))
+content_with forces rights x n no_optional = stuck
+
+abbrev pub or_nil : Option Tree → Tree
+or_nil None = nil_tree
+or_nil (Some t) = t
+
+-- the content of an optional stands where that does
+abbrev pub content_at : Bool → Standing → Action Standing
+content_at forces (here rights x n) = read x >>= (λ t. content_with forces rights x n (content_of (or_nil (without n t))))
+content_at forces place = stuck
+
+-- ---- bases
 
 -- the node in a place, which is named
 abbrev pub named_spot : Option Authorization → Location → Option Tree → Action Spot
 named_spot rights x None = stuck
 named_spot rights x (Some t) = name x >>= (λ l. give (record { rights = rights; label = Some l; tree = t }))
 
--- what a field or an element is of
+-- what a field is of
 abbrev pub base_of : Standing → Action Spot
-base_of (here rights x) = read x >>= named_spot rights x
+base_of (here rights x n) = read x >>= (λ t. named_spot rights x (without n t))
 base_of (led_by t) = guard (is_reference t) (deref t.shape)
-
--- the same node again, 113 where it is gone
-abbrev pub again : Spot → Action Spot
-again spot = with_some spot.label (λ l. spot_at spot.rights l spot.tree.optionals)
+base_of nowhere = stuck
 
 -- ---- fields
 
@@ -56,7 +88,7 @@ field_of writes n spot = λ s.
     with_some (own_member s n id) (λ m.
     with_some spot.label (λ l.
     with_some (position_of n (field_names spot.tree.shape)) (λ i.
-    guard (may_meet s writes id m l spot.rights) (give (here (inner_rights spot.rights) (part l i))))))) s
+    guard (may_meet s writes id m l spot.rights) (give (here (inner_rights spot.rights) (part l i) 0)))))) s
 
 -- ---- elements
 
@@ -72,23 +104,20 @@ element_at index l shape = stuck
 abbrev pub element_of : Bool → Tree → Spot → Action Standing
 element_of writes index spot =
     guard (may_replace writes spot.rights && (spot.tree.optionals == 0))
-    (with_some spot.label (λ l. element_at index l spot.tree.shape >>= (λ x. give (here (inner_rights spot.rights) x))))
+    (with_some spot.label (λ l. element_at index l spot.tree.shape >>= (λ x. give (here (inner_rights spot.rights) x 0))))
 
 -- ---- what is done with a place
 
-abbrev pub or_nil : Option Tree → Tree
-or_nil None = nil_tree
-or_nil (Some t) = t
-
 -- the value there, which stays
 abbrev pub value_at : Standing → Action Tree
-value_at (here rights x) = read x >>= (λ t. give (or_nil t))
+value_at (here rights x n) = read x >>= (λ t. give (or_nil (without n t)))
 value_at (led_by t) = guard (is_reference t) (deref t.shape >>= (λ spot. give spot.tree))
+value_at nowhere = stuck
 
 -- where a value is assigned
 abbrev pub location_of : Standing → Action Location
-location_of (here rights x) = give x
-location_of (led_by t) = stuck
+location_of (here rights x zero) = give x
+location_of _ = stuck
 
 abbrev pub is_variable : Location → Bool
 is_variable (variable x) = true
@@ -96,8 +125,8 @@ is_variable _ = false
 
 -- `<-x`: the value of a variable leaves it
 abbrev pub taken_from : Standing → Action Tree
-taken_from (here rights x) = guard (is_variable x) (take x)
-taken_from (led_by t) = stuck
+taken_from (here rights x zero) = guard (is_variable x) (take x)
+taken_from _ = stuck
 
 abbrev pub is_owned : Option Authorization → Bool
 is_owned None = true
@@ -105,29 +134,17 @@ is_owned (Some own) = false
 
 -- `&x as auth(a) &T`, of what is owned
 abbrev pub referred_to : Authorization → Bool → Bool → Standing → Action Tree
-referred_to a one wraps (here rights x) = guard (is_owned rights) (read x >>= borrowed a x one wraps)
-referred_to a one wraps (led_by t) = stuck
+referred_to a one wraps (here rights x n) = guard (is_owned rights) (read x >>= (λ t. borrowed a x one wraps (without n t)))
+referred_to a one wraps _ = stuck
 
 -- ---- receivers
 
 abbrev pub receiver_from : Standing → Action Receiver
-receiver_from (here rights x) = receiver_at rights x
+receiver_from (here rights x n) = read x >>= (λ t. receiver_with rights x (without n t))
 receiver_from (led_by t) = guard (is_reference t) (give (through t.shape))
+receiver_from nowhere = stuck
 
--- the content of a place as a receiver
-abbrev pub content_receiver : Option Authorization → Bool → Tree → Action ℕ → Action (Option Receiver)
-content_receiver rights true t label = give (Some (through t.shape))
-content_receiver rights false t label = label >>= (λ l. give (Some (standing rights l t.optionals)))
-
-abbrev pub content_with : Option Authorization → Content → Action ℕ → Action (Option Receiver)
-content_with rights nothing label = give None
-content_with rights (content t) label = content_receiver rights (is_reference t) t label
-content_with rights no_optional label = stuck
-
-abbrev pub content_in_spot : Spot → Action (Option Receiver)
-content_in_spot spot = content_with spot.rights (content_of spot.tree) (with_some spot.label give)
-
--- the receiver of `?.`; none where the value is nil
-abbrev pub content_from : Standing → Action (Option Receiver)
-content_from (here rights x) = read x >>= (λ t. content_with rights (content_of (or_nil t)) (name x))
-content_from (led_by t) = guard (is_reference t) (deref t.shape >>= content_in_spot)
+-- the receiver of a chain; none where an optional on the way is nil
+abbrev pub receiver_of_chain : Standing → Action (Option Receiver)
+receiver_of_chain nowhere = give None
+receiver_of_chain place = receiver_from place >>= (λ r. give (Some r))

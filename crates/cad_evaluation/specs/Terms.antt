@@ -22,7 +22,7 @@ use Rattle.cad_evaluation.specs.Making.{case_tree, construct, create}
 use Rattle.cad_evaluation.specs.Numbers.{truth_of, number_tree}
 use Rattle.cad_evaluation.specs.Operators as operator
 use Rattle.cad_evaluation.specs.Reading.{copied, read_field, read_index}
-use Rattle.cad_evaluation.specs.Standing.{Standing, here, led_by, base_of, again, field_of, element_of, value_at, taken_from, referred_to, receiver_from, content_from}
+use Rattle.cad_evaluation.specs.Standing.{Standing, here, led_by, base_of, field_of, element_of, value_at, taken_from, referred_to, receiver_from, receiver_of_chain, content_at, onward}
 use Rattle.cad_evaluation.specs.Uses.{before, array_of, Pair, dictionary_of, callable, invoked, tick_if_called, held, wrapped_if, forced, coalesced, nil_told, both, either, before_value}
 
 abbrev pub self_of : Option Frame → Option ℕ
@@ -31,7 +31,7 @@ self_of (Some f) = f.self
 
 -- the receiver of the running function
 abbrev pub own_self : Action Standing
-own_self = λ s. with_some (self_of (newest s)) (λ l. give (here None (receiver l))) s
+own_self = λ s. with_some (self_of (newest s)) (λ l. give (here None (receiver l) 0)) s
 
 -- by the operator, with what the second operand means
 abbrev pub combined : BinaryOperator → Tree → Action Tree → Action Tree
@@ -45,15 +45,17 @@ chained wraps f None = give nil_tree
 chained wraps f (Some r) = f r >>= (λ t. give (wrapped_if wraps t))
 
 abbrev mutual
-  -- a place: where it is, or the reference that leads there; whether it is written
+  -- A place: where it is, or the reference that leads there; whether it is written. What an index is of is looked at after it.
   pub eval_place : Front → Calls → e.PlaceTree → Bool → Action Standing
-  eval_place front calls (e.variable n) writes = give (here None (variable n))
+  eval_place front calls (e.variable n) writes = give (here None (variable n) 0)
   eval_place front calls e.self writes = own_self
-  eval_place front calls (e.contract id) writes = give (here None (contract id))
+  eval_place front calls (e.contract id) writes = give (here None (contract id) 0)
   eval_place front calls (e.target a) writes = eval front calls a >>= (λ t. give (led_by t))
-  eval_place front calls (e.field p type n) writes = eval_place front calls p false >>= base_of >>= field_of writes n
+  eval_place front calls (e.field p type n) writes = eval_place front calls p false >>= onward (λ place. base_of place >>= field_of writes n)
   eval_place front calls (e.element p type a) writes =
-      eval_place front calls p false >>= base_of >>= (λ base. eval front calls a >>= (λ index. again base >>= element_of writes index))
+      eval_place front calls p false >>= onward (λ place. receiver_from place >>= (λ base.
+      eval front calls a >>= (λ index. look_at base >>= element_of writes index)))
+  eval_place front calls (e.content p forces) writes = eval_place front calls p false >>= onward (content_at forces)
 
   -- what is done with a receiver: it is looked at before the arguments, and again after them
   pub eval_use : Front → Calls → e.UseTree → Receiver → Action Tree
@@ -84,9 +86,9 @@ abbrev mutual
   eval front calls (e.call n is_view is_never all) = eval_arguments front calls all >>= (λ row. tick >> calls (function n) row)
   eval front calls (e.builtin b types all) = eval_arguments front calls all >>= (λ row. tick_if_called b >> built_in.function b types row)
   eval front calls (e.on p u) = eval_place front calls p false >>= receiver_from >>= eval_use front calls u
-  eval front calls (e.chain p u wraps) = eval_place front calls p false >>= content_from >>= chained wraps (eval_use front calls u)
+  eval front calls (e.chain p u wraps) = eval_place front calls p false >>= receiver_of_chain >>= chained wraps (eval_use front calls u)
   eval front calls (e.index p type a) =
-      eval_place front calls p false >>= base_of >>= (λ base. eval front calls a >>= (λ index. again base >>= read_index index))
+      eval_place front calls p false >>= receiver_from >>= (λ base. eval front calls a >>= (λ index. look_at base >>= read_index index))
   eval front calls (e.hold n type a rest) = eval front calls a >>= (λ t. held n t (eval front calls rest))
   eval front calls (e.destroy a) = eval front calls a >>= destroyed calls >> give void_tree
   eval front calls (e.borrow p a type one wraps) = eval_place front calls p false >>= referred_to a one wraps

@@ -6,7 +6,7 @@ use Rattle.cad_syntax.specs.declared.kind.Kind.{Kind}
 use Rattle.cad_syntax.specs.declared.kind.Kind.TheVariants.{Int, Int8, Int16, Int32, Int64, Int128, UInt, UInt8, UInt16, UInt32, UInt64, UInt128, Word8, Word16, Word32, Word64, Word128, Fix64, UFix64, Address}
 use Rattle.cad_syntax.specs.declared.num.Num.{Num}
 use Rattle.cad_syntax.specs.Kinds.{greatest, depth, is_kept}
-use Rattle.cad_syntax.proofs.Nums.{same_fields}
+use Rattle.cad_number_codec.proofs.Nums.{same_fields}
 use Rattle.cad_number_codec.specs.Spelling.{kind_byte, sign_byte}
 use Rattle.cad_number_codec.specs.Parts.{HasParts}
 

@@ -8,8 +8,8 @@ ghost use Rattle.cad_number_codec.specs.Spelling.{value_bytes, HasBytes};
 ghost use Rattle.cad_number_codec.specs.Parts.{HasParts, parts_at};
 
 use crate::kind::kind_of;
-use cad_syntax::Num;
 use crate::value::Value;
+use cad_syntax::Num;
 use cad_wire::{DecodeError, Reader, Short};
 use std::alloc::Global;
 

@@ -1,7 +1,7 @@
 // Numbers as bytes and back, and bytes that no value has.
 use super::*;
-use cad_syntax::{Kind, Num};
 use crate::value::Value;
+use cad_syntax::{Kind, Num};
 use std::test::*;
 
 const SEVEN: [u8; 19] = [4, 0, 0, 0, 0, 0, 0, 0, 0, 0, 0, 0, 0, 0, 0, 0, 0, 0, 7];

@@ -3,8 +3,8 @@ ghost use Rattle.std.specs.Prelude.{◌≡◌, ◌++◌, IfOk, OnOk};
 ghost use Rattle.cad_number_codec.specs.Spelling.{magnitude_field, number_bytes, value_bytes, HasBytes};
 
 use crate::kind::{kind_byte, sign_byte};
-use cad_syntax::{Bytes, Num};
 use crate::value::Value;
+use cad_syntax::{Bytes, Num};
 use cad_wire::Writer;
 use std::alloc::{AllocError, Global};
 

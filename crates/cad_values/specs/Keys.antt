@@ -1,5 +1,6 @@
 -- When two keys of a dictionary are the same.
-use Rattle.std.specs.Prelude.{◌≡◌, List, [], ◌∷◌, Contains, map}
+use Rattle.std.specs.Prelude.{◌≡◌, ◌≢◌, List, [], ◌∷◌, map}
+use Rattle.std.specs.List.{AllByRecursion}
 use Rattle.cad_text.specs.Texts.{normal_form}
 use Rattle.cad_values.specs.Values.{PureValue, string, character}
 
@@ -13,10 +14,10 @@ key_form v = v
 abbrev pub SameKey : PureValue → PureValue → Type 0
 SameKey a b = key_form a ≡ key_form b
 
--- no item stands in a list twice
+-- no item of a list is one of those after it
 abbrev pub Distinct : {A : Type 0} → List A → Type 0
 Distinct [] = Unit {0}
-Distinct (x ∷ xs) = (Contains xs x → ⊥) × Distinct xs
+Distinct (x ∷ xs) = AllByRecursion (λ y. y ≢ x) xs × Distinct xs
 
 -- no two keys are the same
 abbrev pub KeysDiffer : List PureValue → Type 0

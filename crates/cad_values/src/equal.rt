@@ -50,7 +50,9 @@ pub fn same(a: &Value, b: &Value) -> bool
             _ => false,
         },
         Value::Capability(x) => match b {
-            Value::Capability(y) => x.address == y.address && x.id == y.id && x.borrow.same(&y.borrow),
+            Value::Capability(y) => x.address == y.address
+                && x.id == y.id
+                && x.borrow.same(&y.borrow),
             _ => false,
         },
         Value::Array { element, values } => match b {
@@ -102,7 +104,7 @@ pub fn same(a: &Value, b: &Value) -> bool
 }
 
 /// Whether two numbers are one.
-#[tactic(auto, using(cad_syntax::proofs::Nums::same_num))]
+#[tactic(auto, using(crate::proofs::Nums::same_num))]
 fn same_number(a: Num, b: Num) -> bool
     ensures { IsTrue result ↔ (a ≡ b) }
 {

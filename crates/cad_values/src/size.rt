@@ -141,7 +141,9 @@ fn add_identities(found: &mut Numbers, value: &Value) -> Result<(), AllocError>
         Value::Array { values, .. } => add_of_values(found, values.as_slice()),
         Value::Dictionary { entries, .. } => add_of_entries(found, entries.as_slice()),
         Value::Composite {
-            identity, fields, ..
+            identity,
+            fields,
+            ..
         } => {
             add_own(found, *identity)?;
             add_of_fields(found, fields.as_slice())

@@ -16,7 +16,7 @@ pub data Location : Type 0 where
   contract : TypeId → Location
   -- what an account stores under an identifier
   stored : ℕ → Name → Location
-  -- the node with a label, which stays where it is
+  -- the node with a label, without its optionals, which stays where it is
   receiver : ℕ → Location
   -- a field of a node: the label, and the place in its row
   part : ℕ → ℕ → Location
@@ -61,7 +61,7 @@ with_found l f = λ s. or_fail 113 (at l s) f s
 -- the place as it is now
 abbrev pub slot_of : Location → Action Slot
 slot_of (variable x) = λ s. ok (slot x (variables s)) s
-slot_of (receiver l) = with_found l (λ f. give (full f.tree))
+slot_of (receiver l) = with_found l (λ f. give (full (record (f.tree) { optionals = 0 })))
 slot_of (contract id) = λ s. ok (value_in s.contracts id) s
 slot_of (stored a n) = λ s. ok (stored_slot s a n) s
 slot_of (part l i) = with_found l (λ f. give (slot i f.tree.parts))

@@ -4,7 +4,7 @@ use Rattle.cad_syntax.specs.declared.kind.Kind.{Kind}
 use Rattle.cad_syntax.specs.declared.kind.Kind.TheVariants.{Int}
 use Rattle.cad_syntax.specs.declared.num.Num.{Num}
 use Rattle.cad_syntax.specs.Kinds.{signed, is_kept}
-use Rattle.cad_syntax.proofs.Nums.{same_fields}
+use Rattle.cad_number_codec.proofs.Nums.{same_fields}
 use Rattle.cad_num.specs.declared.error.NumError.{NumError}
 use Rattle.cad_num.specs.Numbers.{value_of}
 use Rattle.cad_number_codec.specs.declared.value.Value.{Value}

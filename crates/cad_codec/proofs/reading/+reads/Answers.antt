@@ -1,13 +1,17 @@
-use Rattle.std.proofs.Common.{◌≡◌, ◌++◌, ◌∷◌, [], map}
+use Rattle.std.proofs.Common.{◌-◌, map, arith}
 use Rattle.std.proofs.lemmas.Result.{err_from_is_err_and}
 use Rattle.cad_values.specs.Values.{pure_value, pure_entry, pure_field}
 use Rattle.cad_codec.specs.Code.Fields.{members_at}
 use Rattle.cad_codec.specs.Code.Values.{value_at, entry_at, field_at}
 use Rattle.cad_codec.proofs.Members.{goes_on_seen, ends, is_done}
+use Rattle.cad_codec.specs.declared.form.ValueForm.TheVariants.{Composite}
+use Rattle.cad_codec.proofs.Steps.{value_step}
 use Rattle.cad_codec.proofs.reading.+reads.Goals as goal
 
 pub read_value-returns-in-Composite : goal.read_value-returns-in-Composite
-read_value-returns-in-Composite t c = ?
+read_value-returns-in-Composite t c =
+    let step = value_step c.args.left (c.args.left - 1) c.args.reader.now c.read_form.new.reader c.in_ok-read_form.field-0 Composite (omega (arith, c.if-left-eq0.false)) c.in_ok-read_form.ensures c.in-Composite.is in
+    rw step c.read_composite.ensures
 
 pub read_values-returns-in_err-value : goal.read_values-returns-in_err-value
 read_values-returns-in_err-value t c =

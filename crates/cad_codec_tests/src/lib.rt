@@ -1,0 +1,5 @@
+//! Tests of values and of their bytes.
+#![tactic(auto)]
+
+#[cfg(test)]
+mod tests;
