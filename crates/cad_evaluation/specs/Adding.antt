@@ -4,6 +4,7 @@ use Rattle.std.specs.Option.{is_some}
 use Rattle.cad_syntax.specs.TypeIds.{same_id}
 use Rattle.cad_syntax.specs.Types.{PureType}
 use Rattle.cad_syntax.specs.declared.address.Address.{Address}
+use Rattle.cad_syntax.specs.declared.text.Name.{Name}
 use Rattle.cad_syntax.specs.declared.type_id.TypeId.{TypeId}
 use Rattle.cad_declarations.specs.Kinds.{declaration_of}
 use Rattle.cad_declarations.specs.Tables.{SignatureType, TypeEntry, MemberEntry}
@@ -80,12 +81,12 @@ abbrev pub entry_members : Option TypeEntry → List MemberEntry
 entry_members None = []
 entry_members (Some entry) = entry.members
 
+abbrev pub with_fields : ℕ → List Name → Contract → Contract
+with_fields l names c = record c { value = node (l ∷ []) 0 (composite c.id 0 names) (empty_places (length names)) stop }
+
 -- its value has this label, and no field is set
 abbrev pub with_empty_value : ℕ → Contract → Contract
-with_empty_value l c = with_fields (field_names (entry_members (own_entry c.id c.program)))
-  where
-    with_fields : List Name → Contract
-    with_fields names = record c { value = node (l ∷ []) 0 (composite c.id 0 names) (empty_places (length names)) stop }
+with_empty_value l c = with_fields l (field_names (entry_members (own_entry c.id c.program))) c
 
 -- the contract stands among the contracts, and its initializer may run
 abbrev pub begin_contract : Contract → Action ℕ
