@@ -246,7 +246,6 @@ letter_has m q l s o true h = spelled_has h l s refl
 letter_has m q l s o false h = silent_has Next h refl
 
 module _ (m : Rules) where
-
   seq_first : (s t : Table) (q : State) (x : Way) (u w : List LetterAt) (o : Outcome) → ((z : Outcome) → Runs m q u z → Has (at s q) (token Next z))
       → ((r : State) (z : Outcome) → Runs m r w z → Has (at t r) (token x z)) → Parts m q u w o → Has (at (in_turn s t) q) (token x o)
   unfolding Parts

@@ -180,7 +180,6 @@ leaks_split e h = go (or_split (holds e.next || holds e.broken) (holds e.continu
     go (inr i) = two (or_split (holds e.continued) (holds e.returned) i)
 
 module _ (m : Rules) where
-
   abbrev used : PathVariable → Position → Offence
   used v t = record { at = t; kind = UsedAfterMove; variable = v }
 

@@ -4,4 +4,6 @@ pub mod Has
 pub mod Linear
 pub mod Positions
 pub mod Rows
+pub mod Settings
 pub mod Sweeps
+pub mod Turns

@@ -52,7 +52,6 @@ Reach m who b q (leaves x r) = (w : List LetterAt) × Words who b w x × Runs m 
 Reach m who b q (offends n) = (w : List LetterAt) × (x : Way) × (t : Position) × Words who b w x × Runs m q w (off t) × NotAfter t n
 
 module _ (m : Rules) (who : Option ℕ) where
-
   -- ---- sequence
 
   seq_off : (a b : PathBody) (q : State) (n t : Position) (u : List LetterAt) (x : Way) → Words who a u x → Runs m q u (off t) → NotAfter t n
@@ -240,7 +239,6 @@ choice_at a b Refilled = refl
 choice_at a b Gone = refl
 
 module _ (m : Rules) (who : Option ℕ) where
-
   -- what one letter comes to
   letter_comes : (v : ℕ) (l : Letter) (s : Position) (q : State) (k : Token) → spelled who v l s ≡ letter_at l s ∷ [] → Comes (steps m q l) (is_wrong m q l) s k → Reach m who (spell v l s) q k
   letter_comes v l s q (leaves x r) d (p, e) =

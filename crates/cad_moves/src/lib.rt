@@ -2,11 +2,13 @@
 #![tactic(auto)]
 
 mod body;
+mod leaf;
+mod letters;
 mod misuse;
 mod reading;
-
 mod search;
 mod state;
+mod statements;
 mod table;
 
 pub use body::{Body, Item};

@@ -7,7 +7,7 @@ use cad_syntax::Name;
 pub struct Misuse {
     pub variable: Name,
     /// How many variables were in scope when it was declared.
-    pub number: u32,
+    pub number: u64,
     pub kind: MoveKind,
     pub at: Position,
 }

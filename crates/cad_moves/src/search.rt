@@ -8,13 +8,15 @@ ghost use Rattle.cad_moves.specs.Views.{body_of, item_of, row_of, offence_of, na
 use crate::body::{Body, Item};
 use crate::misuse::Misuse;
 use crate::state::{Rules, is_before, is_same};
-use crate::table::{Effect, States, Table, catch_all, choice, in_turn, leaving, letter_table, looped};
+use crate::table::{
+    Effect, States, Table, catch_all, choice, in_turn, leaving, letter_table, looped,
+};
 use cad_paths::{MoveKind, Position, Way};
 use cad_syntax::Name;
 use std::alloc::AllocError;
 
 /// Whether a letter is that of the variable whose letters are spelled.
-fn is_own(who: Option<u32>, variable: u32) -> bool
+fn is_own(who: Option<u64>, variable: u64) -> bool
     ensures { result ≡ is_spelled who variable }
 {
     match who {
@@ -25,7 +27,7 @@ fn is_own(who: Option<u32>, variable: u32) -> bool
 
 /// What the paths of a body come to for one variable, or where no letters are anyone's.
 #[cycle(sweeps)]
-fn sweep(rules: Rules, who: Option<u32>, body: &Body) -> Table
+fn sweep(rules: Rules, who: Option<u64>, body: &Body) -> Table
     ensures { result ≡ table.sweep rules who (body_of body.now) }
 {
     match body {
@@ -42,7 +44,7 @@ fn sweep(rules: Rules, who: Option<u32>, body: &Body) -> Table
 /// The same of the parts of a block.
 #[cycle(sweeps)]
 #[tactic(auto, using(crate::proofs::Rows::row_at))]
-fn sweep_row(rules: Rules, who: Option<u32>, items: &[Item]) -> Table
+fn sweep_row(rules: Rules, who: Option<u64>, items: &[Item]) -> Table
     ensures { result ≡ table.sweep rules who (row_of (map item_of items.now)) }
 {
     let mut found = leaving(Way::Next);
@@ -91,13 +93,7 @@ fn sooner(a: Option<Misuse>, b: Option<Misuse>) -> Option<Misuse>
         None => b,
         Some(x) => match b {
             None => Some(x),
-            Some(y) => {
-                if is_after(&x, &y) {
-                    Some(y)
-                } else {
-                    Some(x)
-                }
-            }
+            Some(y) => { if is_after(&x, &y) { Some(y) } else { Some(x) } }
         },
     }
 }
@@ -120,12 +116,7 @@ fn leaks(e: Effect) -> bool
     early || late
 }
 
-fn misuse(
-    number: u32,
-    variable: &Name,
-    kind: MoveKind,
-    at: Position,
-) -> Result<Misuse, AllocError>
+fn misuse(number: u64, variable: &Name, kind: MoveKind, at: Position) -> Result<Misuse, AllocError>
     ensures { IfOk result (λ m. offence_of m ≡ record { at = at; kind = kind; variable = named number variable.now }) }
 {
     Ok(Misuse {
@@ -136,11 +127,7 @@ fn misuse(
     })
 }
 
-fn wrong(
-    number: u32,
-    variable: &Name,
-    at: Option<Position>,
-) -> Result<Option<Misuse>, AllocError>
+fn wrong(number: u64, variable: &Name, at: Option<Position>) -> Result<Option<Misuse>, AllocError>
     ensures { IfOk result (λ m. option_map offence_of m ≡ spec.wrong_error (named number variable.now) at) }
 {
     match at {
@@ -150,7 +137,7 @@ fn wrong(
 }
 
 fn lost(
-    number: u32,
+    number: u64,
     variable: &Name,
     at: Position,
     is_lost: bool,
@@ -167,7 +154,7 @@ fn lost(
 /// The first misuse of a variable in its scope, of which this is the effect.
 #[tactic(auto, unfolding(crate::specs::Code::Firsts::judged))]
 fn judged(
-    number: u32,
+    number: u64,
     variable: &Name,
     at: Position,
     e: Effect,

@@ -129,7 +129,11 @@ pub(crate) fn is_before(s: Position, t: Position) -> bool
 {
     let left = part_order_of(s.part);
     let right = part_order_of(t.part);
-    if left == right { s.at <= t.at } else { left < right }
+    if left == right {
+        s.at <= t.at
+    } else {
+        left < right
+    }
 }
 
 /// Whether the two are one position.

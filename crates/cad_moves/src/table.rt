@@ -329,7 +329,11 @@ fn marked(rules: Rules, is_own: bool, letter: Letter, at: Position, state: State
     ensures { result ≡ spec.marked rules is_own letter at state }
 {
     if is_own {
-        spelling(steps(rules, state, letter), is_wrong(rules, state, letter), at)
+        spelling(
+            steps(rules, state, letter),
+            is_wrong(rules, state, letter),
+            at,
+        )
     } else {
         only(Way::Next, just(state))
     }
@@ -421,4 +425,3 @@ pub(crate) fn looped(a: Table) -> Table
         gone,
     }
 }
-

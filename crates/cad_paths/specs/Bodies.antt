@@ -1,15 +1,14 @@
 -- What elaborated statements and whole bodies spell, and what the checks of moves and of initialisation ask of them.
-use Rattle.std.specs.Prelude.{◌≡◌, ℕ, ◌+◌, List, [], ◌∷◌, Option, Some, None, length, if◌then◌else◌, Bool, true, false}
-use Rattle.cad_syntax.specs.Types.{PureType}
+use Rattle.std.specs.Prelude.{ℕ, ◌+◌, List, [], ◌∷◌, Option, Some, None, if◌then◌else◌, Bool, true, false}
 use Rattle.cad_declarations.specs.Typed as e
-use Rattle.cad_paths.specs.declared.letter.Way.{Way}
-use Rattle.cad_paths.specs.declared.letter.Way.TheVariants.{Next, Broken, Continued, Returned, Never}
+use Rattle.cad_paths.specs.declared.letter.Letter.TheVariants.{Fill, Spend, Empty}
+use Rattle.cad_paths.specs.declared.letter.Way.TheVariants.{Broken, Continued, Returned}
 use Rattle.cad_paths.specs.declared.letter.BodyPart.{BodyPart}
 use Rattle.cad_paths.specs.declared.letter.BodyPart.TheVariants.{Whole, Declaration, Prepare, Pre, Execute, Post}
 use Rattle.cad_paths.specs.declared.letter.Position.{Position}
 use Rattle.cad_paths.specs.declared.letter.FieldRule.{FieldRule}
-use Rattle.cad_paths.specs.Paths.{PathVariable, PathBody, leave, spell, seq, either, loop, catch, scope, skip}
-use Rattle.cad_paths.specs.Letters.{Reading, resources, fields_of_self, fields_of_transaction, is_self, maybe, ending, variable_use, variable_spend, variable_empty, variable_fill, variable_set, own_field_use, own_field_set, place_letters, term_letters, take_letters, arguments_letters}
+use Rattle.cad_paths.specs.Paths.{PathVariable, PathBody, leave, seq, either, loop, catch, scope, skip}
+use Rattle.cad_paths.specs.Letters.{Reading, resources, fields_of_self, fields_of_transaction, is_self, maybe, ending, variable_letters, variable_set, own_field_use, own_field_set, place_letters, term_letters, take_letters, arguments_letters}
 
 abbrev pub position : BodyPart → ℕ → Position
 position part n = record { part = part; at = n }
@@ -33,7 +32,7 @@ set_letters r at _ = skip
 
 -- what stands in the place is replaced: by `<-!`, `<->` or a second value
 abbrev pub fill_letters : Reading → Position → e.PlaceTree → PathBody
-fill_letters r at (e.variable v) = variable_fill r at v
+fill_letters r at (e.variable v) = variable_letters r Fill at v
 fill_letters r at (e.field p of name) = if is_self p then own_field_use r at name else skip
 fill_letters r at _ = skip
 
@@ -42,28 +41,48 @@ fill_letters r at _ = skip
 abbrev pub path_variable : e.VariableEntry → PathVariable
 path_variable v = record { number = v.number; name = v.name }
 
--- a variable of resource type, and its scope
-abbrev pub declared : Reading → e.VariableEntry → Position → PathBody → PathBody
-declared resources v at a = if v.is_resource then scope (path_variable v) at a else a
-declared (fields_of_self fs) v at a = a
-declared (fields_of_transaction fs) v at a = a
+-- whether a variable's scope is marked: that of a resource, where resources are asked for
+abbrev pub is_scope : Reading → e.VariableEntry → Bool
+is_scope resources v = v.is_resource
+is_scope (fields_of_self fs) v = false
+is_scope (fields_of_transaction fs) v = false
 
--- The test and the body, any number of times, and the test before it ends.
+-- a variable, and its scope
+abbrev pub declared : Reading → e.VariableEntry → Position → PathBody → PathBody
+declared r v at a = if is_scope r v then scope (path_variable v) at a else a
+
+-- The test and the body, any number of times, and the test before it ends; a `continue` comes to the test.
+abbrev pub turns_between : PathBody → PathBody → PathBody → PathBody
+turns_between first test a = catch Broken (seq first (loop (seq (catch Continued a) test)))
+
 abbrev pub while_letters : PathBody → PathBody → PathBody
-while_letters test a = catch Broken (seq test (loop (seq (catch Continued a) test)))
+while_letters test a = turns_between test test a
 
 abbrev pub for_letters : PathBody → PathBody → PathBody
 for_letters array a = seq array (catch Broken (loop (catch Continued a)))
 
+abbrev pub place_variable : e.PlaceTree → Option ℕ
+place_variable (e.variable v) = Some v
+place_variable _ = None
+
+-- the variable whose value an expression takes
+abbrev pub taken_variable : e.TermTree → Option ℕ
+taken_variable (e.take p) = place_variable p
+taken_variable _ = None
+
 -- Where the value of `if let` is itself a variable, or a transaction's field, it is spent in the first branch and nil in the
 -- second; any other value is evaluated before the branches.
-abbrev pub if_let_letters : Reading → Position → e.TermTree → PathBody → PathBody → PathBody
-if_let_letters r at (e.take (e.variable v)) a b = either (seq (variable_spend r at v) a) (seq (variable_empty r at v) b)
-if_let_letters r at x a b = seq (term_letters r at x) (either a b)
+abbrev pub if_let_letters : Reading → Position → Option ℕ → PathBody → PathBody → PathBody → PathBody
+if_let_letters r at (Some v) x a b = either (seq (variable_letters r Spend at v) a) (seq (variable_letters r Empty at v) b)
+if_let_letters r at None x a b = seq x (either a b)
 
 -- a failable cast: the resource is spent in the first branch and stays in the second
 abbrev pub if_cast_letters : Reading → Position → e.PlaceTree → PathBody → PathBody → PathBody
 if_cast_letters r at p a b = either (seq (take_letters r at p (place_letters r at p)) a) (seq (place_letters r at p) b)
+
+abbrev pub return_letters : Reading → Position → Option e.TermTree → PathBody
+return_letters r at None = leave Returned
+return_letters r at (Some x) = seq (term_letters r at x) (leave Returned)
 
 -- a statement's own variable has the statements behind it as its scope
 abbrev pub scope_behind : Reading → BodyPart → e.StatementTree → PathBody → PathBody
@@ -81,15 +100,15 @@ abbrev mutual
       (seq (fill_letters r (position part n) p) (fill_letters r (position part n) q)))
   statement_letters r part (e.expression n x) = term_letters r (position part n) x
   statement_letters r part (e.if_else n x a b) = seq (term_letters r (position part n) x) (either (block_letters r part a) (block_letters r part b))
-  statement_letters r part (e.if_let n v x t a b) = if_let_letters r (position part n) x (declared r v (position part n) (block_letters r part a)) (block_letters r part b)
+  statement_letters r part (e.if_let n v x t a b) = if_let_letters r (position part n) (taken_variable x) (term_letters r (position part n) x) (declared r v (position part n) (block_letters r part a)) (block_letters r part b)
   statement_letters r part (e.if_cast n v p t a b) = if_cast_letters r (position part n) p (declared r v (position part n) (block_letters r part a)) (block_letters r part b)
   statement_letters r part (e.while_loop n x a) = while_letters (term_letters r (position part n) x) (block_letters r part a)
   statement_letters r part (e.for_loop n i v x t a) = for_letters (term_letters r (position part n) x) (block_letters r part a)
   statement_letters r part (e.switch n x all otherwise) = seq (term_letters r (position part n) x) (catch Broken (cases_letters r part n all (block_letters r part otherwise)))
   statement_letters r part (e.break_loop n) = leave Broken
   statement_letters r part (e.continue_loop n) = leave Continued
-  statement_letters r part (e.return_nothing n) = leave Returned
-  statement_letters r part (e.return_value n x t) = seq (term_letters r (position part n) x) (leave Returned)
+  statement_letters r part (e.return_nothing n) = return_letters r (position part n) None
+  statement_letters r part (e.return_value n x t) = return_letters r (position part n) (Some x)
   statement_letters r part (e.emit n id args) = arguments_letters r (position part n) args
 
   pub block_letters : Reading → BodyPart → e.BlockTree → PathBody

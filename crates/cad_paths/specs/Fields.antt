@@ -5,7 +5,7 @@ use Rattle.cad_syntax.specs.Types.{PureType}
 use Rattle.cad_syntax.specs.declared.type_id.TypeId.{TypeId}
 use Rattle.cad_syntax.specs.declared.text.Name.{Name}
 use Rattle.cad_grammar.specs.declared.statement.VariableKind.{VariableKind}
-use Rattle.cad_grammar.specs.declared.statement.VariableKind.TheVariants.{Let, Var}
+use Rattle.cad_grammar.specs.declared.statement.VariableKind.TheVariants.{Let}
 use Rattle.cad_types.specs.Declarations.{Declaration, resource}
 use Rattle.cad_types.specs.declared.declared.Sort.{Sort}
 use Rattle.cad_types.specs.declared.declared.Sort.TheVariants as sort

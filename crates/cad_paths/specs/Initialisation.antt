@@ -1,6 +1,5 @@
 -- Whether each field is set once and before it is used, on every path, and else the first place where one isn't.
-use Rattle.std.specs.Prelude.{◌≡◌, List, [], ◌∷◌, ◌++◌, Option, Some, None, true}
-use Rattle.cad_paths.specs.declared.letter.Letter.{Letter}
+use Rattle.std.specs.Prelude.{◌≡◌, List, ◌∷◌, ◌++◌, Option, Some, None, true}
 use Rattle.cad_paths.specs.declared.letter.Letter.TheVariants.{Need, Fresh, Set}
 use Rattle.cad_paths.specs.declared.letter.Way.{Way}
 use Rattle.cad_paths.specs.declared.letter.Position.{Position}

@@ -1,5 +1,5 @@
 -- What elaborated expressions and statements spell, in the order of evaluation.
-use Rattle.std.specs.Prelude.{◌≡◌, ℕ, ◌+◌, ◌&&◌, ◌==◌, zero, suc, List, [], ◌∷◌, Option, Some, None, if◌then◌else◌, Bool, true, false}
+use Rattle.std.specs.Prelude.{ℕ, ◌+◌, ◌&&◌, ◌==◌, slice_get, List, [], ◌∷◌, Option, Some, None, if◌then◌else◌, Bool, true, false}
 use Rattle.std.specs.Cmp.Lexicographic.{pointwise}
 use Rattle.cad_syntax.specs.Types.{PureType, basic}
 use Rattle.cad_syntax.specs.declared.types.Basic.TheVariants as b
@@ -9,7 +9,9 @@ use Rattle.cad_grammar.specs.declared.expression.BinaryOperator.TheVariants as o
 use Rattle.cad_types.specs.declared.builtin.Builtin.{Builtin}
 use Rattle.cad_types.specs.declared.builtin.Builtin.TheVariants as builtin
 use Rattle.cad_declarations.specs.Typed as e
-use Rattle.cad_paths.specs.declared.letter.Letter.TheVariants.{Use, Fill, Spend, Empty, Need, Fresh, Set}
+use Rattle.cad_paths.specs.declared.letter.Letter.{Letter}
+use Rattle.cad_paths.specs.declared.letter.NumberedField.{NumberedField}
+use Rattle.cad_paths.specs.declared.letter.Letter.TheVariants.{Use, Spend, Need, Fresh, Set}
 use Rattle.cad_paths.specs.declared.letter.Way.TheVariants.{Never}
 use Rattle.cad_paths.specs.declared.letter.Position.{Position}
 use Rattle.cad_paths.specs.declared.letter.FieldRule.{FieldRule}
@@ -29,39 +31,16 @@ pub data Reading : Type 0 where
 abbrev pub same_name : Name → Name → Bool
 same_name a b = pointwise ◌==◌ a.0 b.0
 
+-- Something is done with a variable: for a transaction's fields the variable must have been set.
+abbrev pub variable_letters : Reading → Letter → Position → ℕ → PathBody
+variable_letters resources l at v = spell v l at
+variable_letters (fields_of_self fs) l at v = skip
+variable_letters (fields_of_transaction fs) l at v = spell v Need at
+
 -- each of these fields must have been set; the first has this number
 abbrev pub all_needed : ℕ → List FieldRule → Position → PathBody
 all_needed n [] at = skip
 all_needed n (f ∷ fs) at = seq (spell n Need at) (all_needed (n + 1) fs at)
-
--- the field of this name is set; that nothing was set before is wanted where it may be set but once
-abbrev pub setting : Bool → ℕ → Position → PathBody
-setting true n at = seq (spell n Fresh at) (spell n Set at)
-setting false n at = spell n Set at
-
--- a variable whose value is looked at
-abbrev pub variable_use : Reading → Position → ℕ → PathBody
-variable_use resources at v = spell v Use at
-variable_use (fields_of_self fs) at v = skip
-variable_use (fields_of_transaction fs) at v = spell v Need at
-
--- a variable whose value leaves it
-abbrev pub variable_spend : Reading → Position → ℕ → PathBody
-variable_spend resources at v = spell v Spend at
-variable_spend (fields_of_self fs) at v = skip
-variable_spend (fields_of_transaction fs) at v = spell v Need at
-
--- a variable that turned out to be nil
-abbrev pub variable_empty : Reading → Position → ℕ → PathBody
-variable_empty resources at v = spell v Empty at
-variable_empty (fields_of_self fs) at v = skip
-variable_empty (fields_of_transaction fs) at v = spell v Need at
-
--- a variable whose value is replaced, by `<-!`, `<->` or a second value
-abbrev pub variable_fill : Reading → Position → ℕ → PathBody
-variable_fill resources at v = spell v Fill at
-variable_fill (fields_of_self fs) at v = skip
-variable_fill (fields_of_transaction fs) at v = spell v Need at
 
 -- `self` other than as the receiver of one of its fields
 abbrev pub self_use : Reading → Position → PathBody
@@ -69,37 +48,46 @@ self_use resources at = skip
 self_use (fields_of_self fs) at = all_needed 0 fs at
 self_use (fields_of_transaction fs) at = skip
 
--- the field of this name among fields of which the first has this number; any other member needs them all
-abbrev pub named_use : List FieldRule → ℕ → List FieldRule → Position → Name → PathBody
-named_use all n [] at name = all_needed 0 all at
-named_use all n (f ∷ fs) at name = if same_name f.name name then spell n Need at else named_use all (n + 1) fs at name
+-- the field of this name, where the first of these has this number
+abbrev pub field_named : ℕ → List FieldRule → Name → Option NumberedField
+field_named n [] name = None
+field_named n (f ∷ fs) name = if same_name f.name name then Some (record { number = n; is_once = f.is_once }) else field_named (n + 1) fs name
 
-abbrev pub named_set : ℕ → List FieldRule → Position → Name → PathBody
-named_set n [] at name = skip
-named_set n (f ∷ fs) at name = if same_name f.name name then setting f.is_once n at else named_set (n + 1) fs at name
+-- a member of `self` that is no field needs all fields
+abbrev pub needed : List FieldRule → Position → Option NumberedField → PathBody
+needed fs at None = all_needed 0 fs at
+needed fs at (Some f) = spell f.number Need at
 
 -- `self.n` is looked at, or replaced
 abbrev pub own_field_use : Reading → Position → Name → PathBody
 own_field_use resources at name = skip
-own_field_use (fields_of_self fs) at name = named_use fs 0 fs at name
+own_field_use (fields_of_self fs) at name = needed fs at (field_named 0 fs name)
 own_field_use (fields_of_transaction fs) at name = skip
+
+-- a field is set; that it wasn't set before is wanted where it may be set but once
+abbrev pub setting : Bool → ℕ → Position → PathBody
+setting true n at = seq (spell n Fresh at) (spell n Set at)
+setting false n at = spell n Set at
+
+abbrev pub set_field : Position → Option NumberedField → PathBody
+set_field at None = skip
+set_field at (Some f) = setting f.is_once f.number at
 
 -- `self.n` is assigned to
 abbrev pub own_field_set : Reading → Position → Name → PathBody
 own_field_set resources at name = skip
-own_field_set (fields_of_self fs) at name = named_set 0 fs at name
+own_field_set (fields_of_self fs) at name = set_field at (field_named 0 fs name)
 own_field_set (fields_of_transaction fs) at name = skip
 
--- the transaction's field with this number is assigned to
-abbrev pub numbered_set : ℕ → List FieldRule → Position → ℕ → PathBody
-numbered_set v [] at n = skip
-numbered_set v (f ∷ fs) at zero = setting f.is_once v at
-numbered_set v (f ∷ fs) at (suc n) = numbered_set v fs at n
+abbrev pub numbered : ℕ → Option FieldRule → Option NumberedField
+numbered v None = None
+numbered v (Some f) = Some (record { number = v; is_once = f.is_once })
 
+-- a variable is assigned to: a transaction's field is set
 abbrev pub variable_set : Reading → Position → ℕ → PathBody
 variable_set resources at v = skip
 variable_set (fields_of_self fs) at v = skip
-variable_set (fields_of_transaction fs) at v = numbered_set v fs at v
+variable_set (fields_of_transaction fs) at v = set_field at (numbered v (slice_get fs v))
 
 abbrev pub is_self : e.PlaceTree → Bool
 is_self e.self = true
@@ -107,7 +95,7 @@ is_self _ = false
 
 -- a place whose value leaves it: a variable, or a field of a transaction
 abbrev pub take_letters : Reading → Position → e.PlaceTree → PathBody → PathBody
-take_letters r at (e.variable v) other = variable_spend r at v
+take_letters r at (e.variable v) other = variable_letters r Spend at v
 take_letters r at _ other = other
 
 -- ---- what ends a path, and what may be left out
@@ -155,12 +143,16 @@ member_of_self r at (e.method name is_view is_never args) = self_use r at
 member_of_self r at (e.builtin_field member) = self_use r at
 member_of_self r at (e.builtin_call member types args) = self_use r at
 
+-- a receiver, of which the last is spelled where it isn't `self`
+abbrev pub receiver_letters : Reading → Position → e.PlaceTree → e.UseTree → PathBody → PathBody
+receiver_letters r at p u other = if is_self p then member_of_self r at u else other
+
 -- ---- expressions
 
 abbrev mutual
   -- a place whose value is looked at: a receiver, the operand of `&`, or beside nil
   pub place_letters : Reading → Position → e.PlaceTree → PathBody
-  place_letters r at (e.variable v) = variable_use r at v
+  place_letters r at (e.variable v) = variable_letters r Use at v
   place_letters r at e.self = self_use r at
   place_letters r at (e.contract id) = skip
   place_letters r at (e.target x) = term_letters r at x
@@ -192,7 +184,7 @@ abbrev mutual
   term_letters r at (e.create id args) = arguments_letters r at args
   term_letters r at (e.call f is_view is_never args) = seq (arguments_letters r at args) (ending is_never)
   term_letters r at (e.builtin member types args) = seq (arguments_letters r at args) (ending (is_never_builtin member types))
-  term_letters r at (e.on p u) = seq (if is_self p then member_of_self r at u else place_letters r at p) (seq (use_letters r at u) (ending (ends_path u)))
+  term_letters r at (e.on p u) = seq (receiver_letters r at p u (place_letters r at p)) (seq (use_letters r at u) (ending (ends_path u)))
   term_letters r at (e.chain p u wraps) = seq (place_letters r at p) (maybe (use_letters r at u))
   term_letters r at (e.index p of x) = seq (place_letters r at p) (term_letters r at x)
   term_letters r at (e.hold n t x body) = seq (term_letters r at x) (term_letters r at body)

@@ -1,6 +1,5 @@
 -- Which lives of a resource variable are linear, and the first offence where some isn't.
-use Rattle.std.specs.Prelude.{◌≡◌, ℕ, ◌+◌, ◌≤◌, ◌<◌, List, [], ◌∷◌, ◌++◌, map, Option, Some, None, Bool, true, false, if◌then◌else◌}
-use Rattle.cad_syntax.specs.declared.text.Name.{Name}
+use Rattle.std.specs.Prelude.{◌≡◌, ℕ, ◌≤◌, List, [], ◌∷◌, ◌++◌, map, Option, Some, None, Bool, true, false, if◌then◌else◌}
 use Rattle.cad_paths.specs.declared.letter.Letter.{Letter}
 use Rattle.cad_paths.specs.declared.letter.Letter.TheVariants.{Use, Fill, Spend, Empty}
 use Rattle.cad_paths.specs.declared.letter.Way.{Way}

@@ -1,5 +1,5 @@
 -- Purity: what view functions, view initializers and conditions may do, and else the first statement that does more.
-use Rattle.std.specs.Prelude.{◌≡◌, ℕ, ◌&&◌, ◌||◌, not, List, [], ◌∷◌, map, Option, Some, None, option_map, nat_le, length, if◌then◌else◌, Bool, true, false}
+use Rattle.std.specs.Prelude.{ℕ, ◌&&◌, ◌||◌, not, List, [], ◌∷◌, Option, Some, None, option_map, nat_le, length, if◌then◌else◌, Bool, true, false}
 use Rattle.std.specs.List.{list_all}
 use Rattle.cad_syntax.specs.Types.{PureType, array, dictionary}
 use Rattle.cad_syntax.specs.Types as type

@@ -1,5 +1,5 @@
 -- Definite return.
-use Rattle.std.specs.Prelude.{◌≡◌, Option, Some, None}
+use Rattle.std.specs.Prelude.{◌≡◌, Some}
 use Rattle.cad_syntax.specs.Types.{basic}
 use Rattle.cad_syntax.specs.declared.types.Basic.TheVariants.{Void}
 use Rattle.cad_declarations.specs.Typed as e

@@ -61,3 +61,10 @@ pub struct FieldRule {
     pub name: Name,
     pub is_once: bool,
 }
+
+/// A field by its number among the fields of what sets it, and whether it may be set but once.
+#[derive(Clone, Copy)]
+pub struct NumberedField {
+    pub number: u64,
+    pub is_once: bool,
+}

@@ -5,4 +5,4 @@
 pub mod laws;
 mod letter;
 
-pub use letter::{BodyPart, FieldRule, Letter, MoveKind, Position, Way};
+pub use letter::{BodyPart, FieldRule, Letter, MoveKind, NumberedField, Position, Way};
