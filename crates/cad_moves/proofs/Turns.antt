@@ -1,7 +1,10 @@
 -- Turns of the loops that make rows.
 use Rattle.std.proofs.Common.{◌≡◌, ℕ, ◌+◌, ◌<◌, List, [], ◌∷◌, ◌++◌, length, drop, get_or, refl, sym, ◌∙◌, ap, map, arith, if◌then◌else◌, Bool, true, add-one, drop-cons}
 use Rattle.cad_declarations.specs.Typed.{VariableEntry, terms_of, arguments_of, entries_of, statements_of, cases_of}
-use Rattle.cad_declarations.specs.Views.{term_of, argument_of, pair_of, statement_of, case_of}
+use Rattle.cad_declarations.specs.Views.{term_of, argument_of, pair_of, statement_of, case_of, condition_of, before_of, variable_of}
+use Rattle.cad_declarations.specs.declared.body.TypedCondition.{TypedCondition}
+use Rattle.cad_declarations.specs.declared.body.TypedBefore.{TypedBefore}
+use Rattle.cad_declarations.specs.declared.statement.Variable.{Variable}
 use Rattle.cad_declarations.specs.declared.term.Term.{Term}
 use Rattle.cad_declarations.specs.declared.term.Argument.{Argument}
 use Rattle.cad_declarations.specs.declared.term.TermEntry.{TermEntry}
@@ -12,8 +15,8 @@ use Rattle.cad_paths.specs.declared.letter.FieldRule.{FieldRule}
 use Rattle.cad_paths.specs.declared.letter.Letter.TheVariants.{Need}
 use Rattle.cad_paths.specs.declared.letter.Position.{Position}
 use Rattle.cad_paths.specs.Paths.{PathBody, spell, seq, either, scope}
-use Rattle.cad_paths.specs.Letters.{Reading, all_needed, term_letters, terms_letters, arguments_letters, entries_letters}
-use Rattle.cad_paths.specs.Bodies.{position, path_variable, is_scope, declared, statement_letters, statements_letters, scope_behind, block_letters, cases_letters}
+use Rattle.cad_paths.specs.Letters.{Reading, resources, all_needed, term_letters, terms_letters, arguments_letters, entries_letters}
+use Rattle.cad_paths.specs.Bodies.{position, path_variable, is_scope, declared, statement_letters, statements_letters, scope_behind, block_letters, cases_letters, condition_letters, conditions_letters, before_value, before_letters, from_start}
 use Rattle.cad_moves.specs.Views.{PathItem, placed, item_of}
 use Rattle.cad_moves.specs.Code.Rows.{row_over}
 use Rattle.cad_moves.specs.declared.body.Item.{Item}
@@ -74,3 +77,22 @@ cases_step r part n es otherwise i e h is row a b whole c d k =
     ap (λ z. row_over row (seq z (either b (cases_letters r part n (cases_of (map case_of (drop (i + 1) es))) otherwise)))) c
     ∙ ap (λ z. row_over row (seq (term_letters r (position part n) (case_of e).value) (either z (cases_letters r part n (cases_of (map case_of (drop (i + 1) es))) otherwise)))) d
     ∙ ap (λ z. row_over row (cases_letters r part n (cases_of (map case_of z)) otherwise)) (sym (cons_at es i e h is)) ∙ k
+
+pub conditions_step : (r : Reading) (part : BodyPart) (es : List TypedCondition) (i : ℕ) (e : TypedCondition) → i < length es → e ≡ get_or es i e → (row : List PathItem) (b whole : PathBody)
+    → b ≡ condition_letters r part (condition_of e)
+    → row_over row (conditions_letters r part (map condition_of (drop i es))) ≡ whole → row_over row (seq b (conditions_letters r part (map condition_of (drop (i + 1) es)))) ≡ whole
+conditions_step r part es i e h is row b whole d k =
+    ap (λ z. row_over row (seq z (conditions_letters r part (map condition_of (drop (i + 1) es))))) d
+    ∙ ap (λ z. row_over row (conditions_letters r part (map condition_of z))) (sym (cons_at es i e h is)) ∙ k
+
+pub before_step : (r : Reading) (part : BodyPart) (es : List TypedBefore) (i : ℕ) (e : TypedBefore) → i < length es → e ≡ get_or es i e → (row : List PathItem) (b whole : PathBody)
+    → b ≡ before_value r part (before_of e)
+    → row_over row (before_letters r part (map before_of (drop i es))) ≡ whole → row_over row (seq b (before_letters r part (map before_of (drop (i + 1) es)))) ≡ whole
+before_step r part es i e h is row b whole d k =
+    ap (λ z. row_over row (seq z (before_letters r part (map before_of (drop (i + 1) es))))) d
+    ∙ ap (λ z. row_over row (before_letters r part (map before_of z))) (sym (cons_at es i e h is)) ∙ k
+
+pub start_step : (es : List Variable) (at : Position) (a : PathBody) (i : ℕ) (e : Variable) → i < length es → e ≡ get_or es i e → (row : List PathItem) (whole : PathBody)
+    → row_over row (from_start (map variable_of (drop i es)) at a) ≡ whole
+    → row_over row (declared resources (variable_of e) at (from_start (map variable_of (drop (i + 1) es)) at a)) ≡ whole
+start_step es at a i e h is row whole k = ap (λ z. row_over row (from_start (map variable_of z) at a)) (sym (cons_at es i e h is)) ∙ k

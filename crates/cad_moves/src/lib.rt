@@ -1,7 +1,9 @@
 //! Whether each resource is spent once on every path, and else the first misuse.
 #![tactic(auto)]
 
+mod bodies;
 mod body;
+mod check;
 mod leaf;
 mod letters;
 mod misuse;
@@ -12,6 +14,7 @@ mod statements;
 mod table;
 
 pub use body::{Body, Item};
-pub use misuse::Misuse;
+pub use check::moves;
+pub use misuse::{Misuse, MoveStop};
 pub use reading::Reading;
 pub use state::Rules;

@@ -11,3 +11,12 @@ pub struct Misuse {
     pub kind: MoveKind,
     pub at: Position,
 }
+
+/// Why moves are refused, or couldn't be judged.
+#[derive(Drop)]
+pub enum MoveStop {
+    /// The first misuse.
+    At(Misuse),
+    /// There was no memory.
+    Memory,
+}

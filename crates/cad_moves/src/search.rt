@@ -182,7 +182,7 @@ pub(crate) struct Found {
 
 /// The first misuse in a body, and where its paths lead.
 #[cycle(searches)]
-fn search(rules: Rules, body: &Body) -> Result<Found, AllocError>
+pub(crate) fn search(rules: Rules, body: &Body) -> Result<Found, AllocError>
     ensures first { IfOk result (λ f. option_map offence_of f.misuse ≡ spec.first_of rules (body_of body.now)) }
     ensures leads { IfOk result (λ f. f.silent ≡ table.sweep rules None (body_of body.now)) }
 {

@@ -22,7 +22,8 @@ use cad_declarations::{Argument, Place, Term, TypedBlock, TypedCase, TypedStatem
 use cad_paths::{BodyPart, Letter, Position, Way};
 use std::alloc::{AllocError, Global};
 
-fn position(part: BodyPart, at: u64) -> Position
+/// A statement or condition of a part.
+pub(crate) fn position(part: BodyPart, at: u64) -> Position
     ensures { result ≡ spec.position part at }
 {
     Position { part, at }

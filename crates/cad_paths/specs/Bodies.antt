@@ -139,9 +139,12 @@ conditions_letters r part [] = skip
 conditions_letters r part (c ∷ all) = seq (condition_letters r part c) (conditions_letters r part all)
 
 -- what `before` uses is used at entry, and counts to its condition
+abbrev pub before_value : Reading → BodyPart → e.BeforeTree → PathBody
+before_value r part x = term_letters r (position part x.at) x.value
+
 abbrev pub before_letters : Reading → BodyPart → List e.BeforeTree → PathBody
 before_letters r part [] = skip
-before_letters r part (x ∷ all) = seq (term_letters r (position part x.at) x.value) (before_letters r part all)
+before_letters r part (x ∷ all) = seq (before_value r part x) (before_letters r part all)
 
 -- ---- whole bodies
 
