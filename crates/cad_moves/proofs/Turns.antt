@@ -96,3 +96,6 @@ pub start_step : (es : List Variable) (at : Position) (a : PathBody) (i : ℕ) (
     → row_over row (from_start (map variable_of (drop i es)) at a) ≡ whole
     → row_over row (declared resources (variable_of e) at (from_start (map variable_of (drop (i + 1) es)) at a)) ≡ whole
 start_step es at a i e h is row whole k = ap (λ z. row_over row (from_start (map variable_of z) at a)) (sym (cons_at es i e h is)) ∙ k
+
+pub start_on : (row : List PathItem) (q : Reading) (v : VariableEntry) (at : Position) (rest : PathBody) → q ≡ resources → row_over row (declared q v at rest) ≡ row_over row (declared resources v at rest)
+start_on row q v at rest e = ap (λ z. row_over row (declared z v at rest)) e

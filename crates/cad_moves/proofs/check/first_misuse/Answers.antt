@@ -7,8 +7,8 @@ use Rattle.cad_moves.proofs.Firsts.{exact}
 use Rattle.cad_moves.proofs.Linear.{answer_by}
 use Rattle.cad_moves.proofs.check.first_misuse.Goals as goal
 
-pub returns-in_ok-found : goal.returns-in_ok-found
-returns-in_ok-found c =
+pub returns : goal.returns
+returns c =
     subst (λ b. MovesOf b (option_map offence_of c.in_ok-found.found.misuse)) c.in_ok-paths.ensures
     (subst (MovesOf (body_of c.in_ok-paths.paths)) (sym c.in_ok-found.ensures.first)
     (answer_by (body_of c.in_ok-paths.paths) (first_of Moves (body_of c.in_ok-paths.paths)) (exact Moves (body_of c.in_ok-paths.paths))))
