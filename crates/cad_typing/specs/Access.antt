@@ -7,7 +7,7 @@ use Rattle.cad_syntax.specs.declared.text.Name.{Name}
 use Rattle.cad_syntax.specs.declared.type_id.TypeId.{TypeId}
 use Rattle.cad_syntax.specs.declared.types.Authorization.{Authorization}
 use Rattle.cad_syntax.specs.declared.types.Authorization.TheVariants as a
-use Rattle.cad_auth.specs.Code.Tests.{grants}
+use Rattle.cad_auth.specs.Tests.{grants}
 use Rattle.cad_auth.specs.Images.{image}
 use Rattle.cad_grammar.specs.declared.statement.VariableKind.{VariableKind}
 use Rattle.cad_grammar.specs.declared.statement.VariableKind.TheVariants as word

@@ -2,7 +2,7 @@
 use Rattle.std.specs.Prelude.{Bool, true, false, not, ◌&&◌, ◌||◌, Option, Some, None, List}
 use Rattle.cad_syntax.specs.Types.{PureType, optional, reference}
 use Rattle.cad_syntax.specs.declared.types.Authorization.{Authorization}
-use Rattle.cad_auth.specs.Code.Tests.{grants}
+use Rattle.cad_auth.specs.Tests.{grants}
 use Rattle.cad_grammar.specs.Trees as s
 use Rattle.cad_grammar.specs.declared.expression.CastKind.TheVariants as cast
 use Rattle.cad_grammar.specs.declared.expression.UnaryOperator.TheVariants as operator
