@@ -163,11 +163,7 @@ fn composite_offer<'a>(
 }
 
 /// The only body that interfaces have for a name.
-fn only_default<'a>(
-    all: &'a [TypeDeclaration],
-    name: &Name,
-    ids: &[TypeId],
-) -> Option<&'a Member>
+fn only_default<'a>(all: &'a [TypeDeclaration], name: &Name, ids: &[TypeId]) -> Option<&'a Member>
     ensures { option_map (λ m. member_of m.now) result ≡ spec.only (filter_map (members.default_in (map type_entry_of all.now) name.now) ids.now) }
 {
     let mut found: Option<&Member> = None;

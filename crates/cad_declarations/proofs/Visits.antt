@@ -33,8 +33,10 @@ first_linked (l ∷ links) seen id new = by_first (same_id l.id id) refl (first_
   where
     there : same_id l.id id ≡ true → has seen l.id ≡ false
     there same = ap (has seen) ((ids_tell l.id id).0 same) ∙ new
+
     again : same_id l.id id ≡ true → has (seen ++ id ∷ []) l.id ≡ true
     again same = ap (has (seen ++ id ∷ [])) ((ids_tell l.id id).0 same) ∙ has_append seen (id ∷ []) id ∙ grind (arith, (ids_tell id id).1 refl, new)
+
     by_first : (q : Bool) → same_id l.id id ≡ q → length (linked links id) + unseen links (seen ++ id ∷ []) ≤ unseen links seen
         → length (linked (l ∷ links) id) + unseen (l ∷ links) (seen ++ id ∷ []) ≤ unseen (l ∷ links) seen
     by_first true same others = let a = there same in let b = again same in let d = unseen_falls links seen id in grind (arith, same, a, b, d)
@@ -63,9 +65,9 @@ settled (suc n) zero links seen (id ∷ ahead) a b = absurd (omega arith)
 settled (suc n) (suc m) links seen [] a b = refl
 settled (suc n) (suc m) links seen (id ∷ ahead) a b =
     choose (has seen id)
-        (λ was. settled n m links seen ahead (omega arith) (omega arith))
-        (λ new. let f = first_linked links seen id new in let g = length-append (linked links id) ahead in
-            settled n m links (seen ++ id ∷ []) (linked links id ++ ahead) (omega arith) (omega arith))
+    (λ was. settled n m links seen ahead (omega arith) (omega arith))
+    (λ new. let f = first_linked links seen id new in let g = length-append (linked links id) ahead in
+    settled n m links (seen ++ id ∷ []) (linked links id ++ ahead) (omega arith) (omega arith))
 
 chosen : (q : Bool) (k : ℕ) (links : List Link) (seen more next r : List TypeId)
     → (if q then reached k links seen r else reached k links more (next ++ r)) ≡ reached k links (if q then seen else more) ((if q then [] else next) ++ r)
@@ -75,7 +77,7 @@ chosen false k links seen more next r = refl
 -- a look at what is next
 pub looks_on : (links : List Link) (seen r : List TypeId) (id : TypeId)
     → reached (left links seen (id ∷ r)) links seen (id ∷ r)
-      ≡ reached (left links (seen_after seen id) (next_after links seen id ++ r)) links (seen_after seen id) (next_after links seen id ++ r)
+    ≡ reached (left links (seen_after seen id) (next_after links seen id ++ r)) links (seen_after seen id) (next_after links seen id ++ r)
 looks_on links seen r id =
     let f = falls links seen r id in
     settled (left links seen (id ∷ r)) (suc (left links seen (id ∷ r))) links seen (id ∷ r) (omega arith) (omega arith)

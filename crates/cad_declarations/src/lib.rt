@@ -17,7 +17,10 @@ pub use body::{
     TypedTransaction, TypedType,
 };
 pub use link::{Link, linearised, linked, reached_from};
-pub use lookup::{default_in, find_member, find_type, interface_member, is_interface_sort, is_same_name, own_member};
+pub use lookup::{
+    default_in, find_member, find_type, interface_member, is_interface_sort, is_same_name,
+    own_member,
+};
 pub use member::{Member, MemberAccess, MemberKind, Parameter, Signature};
 pub use program::{Checked, Deployed, Installed};
 pub use statement::{TypedBlock, TypedCase, TypedStatement, Variable};

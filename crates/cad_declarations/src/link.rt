@@ -27,11 +27,7 @@ pub fn linked<'a>(links: &'a [Link], id: &TypeId) -> &'a [TypeId]
 
 /// All that is reached from these identifiers, by depth: each before those to which it leads, later repeats dropped.
 #[tactic(auto, using(crate::proofs::Visits::begins, crate::proofs::Visits::goes_on, crate::proofs::Visits::less, crate::proofs::Visits::ends))]
-pub fn reached_from(
-    alloc: Global,
-    links: &[Link],
-    start: &[TypeId],
-) -> Result<TypeIds, AllocError>
+pub fn reached_from(alloc: Global, links: &[Link], start: &[TypeId]) -> Result<TypeIds, AllocError>
     ensures { IfOk result (λ ids. ids ≡ spec.reached_from links.now start.now) }
 {
     let mut seen = Vec::new(alloc);

@@ -54,7 +54,10 @@ impl Tables {
 }
 
 /// Declared types with the types of their fields.
-pub(crate) fn all_declared(alloc: Global, types: &[TypeDeclaration]) -> Result<Vec<Declared>, AllocError>
+pub(crate) fn all_declared(
+    alloc: Global,
+    types: &[TypeDeclaration],
+) -> Result<Vec<Declared>, AllocError>
     ensures { IfOk result (λ all. map kind_of all.items ≡ map declaration_of (map type_entry_of types.now)) }
 {
     let mut all = Vec::new(alloc);
@@ -190,7 +193,11 @@ fn first_own<'a>(types: &'a [TypeDeclaration], name: &Name, ids: &[TypeId]) -> O
 }
 
 /// The first body of a function of this name in these interfaces.
-fn first_default<'a>(types: &'a [TypeDeclaration], name: &Name, ids: &[TypeId]) -> Option<&'a Member>
+fn first_default<'a>(
+    types: &'a [TypeDeclaration],
+    name: &Name,
+    ids: &[TypeId],
+) -> Option<&'a Member>
     ensures { option_map (λ m. member_of m.now) result ≡ spec.first_some (spec.default_in (map type_entry_of types.now) name.now) ids.now }
 {
     for id in ids {
@@ -202,7 +209,11 @@ fn first_default<'a>(types: &'a [TypeDeclaration], name: &Name, ids: &[TypeId]) 
 }
 
 /// The member of an interface: the first of its name, in itself and then in its parents.
-pub fn interface_member<'a>(types: &'a [TypeDeclaration], name: &Name, id: &TypeId) -> Option<&'a Member>
+pub fn interface_member<'a>(
+    types: &'a [TypeDeclaration],
+    name: &Name,
+    id: &TypeId,
+) -> Option<&'a Member>
     ensures { option_map (λ m. member_of m.now) result ≡ spec.interface_member (map type_entry_of types.now) name.now id.now }
 {
     if let Some(member) = own_member(types, name, id) {
@@ -212,7 +223,11 @@ pub fn interface_member<'a>(types: &'a [TypeDeclaration], name: &Name, id: &Type
 }
 
 /// The member of an intersection, interface by interface.
-fn first_interface_member<'a>(types: &'a [TypeDeclaration], name: &Name, ids: &[TypeId]) -> Option<&'a Member>
+fn first_interface_member<'a>(
+    types: &'a [TypeDeclaration],
+    name: &Name,
+    ids: &[TypeId],
+) -> Option<&'a Member>
     ensures { option_map (λ m. member_of m.now) result ≡ spec.first_some (spec.interface_member (map type_entry_of types.now) name.now) ids.now }
 {
     for id in ids {
@@ -224,7 +239,11 @@ fn first_interface_member<'a>(types: &'a [TypeDeclaration], name: &Name, ids: &[
 }
 
 /// The member of a composite: its own, else the first body in its interfaces.
-fn composite_member<'a>(types: &'a [TypeDeclaration], name: &Name, id: &TypeId) -> Option<&'a Member>
+fn composite_member<'a>(
+    types: &'a [TypeDeclaration],
+    name: &Name,
+    id: &TypeId,
+) -> Option<&'a Member>
     ensures { option_map (λ m. member_of m.now) result ≡ spec.composite_member (map type_entry_of types.now) name.now id.now }
 {
     if let Some(member) = own_member(types, name, id) {

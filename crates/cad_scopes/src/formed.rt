@@ -89,7 +89,8 @@ fn is_one_sort(types: &DeclaredTypes, ids: &[TypeId]) -> bool
     ensures { result ≡ spec.is_one_sort (declarations types.now) ids.now }
 {
     let some = some_is_resource(types, ids);
-    ids.iter().all(|id| is_same_truth(some, types.is_resource(id)))
+    ids.iter()
+        .all(|id| is_same_truth(some, types.is_resource(id)))
 }
 
 fn some_is_resource(types: &DeclaredTypes, ids: &[TypeId]) -> bool

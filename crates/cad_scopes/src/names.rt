@@ -41,7 +41,10 @@ const BASIC_NAMES: [(&str, Basic); 33] = [
     ("AnyStruct", Basic::AnyStruct),
     ("AnyResource", Basic::AnyResource),
     ("Account", Basic::Account),
-    ("StorageCapabilityController", Basic::StorageCapabilityController),
+    (
+        "StorageCapabilityController",
+        Basic::StorageCapabilityController,
+    ),
 ];
 
 /// The parts of an account.

@@ -10,4 +10,4 @@ loop-id-preserved c =
     let look : c.look_at.new.seen.items ≡ seen_after c.loop-id.seen.items c.in-Some.id = search rules in
     let push : c.look_at.new.ahead.items ≡ c.pop.new.self.items ++ reverse (next_after c.args.links.now c.loop-id.seen.items c.in-Some.id) = search rules in
     goes_on c.args.links.now c.loop-id.seen.items c.look_at.new.seen.items c.loop-id.ahead.items c.pop.new.self.items c.look_at.new.ahead.items
-        (reached_from c.args.links.now c.args.start.now) c.in-Some.id c.loop-id.invariant pop look push
+    (reached_from c.args.links.now c.args.start.now) c.in-Some.id c.loop-id.invariant pop look push
