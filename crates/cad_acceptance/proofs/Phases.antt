@@ -24,11 +24,11 @@ each_at P (y ∷ ys) x after e = each_at P ys x after e.1
 -- where each piece is right none is refused
 none_refused : (Refused : Piece → Stop → Type 0) (pieces : List Piece) (stop : Stop) → Each (IsRight Refused) pieces → FirstRefused Refused pieces stop → ⊥
 none_refused Refused pieces stop each first =
-  each_at (IsRight Refused) first.before first.piece first.after (subst (λ (l : List Piece). Each (IsRight Refused) l) first.split each) stop first.refused
+    each_at (IsRight Refused) first.before first.piece first.after (subst (λ (l : List Piece). Each (IsRight Refused) l) first.split each) stop first.refused
 
 all_meet : (tables : ProgramTables) (stop : Stop) → Conforms tables → Unmet tables stop → ⊥
 all_meet tables stop each first =
-  first.unmet (each_at (Meets (kinds_of tables) tables.types) first.before first.type first.after
+    first.unmet (each_at (Meets (kinds_of tables) tables.types) first.before first.type first.after
     (subst (λ (l : List TypeEntry). Each (Meets (kinds_of tables) tables.types) l) first.split each))
 
 -- a phase that passes doesn't stop
@@ -55,7 +55,7 @@ no_error s a stop first second = subst (IsOk a) (sym first ∙ second) refl
 
 by_tables : (s : Subject) (checked : CheckedProgram) (p : Phase) (stop : Stop) (accepted : Accepts s checked) → Passes accepted.tables s.program p → StopsFirst s p stop → ⊥
 by_tables s checked p stop accepted passes first =
-  passes_no_stop first.tables s.program p stop
+    passes_no_stop first.tables s.program p stop
     (subst (λ (t : ProgramTables). Passes t s.program p) (same_tables s accepted.tables first.tables accepted.builds first.builds) passes) first.stops
 
 no_stop : (s : Subject) (checked : CheckedProgram) (p : Phase) (stop : Stop) → Accepts s checked → ProgramStops s p stop → ⊥
