@@ -23,6 +23,7 @@ target_letters r at (e.contract id) = skip
 target_letters r at (e.target x) = term_letters r at x
 target_letters r at (e.field p of name) = if is_self p then skip else place_letters r at p
 target_letters r at (e.element p of x) = seq (place_letters r at p) (term_letters r at x)
+target_letters r at (e.content p forces) = place_letters r at p
 
 -- the place is assigned to
 abbrev pub set_letters : Reading → Position → e.PlaceTree → PathBody

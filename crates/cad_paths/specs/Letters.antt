@@ -158,6 +158,7 @@ abbrev mutual
   place_letters r at (e.target x) = term_letters r at x
   place_letters r at (e.field p of name) = if is_self p then own_field_use r at name else place_letters r at p
   place_letters r at (e.element p of x) = seq (place_letters r at p) (term_letters r at x)
+  place_letters r at (e.content p forces) = place_letters r at p
 
   -- what is evaluated of a use after its receiver
   pub use_letters : Reading → Position → e.UseTree → PathBody

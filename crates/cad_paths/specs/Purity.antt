@@ -58,6 +58,7 @@ abbrev mutual
   is_pure_place tables (e.target x) = is_pure tables x
   is_pure_place tables (e.field p of name) = is_pure_place tables p
   is_pure_place tables (e.element p of x) = is_pure_place tables p && is_pure tables x
+  is_pure_place tables (e.content p forces) = is_pure_place tables p
 
   pub is_pure_use : ProgramTables → e.UseTree → Bool
   is_pure_use tables (e.get name authorization) = true
@@ -138,6 +139,7 @@ is_own_place v (e.contract id) = false
 is_own_place v (e.target x) = false
 is_own_place v (e.field p of name) = is_plain v.tables of && is_own_place v p
 is_own_place v (e.element p of x) = is_plain v.tables of && is_own_place v p
+is_own_place v (e.content p forces) = false
 
 abbrev pub is_own_variable : ViewBody → e.PlaceTree → Bool
 is_own_variable v (e.variable n) = nat_le v.own_from n
