@@ -193,6 +193,7 @@ pub(crate) fn take_letters(reading: &Reading, at: Position, place: &Place, other
         Place::Target(_) => other,
         Place::Field { .. } => other,
         Place::Element { .. } => other,
+        Place::Content { .. } => other,
     }
 }
 

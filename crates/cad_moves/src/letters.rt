@@ -45,6 +45,7 @@ pub(crate) fn place_letters(
             let second = term_letters(alloc, reading, at, index)?;
             seq(alloc, first, second)
         }
+        Place::Content { base, .. } => place_letters(alloc, reading, at, base),
     }
 }
 

@@ -55,6 +55,7 @@ fn target_letters(
             let second = term_letters(alloc, reading, at, index)?;
             seq(alloc, first, second)
         }
+        Place::Content { base, .. } => place_letters(alloc, reading, at, base),
     }
 }
 
@@ -80,6 +81,7 @@ fn set_letters(
         Place::Contract(_) => Ok(skip()),
         Place::Target(_) => Ok(skip()),
         Place::Element { .. } => Ok(skip()),
+        Place::Content { .. } => Ok(skip()),
     }
 }
 
@@ -107,6 +109,7 @@ fn fill_letters(
         Place::Contract(_) => Ok(skip()),
         Place::Target(_) => Ok(skip()),
         Place::Element { .. } => Ok(skip()),
+        Place::Content { .. } => Ok(skip()),
     }
 }
 
@@ -216,6 +219,7 @@ fn place_variable(place: &Place) -> Option<u64>
         Place::Target(_) => None,
         Place::Field { .. } => None,
         Place::Element { .. } => None,
+        Place::Content { .. } => None,
     }
 }
 
