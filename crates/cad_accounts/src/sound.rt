@@ -8,9 +8,8 @@ ghost use Rattle.cad_accounts.specs.Worlds.{AreSound};
 ghost use Rattle.cad_accounts.specs.Code.InOrder.{IsHead, IsController, IsStored, SpellsInt, Steps, Follow, InOrder};
 
 use crate::registers::Registers;
-use cad_number_codec::{DecodeError, decode};
+use cad_number_codec::{DecodeError, Value, decode};
 use cad_syntax::{Kind, Num};
-use cad_number_codec::Value;
 use std::alloc::{AllocError, Global};
 
 const MOST_ACCOUNTS: u64 = 1_000_000;

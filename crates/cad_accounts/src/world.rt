@@ -12,9 +12,8 @@ use crate::spelling::{
     make_controller_key, make_head, make_head_key, make_number, make_stored_key,
 };
 use crate::stops::{AccountStop, ValueStop, WorldStop};
-use cad_number_codec::{decode, encode};
+use cad_number_codec::{Value, decode, encode};
 use cad_syntax::{Address, Bytes, Items, Name};
-use cad_number_codec::Value;
 use cad_wire::{Entries, Entry, Key, Reader};
 use std::alloc::{AllocError, Global};
 use std::marker::Model;

@@ -6,8 +6,8 @@ ghost use Rattle.cad_accounts.specs.Accounts.{IsInt};
 ghost use Rattle.cad_accounts.specs.Worlds.{AreSound, HasAccount};
 
 use super::*;
-use cad_syntax::{Address, Kind, Name, Num, Text};
 use cad_number_codec::Value;
+use cad_syntax::{Address, Kind, Name, Num, Text};
 use std::alloc::{AllocError, Global};
 use std::test::*;
 

@@ -18,9 +18,9 @@ use crate::reply::Reply;
 use cad_accounts::{AccountStop, Changes, ValueStop, World};
 use cad_forms::{Asked, Save, value_of_save, value_of_sum};
 use cad_num::NumError;
+use cad_number_codec::Value;
 use cad_store::Store;
 use cad_syntax::{Address, Kind, Name, Num};
-use cad_number_codec::Value;
 use std::alloc::{AllocError, Global};
 
 /// What a request comes to: an answer, and the registers that it changes where it changes accounts.
