@@ -12,15 +12,15 @@ ghost use Rattle.cad_forms.specs.Request.{Asks};
 ghost use Rattle.cad_forms.specs.Request as request;
 ghost use Rattle.cad_forms.specs.Views.{products_of, save_of, request_of};
 ghost use Rattle.cadence.specs.Answer.{error_number, Saves};
-ghost use Rattle.cadence.specs.Outcomes.{Comes, ComesBy, ComesInt, Starts, Puts};
+ghost use Rattle.cadence.specs.Code.Outcomes.{Comes, ComesBy, ComesInt, Starts, Puts};
 
 use crate::reply::Reply;
 use cad_accounts::{AccountStop, Changes, ValueStop, World};
 use cad_forms::{Asked, Save, value_of_save, value_of_sum};
 use cad_num::NumError;
+use cad_number_codec::Value;
 use cad_store::Store;
 use cad_syntax::{Address, Kind, Name, Num};
-use cad_number_codec::Value;
 use std::alloc::{AllocError, Global};
 
 /// What a request comes to: an answer, and the registers that it changes where it changes accounts.
