@@ -7,7 +7,8 @@ use Rattle.cad_host.specs.declared.host.Tape.{Tape}
 use Rattle.cad_host.specs.declared.host.Tape.TheVariants.{A, B, Pick}
 use Rattle.cad_host.specs.declared.call.Call.{Call}
 use Rattle.cad_host.specs.Disk.{Event, wrote, broke, filled, TapeState, state, reads, after, same_tape, overwritten, Outside, IsImage, IsDisk, IsClean}
-use Rattle.cad_host.specs.Crash.{IsFilledImage, IsReplayed, IsSettled, at_moment}
+use Rattle.cad_host.specs.Crash.{IsFilledImage, IsSettled, at_moment}
+use Rattle.cad_host.specs.Code.Replay.{IsReplayed}
 use Rattle.cad_host.specs.Record.{event_of, onto, trace_of}
 use Rattle.cad_host.proofs.Recorded.{trace_push}
 use Rattle.cad_host.proofs.Images.{each_tape, state_broke, other_broke}

@@ -16,9 +16,3 @@ pub record IsFilledImage (fill : ℕ) (s : TapeState) (c : List ℕ) : Type 0 wh
 -- no tape is shorter than at its last sync
 abbrev pub IsSettled : List Event → Type 0
 IsSettled m = (t : Tape) → (state t m).settled ≤ length (reads m t)
-
--- what is replayed of a tape: what it reads, and the image
-pub record IsReplayed (fill : ℕ) (s : TapeState) (reads image : List ℕ) : Type 0 where
-  pub reads_so : reads ≡ s.reads
-  pub settled_so : s.settled ≤ length s.reads
-  pub image_so : IsFilledImage fill s image

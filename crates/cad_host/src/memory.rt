@@ -7,7 +7,7 @@ ghost use Rattle.cad_host.specs.Crash.{at_moment, IsFilledImage, IsSettled};
 ghost use Rattle.cad_host.specs.Faults.{IsCaused};
 ghost use Rattle.cad_host.specs.Input.{Taking};
 ghost use Rattle.cad_host.specs.Record.{trace_of};
-ghost use Rattle.cad_host.specs.Tapes.{bytes_on};
+ghost use Rattle.cad_host.specs.Code.Tapes.{bytes_on};
 ghost use Rattle.cad_host.specs.declared.host.Tape.{Tape};
 
 use crate::call::Call;

@@ -3,7 +3,7 @@ ghost use Rattle.std.specs.Prelude.{◌≡◌, ◌⊎◌, ◌≤◌, ◌<◌, �
 ghost use Rattle.cad_host.specs.Disk.{overwritten, same_tape, reads, output, wrote, synced, broke, filled, put, put_part, took, BreaksWrite, BreaksSync, FailsTake, FailsLook};
 ghost use Rattle.cad_host.specs.Record.{event_of, half_written, trace_of};
 ghost use Rattle.cad_host.specs.Memory.{WritesHalf, SyncsNothing};
-ghost use Rattle.cad_host.specs.Tapes.{bytes_on};
+ghost use Rattle.cad_host.specs.Code.Tapes.{bytes_on};
 ghost use Rattle.cad_host.specs.declared.host.Tape.{Tape};
 
 use crate::Tape;

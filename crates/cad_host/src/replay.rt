@@ -1,7 +1,8 @@
 // The image of a crash, by a replay of the record of calls.
 ghost use Rattle.std.specs.Prelude.{◌≡◌, ◌∷◌, List, ℕ, IfOk, OnOk};
 ghost use Rattle.cad_host.specs.Disk.{Event, state, IsImage};
-ghost use Rattle.cad_host.specs.Crash.{IsFilledImage, IsReplayed};
+ghost use Rattle.cad_host.specs.Crash.{IsFilledImage};
+ghost use Rattle.cad_host.specs.Code.Replay.{IsReplayed};
 ghost use Rattle.cad_host.specs.Record.{event_of, trace_of};
 
 use crate::Tape;

@@ -14,7 +14,7 @@ pub struct Tapes {
 }
 
 impl Tapes {
-    ghost use Rattle.cad_host.specs.Tapes.{bytes_on};
+    ghost use Rattle.cad_host.specs.Code.Tapes.{bytes_on};
 
     /// Three empty tapes.
     pub fn new(alloc: Global) -> Self

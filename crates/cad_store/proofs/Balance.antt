@@ -13,7 +13,7 @@ use Rattle.cad_accounts.specs.KeyOrder.{row_key, before}
 use Rattle.cad_accounts.proofs.Order.{both_left, both_right, tail_rises, first_before}
 use Rattle.cad_accounts.proofs.RowLaws.{none_behind}
 use Rattle.cad_accounts.proofs.Places.{size_is}
-use Rattle.cad_store.specs.Sizes.{value_size, added, replaced}
+use Rattle.cad_store.specs.Code.Sizes.{value_size, added, replaced}
 
 -- ---- rows in any order, each key once
 

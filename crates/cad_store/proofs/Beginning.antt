@@ -15,7 +15,8 @@ use Rattle.cad_store.specs.declared.place.Place.TheVariants.{Behind, Onto}
 use Rattle.cad_store.specs.Stores.{DiskHolds, IsAt}
 use Rattle.cad_store.specs.declared.stops.OpenStop.{OpenStop}
 use Rattle.cad_store.specs.declared.stops.OpenStop.TheVariants.{Failed, BadStore, Memory}
-use Rattle.cad_store.specs.Opening.{in_use, opened, Opens, BreaksOpening, ReadsStore, at_pick, at_tape, at_sync, at_second_sync, IsOpening}
+use Rattle.cad_store.specs.Opening.{in_use, opened, Opens, BreaksOpening, at_pick, at_tape, at_sync, at_second_sync, IsOpening}
+use Rattle.cad_store.specs.Code.Opening.{ReadsStore}
 
 -- a sync leaves what is read
 synced_reads : (u : Tape) (m : List Event) (t : Tape) → reads (synced u ∷ m) t ≡ reads m t

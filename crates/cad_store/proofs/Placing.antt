@@ -11,7 +11,8 @@ use Rattle.cad_tape.specs.Reading.{chosen, reading, stored, or_none, ending, pic
 use Rattle.cad_tape.proofs.Opened.{free_of_empty, free_of_placed}
 use Rattle.cad_store.specs.declared.place.Place.{Place}
 use Rattle.cad_store.specs.declared.place.Place.TheVariants.{Behind, Onto}
-use Rattle.cad_store.specs.Stores.{IsAt, other, place_behind, recorded, BreaksRecord, onto_other, behind_records}
+use Rattle.cad_store.specs.Stores.{IsAt, other, recorded, BreaksRecord, onto_other, behind_records}
+use Rattle.cad_store.specs.Code.Opening.{place_behind}
 
 pub other_differs : (t : Tape) → t ≢ Pick → same_tape (other t) t ≡ false
 other_differs A e = refl

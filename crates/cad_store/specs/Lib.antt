@@ -1,4 +1,4 @@
 pub mod Stores
 pub mod Stops
 pub mod Opening
-pub mod Sizes
+pub mod Code

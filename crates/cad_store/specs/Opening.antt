@@ -1,5 +1,5 @@
 -- What the opening of a store does to the tapes.
-use Rattle.std.specs.Prelude.{◌≡◌, ◌⊎◌, ℕ, List, ◌∷◌, Result, Ok, Err}
+use Rattle.std.specs.Prelude.{◌≡◌, ℕ, List, ◌∷◌, Result, Ok, Err}
 use Rattle.cad_host.specs.declared.host.Tape.{Tape}
 use Rattle.cad_host.specs.declared.host.Tape.TheVariants.{Pick}
 use Rattle.cad_host.specs.Disk.{Event, synced, reads, output, IsDisk, FailsLook, BreaksSync}
@@ -33,15 +33,3 @@ Opens (Err Memory) old new = new ≡ old
 pub record IsOpening (old m : List Event) : Type 0 where
   pub output : output m ≡ output old
   pub disk : (disk : Tape → List ℕ) → IsDisk m disk → IsDisk old disk
-
--- what reading a store adds
-abbrev pub ReadsStore : {T : Type 0} → Result T OpenStop → List Event → List Event → Type 0
-ReadsStore (Ok _) old new = new ≡ old
-ReadsStore (Err Failed) old new = FailsLook (in_use old) old new
-ReadsStore (Err BadStore) old new = new ≡ old
-ReadsStore (Err Memory) old new = new ≡ old
-
--- what the two syncs of an opening add
-abbrev pub SyncsBoth : {T E : Type 0} → Tape → Result T E → List Event → List Event → Type 0
-SyncsBoth t (Ok _) old new = new ≡ synced t ∷ synced Pick ∷ old
-SyncsBoth t (Err _) old new = BreaksSync Pick old new ⊎ BreaksSync t (synced Pick ∷ old) new

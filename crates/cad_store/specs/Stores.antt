@@ -42,10 +42,6 @@ abbrev pub other : Tape → Tape
 other A = B
 other _ = A
 
--- that place, where the tape in use has this length and its records end there
-abbrev pub place_behind : Tape → ℕ → ℕ → Place
-place_behind tape length ending = if length == 0 then Onto (other tape) else Behind tape ending
-
 -- the tapes read as the store left them, and nothing is pending on what is read
 pub record IsOn (m : List Event) (store : Store) : Type 0 where
   pub holds : DiskHolds (reads m) (held store)

@@ -7,8 +7,10 @@ ghost use Rattle.cad_tape.specs.Reading.{chosen, tape_reading};
 ghost use Rattle.cad_accounts.specs.Registers.{Map};
 ghost use Rattle.cad_accounts.specs.Worlds.{AreSound};
 ghost use Rattle.cad_store.specs.Stops.{BlamesDisk};
-ghost use Rattle.cad_store.specs.Opening.{in_use, Opens, ReadsStore, SyncsBoth, IsOpening};
-ghost use Rattle.cad_store.specs.Stores.{DiskHolds, held, room_of, place_behind, IsAt, IsOn};
+ghost use Rattle.cad_store.specs.Opening.{in_use, Opens, IsOpening};
+ghost use Rattle.cad_store.specs.Code.Opening.{ReadsStore, SyncsBoth};
+ghost use Rattle.cad_store.specs.Stores.{DiskHolds, held, room_of, IsAt, IsOn};
+ghost use Rattle.cad_store.specs.Code.Opening.{place_behind};
 
 use crate::place::Place;
 use crate::stops::OpenStop;

@@ -2,7 +2,7 @@
 ghost use Rattle.std.specs.Prelude.{◌≡◌, ◌≤◌, ◌^◌, length, IfSome, Some, None};
 ghost use Rattle.cad_accounts.specs.Registers.{at};
 ghost use Rattle.cad_accounts.specs.Memory.{rows_of};
-ghost use Rattle.cad_store.specs.Sizes.{value_size, added, replaced};
+ghost use Rattle.cad_store.specs.Code.Sizes.{value_size, added, replaced};
 
 use cad_accounts::{MapRegisters, Registers};
 use cad_wire::{Entry, Key};

@@ -5,7 +5,7 @@ ghost use Rattle.cad_wire.specs.Body.{body_bytes, FewEnough};
 ghost use Rattle.cad_tape.specs.Framing.{framed};
 ghost use Rattle.cad_accounts.specs.declared.row.Row.{Row};
 ghost use Rattle.cad_accounts.specs.Registers.{Map, at, applied, are_rising, size_of, Leads};
-ghost use Rattle.cad_store.specs.Sizes.{added, replaced};
+ghost use Rattle.cad_store.specs.Code.Sizes.{added, replaced};
 ghost use Rattle.cad_store.specs.Stores.{rows_in, held, room_of, IsOn, IsOut};
 
 use crate::place::Place;

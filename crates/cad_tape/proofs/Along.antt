@@ -2,7 +2,7 @@
 use Rattle.std.proofs.Common.{◌≡◌, ℕ, ◌+◌, ◌-◌, ◌≤◌, min, List, [], ◌++◌, length, take, drop, sym, ◌∙◌, ap, arith, length-append, length-take, length-drop}
 use Rattle.std.proofs.Math.Seq.{take-add}
 use Rattle.std.proofs.lemmas.List.{drop-drop}
-use Rattle.cad_tape.specs.Scanning.{IsAlong}
+use Rattle.cad_tape.specs.Code.Scanning.{IsAlong}
 
 -- a piece is as long as there is room
 pub full : (tape bytes piece : List ℕ) (place end at room : ℕ) → IsAlong tape bytes place end → at ≡ place + length bytes → room ≤ end - at → piece ≡ take room (drop at tape) → length piece ≡ room

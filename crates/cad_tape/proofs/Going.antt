@@ -5,7 +5,7 @@ use Rattle.cad_wire.specs.Fields.{◌>>=◌, number_field}
 use Rattle.cad_wire.specs.Reading.{entries_of}
 use Rattle.cad_tape.specs.Framing.{bodies_in, framing, spelled, Ends}
 use Rattle.cad_tape.specs.Reading.{records_of, tape_reading, or_none, ending}
-use Rattle.cad_tape.specs.Scanning.{IsBad, IsClosed, TakesRecord}
+use Rattle.cad_tape.specs.Code.Scanning.{IsBad, IsClosed, TakesRecord}
 use Rattle.cad_tape.proofs.Read.{AreShort, short_push, whole, read_spelled, spelled-push}
 
 pub record Going (tape : List ℕ) (place : ℕ) (records : List (List Entry)) : Type 0 where

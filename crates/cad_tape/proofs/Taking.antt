@@ -11,7 +11,7 @@ use Rattle.cad_wire.specs.declared.error.DecodeError.TheVariants.{Damaged, Memor
 use Rattle.cad_wire.proofs.FieldLaws.{AreBytes-tail, bind_some, some_is, number_takes, number_again}
 use Rattle.cad_tape.specs.Framing.{body_at, bodies_in}
 use Rattle.cad_tape.specs.Reading.{records_of}
-use Rattle.cad_tape.specs.Scanning.{IsAlong, header_at, IsBad, IsClosed, Takes, TakesRecord}
+use Rattle.cad_tape.specs.Code.Scanning.{IsAlong, header_at, IsBad, IsClosed, Takes, TakesRecord}
 use Rattle.cad_tape.specs.declared.stop.ScanStop.{ScanStop}
 use Rattle.cad_tape.specs.declared.stop.ScanStop.TheVariants as stops
 use Rattle.cad_tape.specs.Stops.{stop_of}

@@ -1,4 +1,4 @@
 pub mod Framing
 pub mod Reading
 pub mod Stops
-pub mod Scanning
+pub mod Code

@@ -4,7 +4,7 @@ ghost use Rattle.cad_host.specs.Disk.{reads};
 ghost use Rattle.cad_wire.specs.Fields.{AreBytes};
 ghost use Rattle.cad_tape.specs.Framing.{framing, Ends};
 ghost use Rattle.cad_tape.specs.Reading.{tape_reading, ending, or_none};
-ghost use Rattle.cad_tape.specs.Scanning.{IsAlong, header_at, Takes};
+ghost use Rattle.cad_tape.specs.Code.Scanning.{IsAlong, header_at, Takes};
 ghost use Rattle.cad_tape.specs.Stops.{Blames, Looked};
 
 use crate::stop::ScanStop;

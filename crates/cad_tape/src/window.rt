@@ -1,7 +1,7 @@
 // The bytes of a tape from its front on, read in pieces.
 ghost use Rattle.std.specs.Prelude.{◌≡◌, ◌≢◌, ◌≤◌, ◌-◌, ◌+◌, List, ℕ, [], length, take, drop, vec_len, IfOk, IfErr, OnOk};
 ghost use Rattle.cad_host.specs.Disk.{reads};
-ghost use Rattle.cad_tape.specs.Scanning.{IsAlong, HasEnough};
+ghost use Rattle.cad_tape.specs.Code.Scanning.{IsAlong, HasEnough};
 ghost use Rattle.cad_tape.specs.Stops.{Blames, Looked};
 
 use crate::stop::ScanStop;

@@ -21,7 +21,7 @@ use Rattle.cadence.specs.Answer.{Loads, none, loaded, Saves, nothing_there, out_
 use Rattle.cadence.specs.declared.outcome.Outcome.{Outcome}
 use Rattle.cadence.specs.declared.outcome.Outcome.TheVariants.{Stays, Leads as Leading}
 use Rattle.cadence.specs.declared.reply.Reply.TheVariants.{Failed}
-use Rattle.cadence.specs.Outcomes.{ComesBy, Comes, Starts, Puts}
+use Rattle.cadence.specs.Code.Outcomes.{ComesBy, Comes, Starts, Puts}
 
 -- one account more
 pub account_made : (w : Accounts) (address : ℕ) → address ≡ w.count + 1 → w.count < most_accounts → Does w account (answer.leads (answer.address address) (created w))

@@ -18,7 +18,8 @@ use Rattle.cadence.specs.Served.{Begun}
 use Rattle.cadence.specs.Crashes.{DiskStands, KeepsPrefix, Survives, in_opening, after_opening}
 use Rattle.cadence.specs.declared.status.Status.{Status}
 use Rattle.cadence.specs.declared.status.Status.TheVariants.{Done, Usage, ReadFault, WriteFault, DiskFault, Memory, BadStore, InputBound}
-use Rattle.cadence.specs.Ending.{Ends, EndsOpening, HasCause, IsCausedBy, HasRun, status_of}
+use Rattle.cadence.specs.Ending.{HasRun}
+use Rattle.cadence.specs.Code.Ending.{Ends, EndsOpening, HasCause, IsCausedBy, status_of}
 use Rattle.cadence.proofs.Batches.{begun_none}
 use Rattle.cadence.proofs.Runs.{cause_as}
 

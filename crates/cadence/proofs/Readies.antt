@@ -12,9 +12,10 @@ use Rattle.cad_forms.specs.Request.{Request, Asks}
 use Rattle.cad_store.specs.declared.store.Store.{Store}
 use Rattle.cadence.specs.Answer as answer
 use Rattle.cadence.specs.Answer.{Answer, Answers, too_long, Declines, declined, asks, Does, Commits, unchanged, fits, full, most_bytes, bad}
-use Rattle.cadence.specs.Held.{Holds, longest}
-use Rattle.cadence.specs.Outcomes.{Comes, IsReady}
-use Rattle.cadence.specs.Views.{answer_of}
+use Rattle.cadence.specs.Held.{longest}
+use Rattle.cadence.specs.Code.Held.{Holds}
+use Rattle.cadence.specs.Code.Outcomes.{Comes, IsReady}
+use Rattle.cadence.specs.Code.Views.{answer_of}
 use Rattle.cadence.specs.declared.line.Line.{Line}
 use Rattle.cadence.specs.declared.reply.Reply as own
 use Rattle.cadence.specs.declared.outcome.Outcome.{Outcome}

@@ -8,16 +8,16 @@ use Rattle.cad_accounts.specs.Accounts.{Accounts, StandsFor}
 use Rattle.cad_store.specs.declared.store.Store.{Store}
 use Rattle.cad_store.specs.Stores.{held, IsOn}
 use Rattle.cadence.specs.Lines.{commands_among, is_command, commands, lines, ended}
-use Rattle.cadence.specs.Held.{Holds}
+use Rattle.cadence.specs.Code.Held.{Holds}
 use Rattle.cadence.specs.Served.{Served, Begun, Finished}
 use Rattle.cadence.specs.Writing.{Wrote}
 use Rattle.cadence.specs.Replied.{taken_since, HasReplied}
 use Rattle.cadence.specs.Crashes.{DiskStands, KeepsPrefix}
-use Rattle.cadence.specs.Progress.{Said, Halts, Halted, Going, Between, Goes, Stops}
+use Rattle.cadence.specs.Code.Progress.{Said, Halts, Halted, Going, Between, Goes, Stops}
 use Rattle.cadence.specs.declared.line.Line.{Line}
 use Rattle.cadence.specs.declared.status.Status.{Status}
 use Rattle.cadence.specs.declared.status.Status.TheVariants.{Done, Usage, ReadFault, WriteFault, DiskFault, Memory, BadStore, InputBound}
-use Rattle.cadence.specs.Ending.{Leaves, Ends, HasCause, StopCause}
+use Rattle.cadence.specs.Code.Ending.{Leaves, Ends, HasCause, StopCause}
 use Rattle.cadence.proofs.Splits.{lines_byte, lines_feed, onto, lines_onto}
 use Rattle.cadence.proofs.Batches.{begun_none, begun_all, begun_some, begun_broken, begun_more}
 use Rattle.cadence.proofs.Prefixes.{survives_more, survives_fails, grown_by}

@@ -19,7 +19,7 @@ use Rattle.cadence.specs.Served.{Served, Broken}
 use Rattle.cadence.specs.Writing.{Written, nothing, Wrote, WroteBroken, WroteStopped, writing}
 use Rattle.cadence.specs.Crashes.{DiskStands, HasPrefix, IsPrefix, KeepsPrefix}
 use Rattle.cadence.specs.Replied.{line_feeds, acknowledged, HasReplied}
-use Rattle.cadence.specs.Progress.{Said, Halts, Halted}
+use Rattle.cadence.specs.Code.Progress.{Said, Halts, Halted}
 use Rattle.cadence.specs.declared.status.Status.{Status}
 use Rattle.cadence.specs.declared.status.Status.TheVariants.{Done, Usage, ReadFault, WriteFault, DiskFault, Memory, BadStore, InputBound}
 use Rattle.cadence.proofs.Batches.{served_none, served_then, some_then, some_more, broken_then, broken_more}

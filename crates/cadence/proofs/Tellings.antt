@@ -10,11 +10,11 @@ use Rattle.cad_store.specs.declared.store.Store.{Store}
 use Rattle.cad_store.specs.Stores.{held, IsOn, Keeps, recorded}
 use Rattle.cadence.specs.Answer.{Answer, Answers, answer_line}
 use Rattle.cadence.specs.Writing.{Written, one_record}
-use Rattle.cadence.specs.Progress.{Said, Halted}
+use Rattle.cadence.specs.Code.Progress.{Said, Halted}
 use Rattle.cadence.specs.declared.status.Status.{Status}
 use Rattle.cadence.specs.declared.status.Status.TheVariants.{WriteFault}
 use Rattle.cadence.specs.Lines.{is_command}
-use Rattle.cadence.specs.Held.{Holds}
+use Rattle.cadence.specs.Code.Held.{Holds}
 use Rattle.cadence.specs.declared.line.Line.{Line}
 use Rattle.cadence.proofs.Saids.{said_none, commit_said, commit_told}
 

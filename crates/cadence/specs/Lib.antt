@@ -6,8 +6,6 @@ pub mod Replied
 pub mod Served
 pub mod Writing
 pub mod Crashes
-pub mod Views
-pub mod Outcomes
-pub mod Progress
 pub mod Ending
 pub mod Statuses
+pub mod Code

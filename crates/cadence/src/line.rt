@@ -1,7 +1,8 @@
 // The line that is being read.
 ghost use Rattle.std.specs.Prelude.{◌≡◌, ◌++◌, [], ◌∷◌, List, ℕ, OnOk, IfOk, IsTrue, ◌↔◌, length, take, nat_lt};
 ghost use Rattle.cadence.specs.Lines.{is_blank_byte};
-ghost use Rattle.cadence.specs.Held.{Holds, longest};
+ghost use Rattle.cadence.specs.Held.{longest};
+ghost use Rattle.cadence.specs.Code.Held.{Holds};
 
 use std::alloc::{AllocError, Global};
 

@@ -12,7 +12,7 @@ ghost use Rattle.cad_forms.specs.Request.{Asks};
 ghost use Rattle.cad_forms.specs.Request as request;
 ghost use Rattle.cad_forms.specs.Views.{products_of, save_of, request_of};
 ghost use Rattle.cadence.specs.Answer.{error_number, Saves};
-ghost use Rattle.cadence.specs.Outcomes.{Comes, ComesBy, ComesInt, Starts, Puts};
+ghost use Rattle.cadence.specs.Code.Outcomes.{Comes, ComesBy, ComesInt, Starts, Puts};
 
 use crate::reply::Reply;
 use cad_accounts::{AccountStop, Changes, ValueStop, World};

@@ -5,12 +5,12 @@ ghost use Rattle.cad_accounts.specs.Registers.{Map, Leads};
 ghost use Rattle.cad_accounts.specs.Accounts.{Accounts, StandsFor};
 ghost use Rattle.cad_accounts.specs.Worlds.{AreSound};
 ghost use Rattle.cad_store.specs.Stores.{held, room_of, IsOn};
-ghost use Rattle.cadence.specs.Held.{Holds};
+ghost use Rattle.cadence.specs.Code.Held.{Holds};
 ghost use Rattle.cad_forms.specs.Request.{Request};
 ghost use Rattle.cadence.specs.Answer.{Answers, Declines, Does, Commits, most_bytes};
 ghost use Rattle.cadence.specs.Answer as answer;
-ghost use Rattle.cadence.specs.Views.{answer_of, HasInt};
-ghost use Rattle.cadence.specs.Outcomes.{IsReady, Comes, ComesInt};
+ghost use Rattle.cadence.specs.Code.Views.{answer_of, HasInt};
+ghost use Rattle.cadence.specs.Code.Outcomes.{IsReady, Comes, ComesInt};
 
 use crate::line::Line;
 use crate::outcome::{Outcome, outcome_of};

@@ -1,7 +1,7 @@
 // Replies to commands.
 ghost use Rattle.std.specs.Prelude.{◌≡◌, ◌++◌, ◌∷◌, [], List, ℕ, IfOk, codes, decimal};
 ghost use Rattle.cadence.specs.Answer.{answer_line, rejected_tail};
-ghost use Rattle.cadence.specs.Views.{answer_of, HasInt};
+ghost use Rattle.cadence.specs.Code.Views.{answer_of, HasInt};
 
 use cad_grammar::Phase;
 use cad_num::write_decimal;

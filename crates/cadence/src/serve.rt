@@ -10,14 +10,15 @@ ghost use Rattle.cad_accounts.specs.Worlds.{AreSound};
 ghost use Rattle.cad_store.specs.Opening.{in_use, opened, BreaksOpening};
 ghost use Rattle.cad_store.specs.Stores.{held, room_of, IsOn, IsOut};
 ghost use Rattle.cadence.specs.Lines.{commands, commands_among};
-ghost use Rattle.cadence.specs.Held.{Holds};
+ghost use Rattle.cadence.specs.Code.Held.{Holds};
 ghost use Rattle.cadence.specs.Words.{IsRun};
 ghost use Rattle.cadence.specs.Answer.{Answer, Answers, answer_line, most_bytes};
 ghost use Rattle.cadence.specs.Served.{Served, ServedSome, Broken, Begun, Finished};
 ghost use Rattle.cadence.specs.Writing.{Wrote, WroteSome, WroteBroken, WroteStopped};
 ghost use Rattle.cadence.specs.Crashes.{DiskStands, Survives};
-ghost use Rattle.cadence.specs.Ending.{Ends, EndsOpening, HasCause, StopCause, IsCausedBy, HasRun, input_bound, status_of};
-ghost use Rattle.cadence.specs.Progress.{Said, Halted, Going, Between, Goes, Stops};
+ghost use Rattle.cadence.specs.Ending.{HasRun};
+ghost use Rattle.cadence.specs.Code.Ending.{Ends, EndsOpening, HasCause, StopCause, IsCausedBy, input_bound, status_of};
+ghost use Rattle.cadence.specs.Code.Progress.{Said, Halted, Going, Between, Goes, Stops};
 ghost use Rattle.cadence.specs.declared.status.Status.TheVariants as status;
 ghost use Rattle.cadence.specs.declared.status.Status.{Status};
 

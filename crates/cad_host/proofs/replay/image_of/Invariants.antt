@@ -1,6 +1,6 @@
 use Rattle.std.proofs.Common.{take}
 use Rattle.cad_host.specs.Disk.{state}
-use Rattle.cad_host.specs.Crash.{IsReplayed}
+use Rattle.cad_host.specs.Code.Replay.{IsReplayed}
 use Rattle.cad_host.specs.Record.{trace_of}
 use Rattle.cad_host.proofs.replay.image_of.Given as goal
 

@@ -1,6 +1,6 @@
 use Rattle.std.proofs.Common.{rules, refl, ◌≡◌, ◌≤◌, ◌/◌, ◌-◌, ◌∷◌, length, min, take, replicate, sym, subst, arith, length-take}
 use Rattle.cad_host.specs.Disk.{state, overwritten}
-use Rattle.cad_host.specs.Crash.{IsReplayed}
+use Rattle.cad_host.specs.Code.Replay.{IsReplayed}
 use Rattle.cad_host.specs.Record.{event_of}
 use Rattle.cad_host.specs.declared.call.Call.TheVariants.{BrokeWrite}
 use Rattle.cad_host.proofs.Images.{same_refl_of}

@@ -1,5 +1,5 @@
 use Rattle.std.proofs.Common.{◌≡◌, ◌+◌, drop}
-use Rattle.cad_store.specs.Sizes.{added}
+use Rattle.cad_store.specs.Code.Sizes.{added}
 use Rattle.cad_store.proofs.sizes.size_added.Given as goal
 
 abbrev pub invariant-loop-change : goal.invariant-loop-change

@@ -1,7 +1,7 @@
 use Rattle.std.proofs.Common.{◌≡◌, ◌+◌, drop}
 use Rattle.cad_accounts.specs.Registers.{at}
 use Rattle.cad_accounts.specs.Memory.{rows_of}
-use Rattle.cad_store.specs.Sizes.{replaced}
+use Rattle.cad_store.specs.Code.Sizes.{replaced}
 use Rattle.cad_store.proofs.sizes.size_replaced.Given as goal
 
 abbrev pub invariant-loop-change : goal.invariant-loop-change

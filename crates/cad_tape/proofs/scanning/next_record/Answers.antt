@@ -3,7 +3,7 @@ use Rattle.std.proofs.lemmas.Result.{err_from_is_err_and}
 use Rattle.cad_host.specs.Disk.{reads}
 use Rattle.cad_wire.specs.Fields.{AreBytes}
 use Rattle.cad_wire.specs.Reading.{entries_of}
-use Rattle.cad_tape.specs.Scanning.{IsAlong, IsBad, TakesRecord, header_at}
+use Rattle.cad_tape.specs.Code.Scanning.{IsAlong, IsBad, TakesRecord, header_at}
 use Rattle.cad_tape.proofs.Taking.{no_gate, past_end, takes_record, bad_record, along_taken, along_at, err_takes}
 use Rattle.cad_tape.proofs.scanning.next_record.Goals as goal
 

@@ -1,7 +1,7 @@
 use Rattle.std.proofs.Common.{◌≡◌, ◌<◌, ℕ, Some, Ok, List, length, drop, ap, sym, ◌∙◌, subst, arith}
 use Rattle.std.proofs.lemmas.Result.{err_from_is_err_and}
 use Rattle.cad_host.specs.Disk.{reads}
-use Rattle.cad_tape.specs.Scanning.{Takes}
+use Rattle.cad_tape.specs.Code.Scanning.{Takes}
 use Rattle.cad_tape.proofs.Along.{along_begins}
 use Rattle.cad_tape.proofs.Taking.{bad_of, err_is}
 use Rattle.cad_tape.specs.declared.stop.ScanStop.TheVariants.{Damaged}

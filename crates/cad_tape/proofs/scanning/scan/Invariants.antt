@@ -1,6 +1,6 @@
 use Rattle.std.proofs.Common.{◌≡◌, ◌≤◌, ◌-◌, drop}
 use Rattle.cad_host.specs.Disk.{reads}
-use Rattle.cad_tape.specs.Scanning.{IsAlong}
+use Rattle.cad_tape.specs.Code.Scanning.{IsAlong}
 use Rattle.cad_tape.proofs.Going.{Going}
 use Rattle.cad_tape.proofs.scanning.scan.Given as goal
 

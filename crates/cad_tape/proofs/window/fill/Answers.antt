@@ -1,7 +1,7 @@
 use Rattle.std.proofs.Common.{◌≡◌, ◌++◌, ◌≤◌, ◌+◌, ◌-◌, List, ℕ, length, take, drop, subst, inl, inr, arith, ◌∙◌, ap, sym}
 use Rattle.std.proofs.lemmas.Bool.Decides.{nat_tests}
 use Rattle.cad_host.specs.Disk.{reads}
-use Rattle.cad_tape.specs.Scanning.{IsAlong}
+use Rattle.cad_tape.specs.Code.Scanning.{IsAlong}
 use Rattle.cad_tape.proofs.Along.{more, none_left}
 use Rattle.cad_tape.proofs.window.fill.Goals as goal
 use Rattle.cad_tape.proofs.window.fill.Goals.{else-pieces-test, then-pieces-test+then-at-window, then-pieces-test+else-at-window+in_ok-piece+then-is_empty}

@@ -1,6 +1,6 @@
 use Rattle.std.proofs.Common.{◌≡◌, ◌≤◌, ◌+◌, ◌-◌, List, ℕ, drop, vec_len}
 use Rattle.cad_host.specs.Disk.{reads}
-use Rattle.cad_tape.specs.Scanning.{IsAlong}
+use Rattle.cad_tape.specs.Code.Scanning.{IsAlong}
 use Rattle.cad_tape.proofs.window.fill.Given as goal
 
 abbrev pub invariant-pieces : goal.invariant-pieces

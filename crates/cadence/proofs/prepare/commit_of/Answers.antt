@@ -3,7 +3,7 @@ use Rattle.cad_accounts.specs.Registers.{applied, Leads}
 use Rattle.cad_accounts.specs.Accounts.{StandsFor}
 use Rattle.cad_store.specs.Stores.{rows_in, held, room_of, IsOn}
 use Rattle.cadence.specs.Answer.{failed}
-use Rattle.cadence.specs.Views.{answer_of}
+use Rattle.cadence.specs.Code.Views.{answer_of}
 use Rattle.cadence.proofs.Readies.{commits_fit, commits_full, leads_applied, stands_applied, stands_unchanged}
 use Rattle.cadence.proofs.prepare.commit_of.Goals as goal
 

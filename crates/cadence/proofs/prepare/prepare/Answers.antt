@@ -3,7 +3,7 @@ use Rattle.cad_store.specs.Stores.{held}
 use Rattle.cad_forms.specs.Request.{Request, Asks}
 use Rattle.cad_forms.specs.Views.{request_of}
 use Rattle.cadence.specs.Answer.{bad, Declines}
-use Rattle.cadence.specs.Views.{answer_of}
+use Rattle.cadence.specs.Code.Views.{answer_of}
 use Rattle.cadence.proofs.Readies.{long_line, no_request, ready_request}
 use Rattle.cadence.proofs.prepare.prepare.Goals as goal
 

@@ -1,8 +1,8 @@
 use Rattle.std.proofs.Common.{subst}
 use Rattle.cad_store.specs.Stores.{held}
 use Rattle.cadence.specs.Answer.{stays, unchanged}
-use Rattle.cadence.specs.Outcomes.{Comes}
-use Rattle.cadence.specs.Views.{answer_of}
+use Rattle.cadence.specs.Code.Outcomes.{Comes}
+use Rattle.cadence.specs.Code.Views.{answer_of}
 use Rattle.cadence.proofs.Readies.{ready_leads}
 use Rattle.cadence.proofs.prepare.ready_for.Goals as goal
 

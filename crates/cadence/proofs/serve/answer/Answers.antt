@@ -3,7 +3,7 @@ use Rattle.cad_accounts.specs.Accounts.{StandsFor}
 use Rattle.cad_accounts.specs.Registers.{applied}
 use Rattle.cad_accounts.specs.Worlds.{AreSound}
 use Rattle.cad_store.specs.Stores.{held}
-use Rattle.cadence.specs.Progress.{Said, Halted}
+use Rattle.cadence.specs.Code.Progress.{Said, Halted}
 use Rattle.cadence.proofs.Saids.{memory_here, stays_said, stays_broke, on_told}
 use Rattle.cadence.proofs.Tellings.{told_said, told_stops, on_ok, on_map, sound_as}
 use Rattle.cadence.proofs.serve.answer.Goals as goal

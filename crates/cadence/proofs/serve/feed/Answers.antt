@@ -1,5 +1,5 @@
 use Rattle.std.proofs.Common.{◌∙◌, refl, subst, arith}
-use Rattle.cadence.specs.Ending.{StopCause}
+use Rattle.cadence.specs.Code.Ending.{StopCause}
 use Rattle.cadence.proofs.Runs.{goes_none, goes_more, goes_all, stops_more}
 use Rattle.cadence.proofs.serve.feed.Goals as goal
 

@@ -2,7 +2,7 @@ use Rattle.std.proofs.Common.{◌≡◌, take}
 use Rattle.cad_host.specs.Disk.{taken}
 use Rattle.cad_accounts.specs.Worlds.{AreSound}
 use Rattle.cad_store.specs.Stores.{held, room_of, IsOn}
-use Rattle.cadence.specs.Progress.{Goes}
+use Rattle.cadence.specs.Code.Progress.{Goes}
 use Rattle.cadence.proofs.serve.feed.Given as goal
 
 abbrev pub invariant-loop-byte : goal.invariant-loop-byte

@@ -3,7 +3,8 @@ use Rattle.cad_store.specs.Opening.{opened}
 use Rattle.cad_store.specs.declared.store.Store.{Store}
 use Rattle.cadence.specs.Lines.{commands}
 use Rattle.cadence.specs.Crashes.{in_opening}
-use Rattle.cadence.specs.Ending.{EndsOpening, HasRun, IsCausedBy}
+use Rattle.cadence.specs.Ending.{HasRun}
+use Rattle.cadence.specs.Code.Ending.{EndsOpening, IsCausedBy}
 use Rattle.cadence.proofs.Openings.{store_stands, ends_from, survives_from, stop_ends, bad_stop, stop_runs, stop_is_no_usage, run_cause, no_bad_store, no_usage, open_cause}
 use Rattle.cadence.proofs.serve.open_and_run.Goals as goal
 

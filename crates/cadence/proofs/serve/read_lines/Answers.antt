@@ -1,5 +1,5 @@
 use Rattle.std.proofs.Common.{◌≡◌, ◌≤◌, [], ◌∙◌, refl, sym, ap, Ok, zero-add, arith, length}
-use Rattle.cadence.specs.Ending.{input_bound}
+use Rattle.cadence.specs.Code.Ending.{input_bound}
 use Rattle.cadence.proofs.Runs.{between_none, going_as, cause_as}
 use Rattle.cadence.proofs.serve.read_lines.Goals as goal
 

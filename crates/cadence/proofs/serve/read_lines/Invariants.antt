@@ -2,8 +2,8 @@ use Rattle.std.proofs.Common.{◌≡◌, ◌≤◌, ◌<◌, ◌+◌, ◌-◌, l
 use Rattle.cad_accounts.specs.Accounts.{Accounts, StandsFor}
 use Rattle.cad_accounts.specs.Worlds.{AreSound}
 use Rattle.cad_store.specs.Stores.{held, room_of, IsOn}
-use Rattle.cadence.specs.Progress.{Between}
-use Rattle.cadence.specs.Ending.{input_bound}
+use Rattle.cadence.specs.Code.Progress.{Between}
+use Rattle.cadence.specs.Code.Ending.{input_bound}
 use Rattle.cadence.proofs.serve.read_lines.Given as goal
 
 abbrev pub invariant-loop-taken : goal.invariant-loop-taken

@@ -2,7 +2,8 @@ use Rattle.std.proofs.Common.{inl, inr, ⊎_elim, sym, subst}
 use Rattle.cad_host.specs.Disk.{output}
 use Rattle.cad_store.specs.Opening.{opened}
 use Rattle.cadence.specs.Lines.{commands}
-use Rattle.cadence.specs.Ending.{Leaves, EndsOpening, IsCausedBy, HasRun}
+use Rattle.cadence.specs.Ending.{HasRun}
+use Rattle.cadence.specs.Code.Ending.{Leaves, EndsOpening, IsCausedBy}
 use Rattle.cadence.proofs.Batches.{begun_none}
 use Rattle.cadence.proofs.Runs.{ends_begin}
 use Rattle.cadence.proofs.Openings.{survives_idle, opening_begins, no_input_fault, no_output_fault, no_disk_fault}

@@ -1,6 +1,6 @@
 use Rattle.std.proofs.Common.{◌++◌, take, length, ap, sym, subst, refl, ◌∙◌, arith, length-append, length-take}
 use Rattle.cad_store.specs.Stores.{IsOn}
-use Rattle.cadence.specs.Ending.{StopCause}
+use Rattle.cadence.specs.Code.Ending.{StopCause}
 use Rattle.cadence.proofs.Saids.{on_took}
 use Rattle.cadence.proofs.Runs.{ends_read, halted_ends, going_as, going_took, all_taken, stop_cause}
 use Rattle.cadence.proofs.serve.turn.Goals as goal

@@ -3,7 +3,7 @@ use Rattle.cad_host.specs.Disk.{taken}
 use Rattle.cad_wire.specs.Body.{body_bytes}
 use Rattle.cad_accounts.specs.Registers.{applied}
 use Rattle.cad_store.specs.Stores.{held}
-use Rattle.cadence.specs.Progress.{Said, Halted}
+use Rattle.cadence.specs.Code.Progress.{Said, Halted}
 use Rattle.cadence.proofs.Saids.{commit_broke, on_told}
 use Rattle.cadence.proofs.Tellings.{told_said, told_stops, wrote_said, wrote_broke}
 use Rattle.cadence.proofs.Writings.{taken_recorded, taken_told}

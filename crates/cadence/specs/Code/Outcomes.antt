@@ -11,7 +11,7 @@ use Rattle.cad_store.specs.declared.store.Store.{Store}
 use Rattle.cad_store.specs.Stores.{held, IsOut}
 use Rattle.cadence.specs.Answer.{Answer, Loads, Does, answer_line, done, failed}
 use Rattle.cadence.specs.Answer as answer
-use Rattle.cadence.specs.Views.{answer_of, HasInt}
+use Rattle.cadence.specs.Code.Views.{answer_of, HasInt}
 use Rattle.cadence.specs.declared.outcome.Outcome.{Outcome}
 use Rattle.cadence.specs.declared.outcome.Outcome.TheVariants as outcome
 use Rattle.cadence.specs.declared.prepare.Prepared.{Prepared}

@@ -5,7 +5,7 @@ use Rattle.cad_accounts.specs.Accounts.{Accounts, StandsFor}
 use Rattle.cad_store.specs.declared.store.Store.{Store}
 use Rattle.cad_store.specs.Stores.{held, IsOn}
 use Rattle.cadence.specs.Lines.{lines, commands_among, commands}
-use Rattle.cadence.specs.Held.{Holds}
+use Rattle.cadence.specs.Code.Held.{Holds}
 use Rattle.cadence.specs.Served.{Served, ServedSome, Broken}
 use Rattle.cadence.specs.Writing.{Wrote, WroteSome, WroteBroken, WroteStopped}
 use Rattle.cadence.specs.Crashes.{DiskStands, KeepsPrefix}

@@ -1,0 +1,5 @@
+pub mod Views
+pub mod Outcomes
+pub mod Held
+pub mod Progress
+pub mod Ending
