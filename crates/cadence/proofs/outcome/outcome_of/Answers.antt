@@ -5,7 +5,7 @@ use Rattle.cad_store.specs.Stores.{held}
 use Rattle.cad_forms.specs.Sums.{IsProduct}
 use Rattle.cad_forms.specs.Request.{script}
 use Rattle.cad_forms.specs.Views.{products_of, save_of, request_of}
-use Rattle.cadence.specs.Outcomes.{Comes}
+use Rattle.cadence.specs.Code.Outcomes.{Comes}
 use Rattle.cadence.proofs.Comings.{bounds_script, bounds_save}
 use Rattle.cadence.proofs.outcome.outcome_of.Goals as goal
 
