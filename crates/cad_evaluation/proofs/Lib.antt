@@ -2,3 +2,4 @@ pub mod SampleParts
 pub mod SamplesTerms
 pub mod SampleContract
 pub mod SamplesTypes
+pub mod SamplesPlaces
