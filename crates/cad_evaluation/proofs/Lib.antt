@@ -2,3 +2,5 @@ pub mod SampleParts
 pub mod SamplesTerms
 pub mod SampleContract
 pub mod SamplesTypes
+pub mod SampleAccount
+pub mod SamplesAccounts
