@@ -1,5 +1,7 @@
-pub mod SampleParts
-pub mod SamplesTerms
+pub mod SampleAccount
 pub mod SampleContract
-pub mod SamplesTypes
+pub mod SampleParts
+pub mod SamplesAccounts
 pub mod SamplesPlaces
+pub mod SamplesTerms
+pub mod SamplesTypes

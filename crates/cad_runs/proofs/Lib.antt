@@ -1,2 +1,4 @@
 pub mod Leaving
 pub mod ReadBack
+pub mod SampleCommands
+pub mod Samples

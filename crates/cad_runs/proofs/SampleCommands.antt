@@ -1,0 +1,114 @@
+-- A front end of a few codes, and values in the place of JSON: of these are samples of commands made.
+use Rattle.std.specs.Prelude.{ℕ, Bool, true, false, ◌==◌, List, [], ◌∷◌, Option, Some, None, Result, Ok, Err, codes, map, if◌then◌else◌}
+use Rattle.cad_syntax.specs.Types.{PureType, basic, optional, array, declared, reference}
+use Rattle.cad_syntax.specs.declared.address.Address.{Address}
+use Rattle.cad_syntax.specs.declared.address.Domain.TheVariants as d
+use Rattle.cad_syntax.specs.declared.kind.Kind.TheVariants as k
+use Rattle.cad_syntax.specs.declared.types.Authorization.TheVariants.{Unauthorized}
+use Rattle.cad_syntax.specs.declared.types.Basic.TheVariants as b
+use Rattle.cad_types.specs.Below.{below}
+use Rattle.cad_types.specs.declared.builtin.Builtin.TheVariants as m
+use Rattle.cad_grammar.specs.declared.expression.BinaryOperator.TheVariants as o
+use Rattle.cad_grammar.specs.declared.phase.Phase.TheVariants.{Types}
+use Rattle.cad_declarations.specs.Builtins.{own_account}
+use Rattle.cad_declarations.specs.Tables.{ProgramTables, MemberEntry, function}
+use Rattle.cad_declarations.specs.Typed as e
+use Rattle.cad_declarations.specs.declared.member.MemberAccess.TheVariants as access
+use Rattle.cad_declarations.specs.declared.stop.Rejected.{Rejected}
+use Rattle.cad_values.specs.Types.{type_of_value}
+use Rattle.cad_values.specs.Values.{PureValue}
+use Rattle.cad_world.specs.Begin.{empty_world}
+use Rattle.cad_world.specs.Registers.{Coding}
+use Rattle.cad_world.specs.State.{Contract, Program, World}
+use Rattle.cad_evaluation.proofs.SampleParts.{literal, int_type, named, variable, body, main, function_named, no_tables}
+use Rattle.cad_evaluation.proofs.SampleContract.{c_id}
+use Rattle.cad_evaluation.proofs.SampleAccount.{call, read, given, do_it, gives, to_storage, program_of, takes_int}
+use Rattle.cad_runs.specs.Batch.{step, batch, last_world}
+use Rattle.cad_runs.specs.Commands.{Command, Reply}
+use Rattle.cad_runs.specs.Surroundings.{Surroundings}
+
+-- ---- programs
+
+abbrev pub main_entry : MemberEntry
+main_entry = record { name = main; access = access.All; declared_by = c_id; form = function takes_int true }
+
+-- a script with these parameters, this result and these statements
+abbrev pub script_program : List e.VariableEntry → PureType → List e.StatementTree → Program
+script_program parameters result all = record {
+  tables = record no_tables { functions = main_entry ∷ [] };
+  bodies = record { types = []; functions = function_named main (body parameters result all) ∷ []; transaction = None };
+}
+
+-- a transaction with an Int, one signer, and a `prepare` with these statements
+abbrev pub transaction_program : List e.StatementTree → Program
+transaction_program all = record {
+  tables = no_tables;
+  bodies = record {
+    types = [];
+    functions = [];
+    transaction = Some (record {
+      fields = [];
+      parameters = variable 0 int_type ∷ [];
+      signers = variable 1 own_account ∷ [];
+      prepare = Some (e.block 2 (e.statements_of all));
+      pre = [];
+      before = [];
+      execute = None;
+      post = [];
+      prepare_statements = 1;
+      pre_statements = 0;
+      execute_statements = 0;
+      post_statements = 0;
+    });
+  };
+}
+
+abbrev pub save_for : e.TermTree → PureType → e.StatementTree
+save_for t type = do_it (call (read (e.copy (e.variable 1)) m.AccountStorage) m.StorageSave (type ∷ []) (given t type ∷ to_storage ∷ []))
+
+abbrev pub any_type : PureType
+any_type = basic b.AnyStruct
+
+-- let f: AnyStruct = &n as &Int; save f
+abbrev pub saves_reference : List e.StatementTree
+saves_reference = e.declare 0 (variable 2 any_type) (e.borrow (e.variable 0) Unauthorized int_type false false) ∷ save_for (e.copy (e.variable 2)) any_type ∷ []
+
+-- 1 saves its argument, 2 saves it and panics, 3 saves a reference; 4 gives its argument, 5 a type, 6 turns for ever
+abbrev pub other_program : ℕ → Option Program
+other_program n =
+    if n == 1 then Some (transaction_program (save_for (e.copy (e.variable 0)) int_type ∷ []))
+    else (if n == 2 then Some (transaction_program (save_for (e.copy (e.variable 0)) int_type ∷ do_it (e.builtin m.Panic [] (e.arguments_of (given (e.string (codes "stop")) (basic b.String) ∷ []))) ∷ []))
+    else (if n == 3 then Some (transaction_program saves_reference)
+    else (if n == 4 then Some (script_program (variable 0 int_type ∷ []) int_type (gives (e.copy (e.variable 0)) int_type ∷ []))
+    else (if n == 5 then Some (script_program [] any_type (gives (e.meta int_type) any_type ∷ []))
+    else (if n == 6 then Some (script_program [] (basic b.Void) (e.while_loop 0 (e.bool true) (e.block 0 e.no_statements) ∷ [])) else None)))))
+
+abbrev pub refusal : Rejected
+refusal = record { phase = Types; inside = []; at = 0 }
+
+abbrev pub or_refused : Option Program → Result Program Rejected
+or_refused None = Err refusal
+or_refused (Some p) = Ok p
+
+-- the code of one number; at an address the contract D as its samples have it
+abbrev pub load_code : Option Address → List ℕ → Result Program Rejected
+load_code (Some a) (n ∷ []) = or_refused (program_of n)
+load_code None (n ∷ []) = or_refused (other_program n)
+load_code place code = Err refusal
+
+-- ---- surroundings
+
+abbrev pub value_of : PureType → PureValue → Option PureValue
+value_of type v = if below [] (type_of_value v) type then Some v else None
+
+abbrev pub surroundings : Surroundings PureValue
+surroundings = record {
+  load = λ contracts place code. load_code place code;
+  value_of_json = λ tables type v. value_of type v;
+  json_of_value = λ contracts v. v;
+  coding = record { value = λ v. []; type = λ t. [] };
+}
+
+-- the replies, one after another, from the World without accounts
+abbrev pub replies : List (Command PureValue) → List (Reply PureValue)
+replies cs = map (λ a. a.reply) (batch surroundings empty_world cs)

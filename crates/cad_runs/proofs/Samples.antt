@@ -1,0 +1,75 @@
+-- Commands and their replies, each list of commands from the World without accounts.
+use Rattle.std.specs.Prelude.{ℕ, true, false, List, [], ◌∷◌, ◌≡◌, refl, codes}
+use Rattle.cad_syntax.specs.declared.address.Address.{Address}
+use Rattle.cad_num.specs.Numbers as n
+use Rattle.cad_values.specs.Values.{PureValue}
+use Rattle.cad_values.specs.Values as v
+use Rattle.cad_evaluation.proofs.SampleParts.{int}
+use Rattle.cad_runs.specs.Commands.{Command, account, deploy, transaction, script, refused, Reply, account_made, result, ran, rejected, failed, limit, bad}
+use Rattle.cad_runs.proofs.SampleCommands.{refusal, replies}
+
+abbrev one : Address
+one = record { 0 = 1 }
+
+abbrev two : Address
+two = record { 0 = 2 }
+
+-- a transaction signed by the first account
+abbrev save : ℕ → ℕ → Command PureValue
+save code value = transaction (code ∷ []) (int value ∷ []) (one ∷ []) 9
+
+abbrev nothing : Reply PureValue
+nothing = ran [] [] []
+
+-- accounts have the addresses from 1
+accounts : replies (account ∷ account ∷ []) ≡ account_made 1 ∷ account_made 2 ∷ []
+accounts = refl
+
+-- what a transaction saves stays, and the path is taken
+saved : replies (account ∷ save 1 7 ∷ save 1 8 ∷ []) ≡ account_made 1 ∷ nothing ∷ failed 111 ∷ []
+unfolding n.outcome
+saved = refl
+
+-- a transaction that fails leaves the World: the path is free
+failed_leaves : replies (account ∷ save 2 7 ∷ save 1 8 ∷ []) ≡ account_made 1 ∷ failed 109 ∷ nothing ∷ []
+unfolding n.outcome
+failed_leaves = refl
+
+-- a reference in an account at the end: 133
+not_storable : replies (account ∷ save 3 7 ∷ save 1 8 ∷ []) ≡ account_made 1 ∷ failed 133 ∷ nothing ∷ []
+unfolding n.outcome
+not_storable = refl
+
+-- before the run: rejected, 26 by the kind of program, by a signer and by their number, 25, 24
+refusals : replies (account ∷ transaction (9 ∷ []) [] [] 9 ∷ transaction (4 ∷ []) [] [] 9 ∷ transaction (1 ∷ []) (int 7 ∷ []) (two ∷ []) 9
+    ∷ transaction (1 ∷ []) [] [] 9 ∷ transaction (1 ∷ []) [] (one ∷ []) 9 ∷ transaction (1 ∷ []) (v.bool true ∷ []) (one ∷ []) 9 ∷ refused 21 ∷ [])
+    ≡ account_made 1 ∷ rejected refusal ∷ bad 26 ∷ bad 26 ∷ bad 26 ∷ bad 25 ∷ bad 24 ∷ bad 21 ∷ []
+unfolding n.outcome
+refusals = refl
+
+-- scripts: the result, 25, 24, 26, and 134 of a result without a form
+scripts : replies (script (4 ∷ []) (int 7 ∷ []) 9 ∷ script (4 ∷ []) [] 9 ∷ script (4 ∷ []) (v.bool true ∷ []) 9 ∷ script (1 ∷ []) [] 9 ∷ script (5 ∷ []) [] 9 ∷ [])
+    ≡ result (int 7) ∷ bad 25 ∷ bad 24 ∷ bad 26 ∷ failed 134 ∷ []
+unfolding n.outcome
+scripts = refl
+
+-- a loop without an end
+limited : replies (script (6 ∷ []) [] 5 ∷ []) ≡ limit ∷ []
+unfolding n.outcome
+limited = refl
+
+-- deployments: 26 without the account, 118 before rejected, rejected, 120, 125
+deploys : replies (account ∷ deploy two (codes "D") (1 ∷ []) (int 5 ∷ []) 9 ∷ deploy one (codes "D") (1 ∷ []) (int 5 ∷ []) 9 ∷ deploy one (codes "D") (9 ∷ []) [] 9
+    ∷ deploy one (codes "E") (9 ∷ []) [] 9 ∷ deploy one (codes "E") (1 ∷ []) [] 9 ∷ [])
+    ≡ account_made 1 ∷ bad 26 ∷ nothing ∷ failed 118 ∷ rejected refusal ∷ failed 120 ∷ []
+unfolding n.outcome
+deploys = refl
+
+arguments : replies (account ∷ deploy one (codes "D") (1 ∷ []) [] 9 ∷ deploy one (codes "D") (1 ∷ []) (v.bool true ∷ []) 9 ∷ []) ≡ account_made 1 ∷ failed 125 ∷ failed 125 ∷ []
+unfolding n.outcome
+arguments = refl
+
+-- a contract whose initializer adds one of its own name: 118; one that reads what isn't set: 132
+initializers : replies (account ∷ deploy one (codes "D") (2 ∷ []) (int 5 ∷ []) 9 ∷ deploy one (codes "D") (3 ∷ []) (int 5 ∷ []) 9 ∷ []) ≡ account_made 1 ∷ failed 118 ∷ failed 132 ∷ []
+unfolding n.outcome
+initializers = refl
