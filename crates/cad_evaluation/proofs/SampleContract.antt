@@ -17,7 +17,7 @@ use Rattle.cad_declarations.specs.declared.member.MemberAccess.TheVariants as ac
 use Rattle.cad_declarations.specs.Tables.{TypeEntry, MemberEntry, SignatureType, field, function}
 use Rattle.cad_declarations.specs.Typed as e
 use Rattle.cad_values.specs.Values as v
-use Rattle.cad_world.specs.Rows.{Tree, alone}
+use Rattle.cad_world.specs.Rows.{Tree, alone, node, gap, stop, composite}
 use Rattle.cad_world.specs.State.{State, Contract, Outcome, ok}
 use Rattle.cad_world.specs.Trees.{tree_of}
 use Rattle.cad_evaluation.proofs.SampleParts.{int, literal, int_type, named, variable, body, function_named, main, no_tables, script, state, Seen, seen, runs}
@@ -38,6 +38,18 @@ r_id = inside (codes "R")
 
 abbrev pub i_id : TypeId
 i_id = inside (codes "I")
+
+abbrev pub j_id : TypeId
+j_id = inside (codes "J")
+
+abbrev pub twice_name : Name
+twice_name = named (codes "twice")
+
+abbrev pub replace_name : Name
+replace_name = named (codes "replace")
+
+abbrev pub fill_name : Name
+fill_name = named (codes "fill")
 
 abbrev pub gone_id : TypeId
 gone_id = record { address = record { 0 = 1 }; names = named (codes "C") ∷ named (codes "R") ∷ named (codes "ResourceDestroyed") ∷ [] }
@@ -83,9 +95,10 @@ kid_type = optional (declared r_id)
 abbrev pub types : List TypeEntry
 types =
     entry c_id sort.Contract [] (field_of c_id n_name access.All int_type ∷ [])
-    ∷ entry s_id sort.Struct (i_id ∷ []) (field_of s_id n_name access.All int_type ∷ field_of s_id list_name access.All (array int_type) ∷ function_of s_id add_name access.All true ∷ [])
-    ∷ entry r_id sort.Resource [] (field_of r_id n_name access.Own int_type ∷ field_of r_id kid_name access.All kid_type ∷ function_of r_id add_name (access.Entitled right) true ∷ [])
+    ∷ entry s_id sort.Struct (i_id ∷ j_id ∷ []) (field_of s_id n_name access.All int_type ∷ field_of s_id list_name access.All (array int_type) ∷ function_of s_id add_name access.All true ∷ [])
+    ∷ entry r_id sort.Resource [] (field_of r_id n_name access.Own int_type ∷ field_of r_id kid_name access.All kid_type ∷ function_of r_id add_name (access.Entitled right) true ∷ function_of r_id replace_name access.All true ∷ function_of r_id fill_name access.All true ∷ [])
     ∷ entry i_id sort.StructInterface [] (function_of i_id add_name access.All false ∷ [])
+    ∷ entry j_id sort.StructInterface [] (function_of j_id twice_name access.All true ∷ [])
     ∷ entry gone_id sort.Event [] (field_of gone_id n_name access.All (basic (b.Number k.UInt64)) ∷ [])
     ∷ entry told_id sort.Event [] (field_of told_id n_name access.All int_type ∷ [])
     ∷ record (entry enum_id sort.Enum [] []) { cases = named (codes "a") ∷ named (codes "b") ∷ []; raw = Some k.Int } ∷ []
@@ -139,12 +152,26 @@ abbrev pub r_add : e.FunctionBody
 r_add = body (variable 0 int_type ∷ []) int_type
     (e.assign 0 (self_field r_id n_name) (e.binary o.Add (self_read n_name) (argument 0)) int_type ∷ e.return_value 1 (self_read n_name) int_type ∷ [])
 
+-- fun replace(_ k: @R?): @R? { let old <- self.kid <- k; return <-old }
+abbrev pub r_replace : e.FunctionBody
+r_replace = body (variable 0 kid_type ∷ []) kid_type
+    (e.exchange 0 (variable 1 kid_type) (self_field r_id kid_name) kid_type (e.take (e.variable 0)) ∷ e.return_value 1 (e.take (e.variable 1)) kid_type ∷ [])
+
+-- fun fill(_ k: @R?) { self.kid <-! k }
+abbrev pub r_fill : e.FunctionBody
+r_fill = body (variable 0 kid_type ∷ []) (basic b.Void) (e.force_assign 0 (self_field r_id kid_name) (e.take (e.variable 0)) kid_type ∷ [])
+
+-- in the second interface: fun twice(): Int { return self.n * 2 }
+abbrev pub j_twice : e.FunctionBody
+j_twice = body [] int_type (e.return_value 0 (e.binary o.Multiply (self_read n_name) (literal 2)) int_type ∷ [])
+
 abbrev pub bodies : List e.TypeBody
 bodies =
     record { id = c_id; initializer = None; functions = function_named (named (codes "make")) make ∷ []; destroyed = None }
     ∷ record { id = s_id; initializer = Some s_init; functions = function_named add_name s_add ∷ []; destroyed = None }
-    ∷ record { id = r_id; initializer = Some r_init; functions = function_named add_name r_add ∷ []; destroyed = Some told }
-    ∷ record { id = i_id; initializer = None; functions = function_named add_name i_add ∷ []; destroyed = None } ∷ []
+    ∷ record { id = r_id; initializer = Some r_init; functions = function_named add_name r_add ∷ function_named replace_name r_replace ∷ function_named fill_name r_fill ∷ []; destroyed = Some told }
+    ∷ record { id = i_id; initializer = None; functions = function_named add_name i_add ∷ []; destroyed = None }
+    ∷ record { id = j_id; initializer = None; functions = function_named twice_name j_twice ∷ []; destroyed = None } ∷ []
   where
     make : e.FunctionBody
     make = body [] (declared r_id) []
@@ -162,6 +189,10 @@ contract = record {
   value = alone (tree_of (v.composite c_id 0 (v.fields n_name (int 7) v.no_fields)));
   is_running = false;
 }
+
+-- the same while its initializer runs and has set nothing
+abbrev pub unset_contract : Contract
+unset_contract = record contract { value = node [] 0 (composite c_id 0 (n_name ∷ [])) (gap stop) stop; is_running = true }
 
 abbrev pub beside : PureType → List e.StatementTree → ℕ → State
 beside result all units = state [] (contract ∷ []) (script (function_named main (body [] result all) ∷ [])) units
@@ -184,3 +215,16 @@ leaves result all units = left_of (runs (beside result all units))
 
 abbrev pub event : TypeId → v.PureValue → v.PureValue
 event id x = v.composite id 0 (v.fields n_name x v.no_fields)
+
+-- the same in a state that was changed before
+abbrev pub runs_from : (State → State) → PureType → List e.StatementTree → ℕ → Seen
+runs_from change result all units = seen (runs (change (beside result all units)))
+
+abbrev pub with_depth : ℕ → State → State
+with_depth n s = record s { depth = n }
+
+abbrev pub with_identity : ℕ → State → State
+with_identity n s = record s { next_identity = n }
+
+abbrev pub with_unset : State → State
+with_unset s = record s { contracts = unset_contract ∷ [] }
