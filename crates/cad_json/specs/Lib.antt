@@ -1,4 +1,3 @@
 pub mod Words
 pub mod Told
 pub mod Read
-pub mod Code

@@ -10,7 +10,7 @@ use Rattle.cad_types.specs.declared.declared.Sort.{Sort}
 use Rattle.cad_types.specs.declared.declared.Sort.TheVariants as s
 use Rattle.cad_values.specs.Values as v
 use Rattle.cad_values.specs.Values.{PureValue, Values, no_values, values, Entries, no_entries, entries, Fields, no_fields, fields}
-use Rattle.cad_json.specs.Words.{kind_word, domain_word, sort_word, typed, bare, path_json, entry_json, field_json, composite_json}
+use Rattle.cad_json.specs.Words.{kind_word, domain_word, sort_word, typed, number_json, bare, path_json, entry_json, field_json, composite_json}
 
 -- a resource's identity stands before its fields
 abbrev pub with_uuid : Sort → ℕ → Items → Items
@@ -29,7 +29,7 @@ abbrev mutual
   told declared v.nil = typed (codes "Optional") null
   told declared (v.some x) = typed (codes "Optional") (told declared x)
   told declared (v.bool x) = typed (codes "Bool") (boolean x)
-  told declared (v.number n) = typed (kind_word n.kind) (string (written n))
+  told declared (v.number n) = number_json n.kind (written n)
   told declared (v.string text) = typed (codes "String") (string text)
   told declared (v.character text) = typed (codes "Character") (string text)
   told declared (v.address a) = typed (codes "Address") (string (address_text a.0))

@@ -1,6 +1,6 @@
 -- The words and objects of JSON-Cadence.
-use Rattle.std.specs.Prelude.{ℕ, List, [], ◌∷◌, codes}
-use Rattle.serde_json.specs.Data.{Data, string, object, Members, no_members, member}
+use Rattle.std.specs.Prelude.{ℕ, Bool, true, false, List, [], ◌∷◌, codes, if◌then◌else◌}
+use Rattle.serde_json.specs.Data.{Data, null, string, object, Members, no_members, member}
 use Rattle.cad_syntax.specs.declared.address.Domain.{Domain}
 use Rattle.cad_syntax.specs.declared.address.Domain.TheVariants as d
 use Rattle.cad_syntax.specs.declared.kind.Kind.{Kind}
@@ -48,6 +48,14 @@ two key value other second = object (member key value (member other second no_me
 -- a value: its word and what is told of it
 abbrev pub typed : List ℕ → Data → Data
 typed word value = two (codes "type") (string word) (codes "value") value
+
+abbrev pub is_address : Kind → Bool
+is_address k.Address = true
+is_address _ = false
+
+-- a number by its text; no number is of the kind of addresses
+abbrev pub number_json : Kind → List ℕ → Data
+number_json kind text = if is_address kind then null else typed (kind_word kind) (string text)
 
 -- a value of which nothing is told
 abbrev pub bare : List ℕ → Data

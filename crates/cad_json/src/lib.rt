@@ -1,7 +1,2 @@
-//! Values in JSON-Cadence.
+//! JSON-Cadence: which JSON stands for which values. Definitions alone.
 #![tactic(auto)]
-
-mod export;
-mod words;
-
-pub use export::export;
