@@ -126,7 +126,7 @@ tagged = refl
 
 -- ---- contracts that are added
 
-added : with_account int_type (do_it (add (codes "D") 1 (given (literal 5) int_type ∷ [])) ∷ gives d_n int_type ∷ []) ≡ gave (int 5) 23
+added : with_account int_type (do_it (add (codes "D") 1 (given (literal 5) int_type ∷ [])) ∷ gives d_n int_type ∷ []) ≡ gave (int 5) 24
 unfolding n.outcome
 added = refl
 
