@@ -1,6 +1,7 @@
 -- Storage, capabilities, controllers and contracts that are added: the value and the units left of 30, or an error.
 use Rattle.std.specs.Prelude.{ℕ, ◌-◌, ◌^◌, true, false, [], ◌∷◌, ◌≡◌, refl, codes}
 use Rattle.cad_syntax.specs.Types.{basic, optional, array, reference, capability, capability_of}
+use Rattle.cad_syntax.specs.declared.address.Domain.TheVariants as d
 use Rattle.cad_syntax.specs.declared.kind.Kind.TheVariants as k
 use Rattle.cad_syntax.specs.declared.types.Authorization.TheVariants.{Unauthorized}
 use Rattle.cad_syntax.specs.declared.types.Basic.TheVariants as b
@@ -124,9 +125,39 @@ tagged : with_account (basic b.String) (do_it issue ∷ do_it (call controller m
 unfolding n.outcome
 tagged = refl
 
+-- a retargeted controller leads elsewhere
+retargeted : with_account (basic b.StoragePath) (do_it issue ∷ do_it (call controller m.ControllerRetarget [] (given (e.path (record { domain = d.Storage; identifier = named (codes "y") })) (basic b.StoragePath) ∷ [])) ∷ gives (call controller m.ControllerTarget [] []) (basic b.StoragePath) ∷ []) ≡ gave (v.path (record { domain = d.Storage; identifier = named (codes "y") })) 22
+unfolding n.outcome
+retargeted = refl
+
+-- what may be borrowed, and a number that no controller has
+borrow_type : with_account (basic b.Meta) (do_it issue ∷ gives (read controller m.ControllerBorrowType) (basic b.Meta) ∷ []) ≡ gave (v.meta int_reference) 26
+unfolding n.outcome
+borrow_type = refl
+
+no_controller : with_account (optional (reference Unauthorized (basic b.StorageCapabilityController))) (gives (call controllers m.StorageCapabilitiesGetController [] (given (e.number (num k.UInt64 5)) (basic (b.Number k.UInt64)) ∷ [])) (optional (reference Unauthorized (basic b.StorageCapabilityController))) ∷ []) ≡ gave v.nil 28
+unfolding n.outcome
+no_controller = refl
+
+-- ---- accounts
+
+address_told : with_account (basic (b.Number k.Address)) (gives (read signer m.AccountAddress) (basic (b.Number k.Address)) ∷ []) ≡ gave (v.address first_address) 29
+unfolding n.outcome
+address_told = refl
+
+-- an account that isn't there looks empty
+empty_account : with_account (basic b.Bool) (gives (call (read (e.builtin m.GetAccount [] (e.arguments_of (given (e.address (record { 0 = 9 })) (basic (b.Number k.Address)) ∷ []))) m.AccountStorage) m.StorageCheck (int_type ∷ []) (to_storage ∷ [])) (basic b.Bool) ∷ []) ≡ gave (v.bool false) 27
+unfolding n.outcome
+empty_account = refl
+
+-- without the right that a call needs
+without_right : with_account (basic b.Void) (do_it (call (read (e.builtin m.GetAccount [] (e.arguments_of (given (e.address first_address) (basic (b.Number k.Address)) ∷ []))) m.AccountStorage) m.StorageLoad (int_type ∷ []) (to_storage ∷ [])) ∷ []) ≡ ill_typed
+unfolding n.outcome
+without_right = refl
+
 -- ---- contracts that are added
 
-added : with_account int_type (do_it (add (codes "D") 1 (given (literal 5) int_type ∷ [])) ∷ gives d_n int_type ∷ []) ≡ gave (int 5) 23
+added : with_account int_type (do_it (add (codes "D") 1 (given (literal 5) int_type ∷ [])) ∷ gives d_n int_type ∷ []) ≡ gave (int 5) 24
 unfolding n.outcome
 added = refl
 

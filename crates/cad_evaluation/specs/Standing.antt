@@ -1,5 +1,5 @@
 -- What a place of a program comes to: where the value stands, or the reference that leads there; and how it is met.
-use Rattle.std.specs.Prelude.{ℕ, Bool, true, false, ◌&&◌, ◌==◌, Option, Some, None}
+use Rattle.std.specs.Prelude.{ℕ, zero, suc, ◌-◌, Bool, true, false, ◌&&◌, ◌==◌, Option, Some, None}
 use Rattle.cad_syntax.specs.declared.text.Name.{Name}
 use Rattle.cad_syntax.specs.declared.type_id.TypeId.{TypeId}
 use Rattle.cad_syntax.specs.declared.types.Authorization.{Authorization}
@@ -7,7 +7,7 @@ use Rattle.cad_syntax.specs.declared.types.Authorization.TheVariants.{Unauthoriz
 use Rattle.cad_declarations.specs.Builtins.{may_replace_elements}
 use Rattle.cad_declarations.specs.Tables.{MemberEntry}
 use Rattle.cad_world.specs.Rows.{NodeShape, array, dictionary, Tree}
-use Rattle.cad_world.specs.State.{State, Action, ◌>>=◌, give, stuck, guard, with_some}
+use Rattle.cad_world.specs.State.{State, Action, ◌>>=◌, give, stuck, fail, guard, with_some}
 use Rattle.cad_world.specs.Trees.{nil_tree, value_of}
 use Rattle.cad_world.specs.Labels.{position_of}
 use Rattle.cad_world.specs.Locations.{Location, variable, part, element, entry, read, name}

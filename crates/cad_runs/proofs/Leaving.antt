@@ -1,5 +1,5 @@
 -- What is refused or fails, and a script, leaves the World.
-use Rattle.std.proofs.Common.{◌≡◌, ℕ, Bool, true, false, List, Option, Some, None, Result, Ok, Err, refl, sym, ◌∙◌, length, nat_le, nat_lt, not, ◌==◌, true≢false}
+use Rattle.std.proofs.Common.{◌≡◌, ℕ, suc, Bool, true, false, List, Option, Some, None, Result, Ok, Err, refl, sym, ◌∙◌, length, nat_le, nat_lt, not, ◌==◌, true≢false}
 use Rattle.cad_syntax.specs.declared.address.Address.{Address}
 use Rattle.cad_syntax.specs.declared.type_id.TypeId.{TypeId}
 use Rattle.cad_declarations.specs.Typed as e
@@ -12,7 +12,7 @@ use Rattle.cad_world.specs.Sound.{most_accounts}
 use Rattle.cad_world.specs.State as run
 use Rattle.cad_world.specs.State.{Program, World, Outcome}
 use Rattle.cad_evaluation.specs.Adding.{is_taken, is_contract_of, initializer_types, new_contract, contract_named}
-use Rattle.cad_runs.specs.Batch.{Answer, most_bytes, leaves, bad_unless, failed_unless, becomes_if, becomes, receipt, settled, told_result, calls, make_account, deploy_row, deploy_program, deploy_contract, transaction_row, transaction_of, transaction_program, script_row, script_of, script_program, step}
+use Rattle.cad_runs.specs.Batch.{Answer, most_bytes, leaves, bad_unless, failed_unless, becomes_if, becomes, receipt, settled, told_result, calls, one_more, make_account, deploy_row, deploy_program, deploy_contract, transaction_row, transaction_of, transaction_program, script_row, script_of, script_program, step}
 use Rattle.cad_runs.specs.Commands.{Command, account, deploy, transaction, script, refused, Reply, account_made, is_ok, main_of, is_account, are_signers, types_of, argument_row}
 use Rattle.cad_runs.specs.Laws.{FailuresLeave, ScriptsLeave}
 use Rattle.cad_runs.specs.Run.{bound, run_transaction, run_deploy, run_script}
@@ -42,7 +42,8 @@ module _ {Json : Type 0} (x : Surroundings Json) (w : World) where
   settled_leaves run.ill = λ e. refl
 
   account_leaves : Leaves (make_account x w)
-  account_leaves = failed_leaves 127 _ _ (becomes_leaves _ _ _ refl)
+  account_leaves = failed_leaves 127 (nat_lt (length w.accounts) most_accounts) (becomes x w (one_more x w) (account_made (suc (length w.accounts))))
+      (becomes_leaves (nat_le (size x.coding (one_more x w)) most_bytes) (one_more x w) (account_made (suc (length w.accounts))) refl)
 
   deploy_row_leaves : (n : ℕ) (id : TypeId) (code : List ℕ) (p : Program) (o : Option Row) → Leaves (deploy_row x w n id code p o)
   deploy_row_leaves n id code p None = λ e. refl
@@ -57,18 +58,18 @@ module _ {Json : Type 0} (x : Surroundings Json) (w : World) where
   deploy_leaves n id code js =
       bad_leaves 26 (is_account w id.address) _ (failed_leaves 118 (not (is_taken w.contracts id)) _ (deploy_program_leaves n id code js (x.load w.contracts (Some id.address) code)))
 
-  transaction_row_leaves : (n : ℕ) (p : Program) (t : e.TransactionBody) (as : List Address) (o : Option Row) → Leaves (transaction_row x w n p t as o)
-  transaction_row_leaves n p t as None = λ e. refl
-  transaction_row_leaves n p t as (Some r) = settled_leaves (run_transaction (front_of x) (calls x n) (bound n) t r as (begun p n w))
+  transaction_row_leaves : (n : ℕ) (p : Program) (t : e.TransactionBody) (signers : List Address) (o : Option Row) → Leaves (transaction_row x w n p t signers o)
+  transaction_row_leaves n p t signers None = λ e. refl
+  transaction_row_leaves n p t signers (Some r) = settled_leaves (run_transaction (front_of x) (calls x n) (bound n) t r signers (begun p n w))
 
-  transaction_of_leaves : (n : ℕ) (p : Program) (js : List Json) (as : List Address) (o : Option e.TransactionBody) → Leaves (transaction_of x w n p js as o)
-  transaction_of_leaves n p js as None = λ e. refl
-  transaction_of_leaves n p js as (Some t) =
-      bad_leaves 26 (are_signers w t as) _ (bad_leaves 25 (length js == length t.parameters) _ (transaction_row_leaves n p t as (argument_row x p.tables (types_of t.parameters) js)))
+  transaction_of_leaves : (n : ℕ) (p : Program) (js : List Json) (signers : List Address) (o : Option e.TransactionBody) → Leaves (transaction_of x w n p js signers o)
+  transaction_of_leaves n p js signers None = λ e. refl
+  transaction_of_leaves n p js signers (Some t) =
+      bad_leaves 26 (are_signers w t signers) _ (bad_leaves 25 (length js == length t.parameters) _ (transaction_row_leaves n p t signers (argument_row x p.tables (types_of t.parameters) js)))
 
-  transaction_leaves : (n : ℕ) (js : List Json) (as : List Address) (o : Result Program Rejected) → Leaves (transaction_program x w n js as o)
-  transaction_leaves n js as (Err r) = λ e. refl
-  transaction_leaves n js as (Ok p) = transaction_of_leaves n p js as p.bodies.transaction
+  transaction_leaves : (n : ℕ) (js : List Json) (signers : List Address) (o : Result Program Rejected) → Leaves (transaction_program x w n js signers o)
+  transaction_leaves n js signers (Err r) = λ e. refl
+  transaction_leaves n js signers (Ok p) = transaction_of_leaves n p js signers p.bodies.transaction
 
   -- ---- scripts
 
@@ -98,7 +99,7 @@ module _ {Json : Type 0} (x : Surroundings Json) (w : World) where
   step_leaves : (c : Command Json) → Leaves (step x w c)
   step_leaves account = account_leaves
   step_leaves (deploy a name code js n) = deploy_leaves n (contract_named a name) code js
-  step_leaves (transaction code js as n) = transaction_leaves n js as (x.load w.contracts None code)
+  step_leaves (transaction code js signers n) = transaction_leaves n js signers (x.load w.contracts None code)
   step_leaves (script code js n) = λ e. script_stays n js (x.load w.contracts None code)
   step_leaves (refused n) = λ e. refl
 

@@ -40,28 +40,39 @@ script_program parameters result all = record {
 }
 
 -- a transaction with an Int, one signer, and a `prepare` with these statements
-abbrev pub transaction_program : List e.StatementTree → Program
-transaction_program all = record {
-  tables = no_tables;
-  bodies = record {
-    types = [];
-    functions = [];
-    transaction = Some (record {
-      fields = [];
-      parameters = variable 0 int_type ∷ [];
-      signers = variable 1 own_account ∷ [];
-      prepare = Some (e.block 2 (e.statements_of all));
-      pre = [];
-      before = [];
-      execute = None;
-      post = [];
-      prepare_statements = 1;
-      pre_statements = 0;
-      execute_statements = 0;
-      post_statements = 0;
-    });
-  };
+abbrev pub prepare_body : List e.StatementTree → e.TransactionBody
+prepare_body all = record {
+  fields = [];
+  parameters = variable 0 int_type ∷ [];
+  signers = variable 1 own_account ∷ [];
+  prepare = Some (e.block 2 (e.statements_of all));
+  pre = [];
+  before = [];
+  execute = None;
+  post = [];
+  prepare_statements = 0;
+  pre_statements = 0;
+  execute_statements = 0;
+  post_statements = 0;
 }
+
+-- transaction(n: Int) { let f: Int; prepare(a) { self.f = n } pre { self.f > 0 } post { before(self.f) == 7 } }
+abbrev pub conditions_body : e.TransactionBody
+conditions_body = record (prepare_body []) {
+  fields = variable 0 int_type ∷ [];
+  parameters = variable 1 int_type ∷ [];
+  signers = variable 2 own_account ∷ [];
+  prepare = Some (e.block 3 (e.statements_of (e.assign 0 (e.variable 0) (e.copy (e.variable 1)) int_type ∷ [])));
+  pre = e.test 0 (e.binary o.Greater (e.copy (e.variable 0)) (literal 0)) None ∷ [];
+  before = record { at = 0; value = e.copy (e.variable 0) } ∷ [];
+  post = e.test 0 (e.binary o.Equal (e.before 0) (literal 7)) None ∷ [];
+}
+
+abbrev pub transaction_of : e.TransactionBody → Program
+transaction_of body = record { tables = no_tables; bodies = record { types = []; functions = []; transaction = Some body } }
+
+abbrev pub transaction_program : List e.StatementTree → Program
+transaction_program all = transaction_of (prepare_body all)
 
 abbrev pub save_for : e.TermTree → PureType → e.StatementTree
 save_for t type = do_it (call (read (e.copy (e.variable 1)) m.AccountStorage) m.StorageSave (type ∷ []) (given t type ∷ to_storage ∷ []))
@@ -73,7 +84,8 @@ any_type = basic b.AnyStruct
 abbrev pub saves_reference : List e.StatementTree
 saves_reference = e.declare 0 (variable 2 any_type) (e.borrow (e.variable 0) Unauthorized int_type false false) ∷ save_for (e.copy (e.variable 2)) any_type ∷ []
 
--- 1 saves its argument, 2 saves it and panics, 3 saves a reference; 4 gives its argument, 5 a type, 6 turns for ever
+-- 1 saves its argument, 2 saves it and panics, 3 saves a reference, 7 has a field and conditions; 4 gives its argument, 5 a
+-- type, 6 turns for ever
 abbrev pub other_program : ℕ → Option Program
 other_program n =
     if n == 1 then Some (transaction_program (save_for (e.copy (e.variable 0)) int_type ∷ []))
@@ -81,7 +93,8 @@ other_program n =
     else (if n == 3 then Some (transaction_program saves_reference)
     else (if n == 4 then Some (script_program (variable 0 int_type ∷ []) int_type (gives (e.copy (e.variable 0)) int_type ∷ []))
     else (if n == 5 then Some (script_program [] any_type (gives (e.meta int_type) any_type ∷ []))
-    else (if n == 6 then Some (script_program [] (basic b.Void) (e.while_loop 0 (e.bool true) (e.block 0 e.no_statements) ∷ [])) else None)))))
+    else (if n == 6 then Some (script_program [] (basic b.Void) (e.while_loop 0 (e.bool true) (e.block 0 e.no_statements) ∷ []))
+    else (if n == 7 then Some (transaction_of conditions_body) else None))))))
 
 abbrev pub refusal : Rejected
 refusal = record { phase = Types; inside = []; at = 0 }

@@ -4,9 +4,17 @@ use Rattle.cad_syntax.specs.declared.address.Address.{Address}
 use Rattle.cad_num.specs.Numbers as n
 use Rattle.cad_values.specs.Values.{PureValue}
 use Rattle.cad_values.specs.Values as v
-use Rattle.cad_evaluation.proofs.SampleParts.{int}
+use Rattle.cad_evaluation.proofs.SampleParts.{int, int_type}
 use Rattle.cad_runs.specs.Commands.{Command, account, deploy, transaction, script, refused, Reply, account_made, result, ran, rejected, failed, limit, bad}
-use Rattle.cad_runs.proofs.SampleCommands.{refusal, replies}
+use Rattle.cad_runs.specs.Batch.{one_more}
+use Rattle.cad_runs.proofs.SampleCommands.{refusal, replies, surroundings, script_program}
+use Rattle.cad_world.specs.Begin.{begun, empty_world, new_account}
+use Rattle.cad_world.specs.Registers.{size}
+use Rattle.cad_world.specs.Rows.{Tree, alone}
+use Rattle.cad_world.specs.State as run
+use Rattle.cad_world.specs.State.{State}
+use Rattle.cad_world.specs.Storable.{values_last}
+use Rattle.cad_world.specs.Trees.{tree_of}
 
 abbrev one : Address
 one = record { 0 = 1 }
@@ -73,3 +81,29 @@ arguments = refl
 initializers : replies (account ∷ deploy one (codes "D") (2 ∷ []) (int 5 ∷ []) 9 ∷ deploy one (codes "D") (3 ∷ []) (int 5 ∷ []) 9 ∷ []) ≡ account_made 1 ∷ failed 118 ∷ failed 132 ∷ []
 unfolding n.outcome
 initializers = refl
+
+-- a field, a precondition, a value of `before` and a postcondition; an entry, a statement and two conditions take 4 units
+conditions : replies (account ∷ save 7 7 ∷ save 7 0 ∷ save 7 8 ∷ transaction (7 ∷ []) (int 7 ∷ []) (one ∷ []) 4 ∷ transaction (7 ∷ []) (int 7 ∷ []) (one ∷ []) 3 ∷ [])
+    ≡ account_made 1 ∷ nothing ∷ failed 108 ∷ failed 108 ∷ nothing ∷ limit ∷ []
+unfolding n.outcome
+conditions = refl
+
+-- one account: 67 bytes
+one_account : size surroundings.coding (one_more surroundings empty_world) ≡ 67
+one_account = refl
+
+-- ---- the end of a command
+
+abbrev stored : Tree → State
+stored t = begun (script_program [] int_type []) 9 (record empty_world { accounts = record new_account { identifiers = record { 0 = codes "x" } ∷ []; stored = alone t } ∷ [] })
+
+-- a value of height 257: 123
+too_high : values_last (stored (record (tree_of (int 7)) { optionals = 256 })) ≡ run.failed 123
+too_high = refl
+
+-- 133 comes before
+void_first : values_last (stored (record (tree_of v.void) { optionals = 256 })) ≡ run.failed 133
+void_first = refl
+
+high_enough : values_last (stored (record (tree_of (int 7)) { optionals = 255 })) ≡ run.ok tt (stored (record (tree_of (int 7)) { optionals = 255 }))
+high_enough = refl

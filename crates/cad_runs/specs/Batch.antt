@@ -73,10 +73,12 @@ module _ {Json : Type 0} (x : Surroundings Json) where
 
   -- ---- an account
 
+  abbrev pub one_more : World → World
+  one_more w = record w { accounts = w.accounts ++ new_account ∷ [] }
+
   -- 127 where there are as many as may be
   abbrev pub make_account : World → Answer
-  make_account w = failed_unless 127 (nat_lt (length w.accounts) most_accounts) w
-      (becomes w (record w { accounts = w.accounts ++ new_account ∷ [] }) (account_made (suc (length w.accounts))))
+  make_account w = failed_unless 127 (nat_lt (length w.accounts) most_accounts) w (becomes w (one_more w) (account_made (suc (length w.accounts))))
 
   -- ---- a contract is deployed
 

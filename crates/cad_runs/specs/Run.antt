@@ -40,7 +40,7 @@ entry front calls n (Some body) = tick >> deeper >> exec_block front calls n bod
 
 -- a reference to the account of each signer, with the rights of its parameter
 abbrev pub signer_row : List e.VariableEntry → List Address → Row
-signer_row (x ∷ xs) (a ∷ as) = first (account_reference x.type a) (signer_row xs as)
+signer_row (x ∷ xs) (a ∷ more) = first (account_reference x.type a) (signer_row xs more)
 signer_row _ _ = stop
 
 -- the fields, which aren't set, and the arguments

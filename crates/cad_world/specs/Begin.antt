@@ -58,7 +58,3 @@ pub record IsKept (w : World) : Type 0 where
 -- a World read back from the state that it begins is itself
 abbrev pub ReadsBack : Type 0
 ReadsBack = (program : Program) (units : ℕ) (w : World) → IsKept w → left_world (begun program units w) ≡ w
-
--- what a state leaves is a World as it stands between runs, if no two contracts have one identifier
-abbrev pub LeavesKept : Type 0
-LeavesKept = (s : State) → rises contract_before (sorted_in contract_before (map kept_contract s.contracts)) ≡ true → IsKept (left_world s)
