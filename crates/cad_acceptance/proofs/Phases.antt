@@ -28,8 +28,8 @@ none_refused Refused pieces stop each first =
 
 all_meet : (tables : ProgramTables) (stop : Stop) → Conforms tables → Unmet tables stop → ⊥
 all_meet tables stop each first =
-    first.unmet (each_at (Meets (kinds_of tables) tables.types) first.before first.type first.after
-    (subst (λ (l : List TypeEntry). Each (Meets (kinds_of tables) tables.types) l) first.split each))
+    first.1.unmet (each_at (Meets (kinds_of tables) tables.types) first.1.before first.0 first.1.after
+    (subst (λ (l : List TypeEntry). Each (Meets (kinds_of tables) tables.types) l) first.1.split each))
 
 -- a phase that passes doesn't stop
 passes_no_stop : (tables : ProgramTables) (program : ProgramTree) (p : Phase) (stop : Stop) → Passes tables program p → Stops tables program p stop → ⊥

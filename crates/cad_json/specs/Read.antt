@@ -51,17 +51,17 @@ mutual
         → ReadsFields k shape.fields all fs → Reads k want (typed (sort_word shape.sort) (composite_json (array (items_of all)) text)) (v.composite id 0 fs)
 
   pub data ReadsAll (k : Shapes) : PureType → Items → Values → Type 0 where
-    none : {want : PureType} → ReadsAll k want no_items no_values
-    more : {want : PureType} {json : Data} {all : Items} {x : PureValue} {vs : Values} → Reads k want json x → ReadsAll k want all vs → ReadsAll k want (item json all) (values x vs)
+    no_element : {want : PureType} → ReadsAll k want no_items no_values
+    element : {want : PureType} {json : Data} {all : Items} {x : PureValue} {vs : Values} → Reads k want json x → ReadsAll k want all vs → ReadsAll k want (item json all) (values x vs)
 
   pub data ReadsEntries (k : Shapes) : PureType → PureType → Items → Entries → Type 0 where
-    none : {key want : PureType} → ReadsEntries k key want no_items no_entries
-    more : {key want : PureType} {first second : Data} {all : Items} {x y : PureValue} {es : Entries} → Reads k key first x → Reads k want second y → ReadsEntries k key want all es → ReadsEntries k key want (item (entry_json first second) all) (entries x y es)
+    no_entry : {key want : PureType} → ReadsEntries k key want no_items no_entries
+    entry : {key want : PureType} {first second : Data} {all : Items} {x y : PureValue} {es : Entries} → Reads k key first x → Reads k want second y → ReadsEntries k key want all es → ReadsEntries k key want (item (entry_json first second) all) (entries x y es)
 
   -- each declared field once, wherever it stands
   pub data ReadsFields (k : Shapes) : List ShapeField → List Data → Fields → Type 0 where
-    none : ReadsFields k [] [] no_fields
-    more : {field : ShapeField} {rest : List ShapeField} {before behind : List Data} {json : Data} {x : PureValue} {fs : Fields} → Reads k field.is json x → ReadsFields k rest (before ++ behind) fs
+    no_field : ReadsFields k [] [] no_fields
+    one_field : {field : ShapeField} {rest : List ShapeField} (before behind : List Data) {json : Data} {x : PureValue} {fs : Fields} → Reads k field.is json x → ReadsFields k rest (before ++ behind) fs
         → ReadsFields k (field ∷ rest) (before ++ field_json field.name.0 json ∷ behind) (fields field.name x fs)
 
 -- JsonOf k want x json: as an argument of this type the JSON stands for the value.
