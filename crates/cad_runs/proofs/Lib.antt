@@ -1,4 +1,5 @@
 pub mod Leaving
 pub mod ReadBack
+pub mod Kept
 pub mod SampleCommands
 pub mod Samples

@@ -2,7 +2,7 @@
 //! Definitions in specs/, laws in functions without work.
 #![tactic(auto)]
 
-ghost use Rattle.cad_runs.specs.Laws.{FailuresLeave, ScriptsLeave};
+ghost use Rattle.cad_runs.specs.Laws.{FailuresLeave, ScriptsLeave, SoundReadsBack};
 ghost use Rattle.cad_world.specs.Begin.{ReadsBack};
 ghost use Rattle.std.specs.Prelude.{ℕ};
 
@@ -19,4 +19,9 @@ pub fn scripts_leave_the_world()
 /// A World is read back from the state that it begins.
 pub fn worlds_are_read_back()
     ensures { ReadsBack }
+{}
+
+/// A sound World is one that is read back.
+pub fn sound_worlds_are_read_back()
+    ensures { SoundReadsBack }
 {}
