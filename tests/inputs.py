@@ -366,8 +366,8 @@ def odd_files(tries):
             ("a link to the folder", lambda path: path.symlink_to(path.parent), "disk"),
             ("a file that can't be read", lambda path: path.touch(0o222), "disk"),
             ("a file that can't be written", lambda path: path.touch(0o444), "disk"),
-            ("a link to a full device", lambda path: path.symlink_to("/dev/full"), "done" if name == "b" else "disk"),
-            ("a pipe", os.mkfifo, "done" if name == "b" else "disk"),
+            ("a link to a full device", lambda path: path.symlink_to("/dev/full"), "disk"),
+            ("a pipe", os.mkfifo, "disk"),
         ):
             folder = tries.folder()
             folder.chmod(0o777)
