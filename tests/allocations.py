@@ -269,7 +269,9 @@ def is_whole(about, session, ran, folder):
 
 def one_run(tries, about, session, before, kind, number, last, **more):
     ran, folder = tries.run(session, before, kind, number, last, **more)
-    hold(ran.failed or TORN <= kind, about, "nothing failed")
+    # How many reads a pipe's bytes take isn't always the same, so a run may end before that call.
+    made = ran.counts[0 if kind == ALLOCATIONS else 1]
+    hold(ran.failed or TORN <= kind or made < number, about, "nothing failed")
     if not ran.failed or ran.failed[0][:2] == NEEDLESS and len(ran.failed) == 1:
         is_whole(about, session, ran, folder)
     elif ran.status == 0 and (kind == ALLOCATIONS or more.get("error") == errno.EINTR):
