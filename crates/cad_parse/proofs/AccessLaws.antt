@@ -18,7 +18,7 @@ use Rattle.cad_grammar.specs.TypeGrammar as types_grammar
 use Rattle.cad_grammar.specs.ProgramGrammar.{plain_access_named, plain_access_of, is_plain_word, is_plain_access, Allows, ReadsAccess}
 use Rattle.cad_grammar.specs.ProgramGrammar as g
 use Rattle.cad_parse_type.specs.Code.Reading.{dotted, entitled}
-use Rattle.cad_parse.specs.Code.Reading.{plain_access, mapping_access, entitled_access, allows, accessed}
+use Rattle.cad_parse.specs.Code.Parts.{plain_access, mapping_access, entitled_access, allows, accessed}
 use Rattle.cad_parse_type.proofs.Heads.{none_of, other, some_same, then_some, read_taken, read_head, read_shorter, head, after_head, after_shorter, keyword_shorter, opening_shorter, name_head, resumed_head, head_same}
 use Rattle.cad_parse_type.proofs.Climbs.{then_is, either_is, either_not, IfFound, then_found, either_found, found_is}
 use Rattle.cad_parse_type.proofs.ListLaws.{IsSound}

@@ -5,7 +5,7 @@ use Rattle.cad_grammar.specs.ProgramGrammar.{Chain}
 use Rattle.cad_grammar.specs.ProgramGrammar as g
 use Rattle.cad_parse_type.specs.Code.Reading.{Reader, climb, appended}
 use Rattle.cad_parse_type.proofs.Climbs.{either_is, either_not, cases_of, Shrinks, climb_more, climb_gives, climb_stops, climb_keeps, found_is}
-use Rattle.cad_parse.specs.Code.Reading.{chain}
+use Rattle.cad_parse.specs.Code.Parts.{chain}
 
 module _ {A : Type 0} (item : Reader A) where
   pub chain_is : (turns : ℕ) (found : List A) (p : Spot) → chain item turns found p ≡ climb appended item turns found p

@@ -18,6 +18,7 @@ use Rattle.cad_parse_type.proofs.TypeLaws.{TypeLaws}
 use Rattle.cad_parse_type.proofs.Heads.{none_of, keyword_head, name_head, read_not, name_no_keyword, not_after, opening_head, opened_is, after_shorter, name_shorter, read_shorter, keyword_shorter, opening_shorter}
 use Rattle.cad_parse_type.proofs.Climbs.{then_is, either_is, either_not, IfFound, then_found, either_found, found_is}
 use Rattle.cad_parse_type.proofs.ListLaws.{IsSound, listed_shorter}
+use Rattle.cad_parse.specs.Code.Parts as parts
 use Rattle.cad_parse.specs.Code.Reading as r
 use Rattle.cad_parse.proofs.MemberLaws.{MemberLaws, FieldRead, FunctionRead, OpenEventRead, DestructionRead, InitRead}
 use Rattle.cad_parse.proofs.Firsts.{Begins, begins_weak, begins_no_sign, not_keyword, keyword_begins, viewed_is, view_begins, view_no_keyword, view_no_read}
@@ -29,8 +30,8 @@ module _ (types : TypeLaws) (members : MemberLaws) where
   pub access_begins : {p q : Spot} {c : Access} → ReadsAccess p c q → Begins p
   access_begins {p} d = let w = members.access_word d in keyword_begins k.Access p w.0 (λ b. refl) w.1
 
-  pub no_access : (p : Spot) → keyword k.Access p ≡ None → r.accessed p ≡ None
-  no_access p lacks = none_of (r.accessed p) (λ x f. let w = members.access_word (members.access_sound p x f) in let c : None ≡ Some w.0 = sym lacks ∙ w.1 in cc)
+  pub no_access : (p : Spot) → keyword k.Access p ≡ None → parts.accessed p ≡ None
+  no_access p lacks = none_of (parts.accessed p) (λ x f. let w = members.access_word (members.access_sound p x f) in let c : None ≡ Some w.0 = sym lacks ∙ w.1 in cc)
 
   pub field_begins : {p q : Spot} {f : FieldTree} → ReadsField p f q → Begins p
   field_begins (g.field d t) = access_begins d
@@ -79,7 +80,7 @@ module _ (types : TypeLaws) (members : MemberLaws) where
   unfolding r.composite_member
   composite_member_found p =
       let P = As ReadsCompositeMember p in
-      either_found P (r.accessed p) _ _ (λ c e. composite_member_with_found p c.1 c.0 (members.access_sound p c e)) (λ _.
+      either_found P (parts.accessed p) _ _ (λ c e. composite_member_with_found p c.1 c.0 (members.access_sound p c e)) (λ _.
       either_found P (keyword k.Event p) _ _ (λ q e. then_found P (r.destruction p q) _ (λ y f. g.event_member (members.destruction_sound p q y e f))) (λ _.
       then_found P (viewed k.Init p) _ (λ v e. then_found P (r.initializer v.0 v.1) _ (λ y f. g.init_member (members.init_sound p v.1 v.0 y e f)))))
 
@@ -98,32 +99,32 @@ module _ (types : TypeLaws) (members : MemberLaws) where
   field_is : (p q : Spot) (f : FieldTree) → FieldRead p f q → r.composite_member p ≡ Some (tree.field f, q)
   unfolding r.composite_member r.composite_member_with
   field_is p q f w =
-      either_is (r.accessed p) _ _ (w.access, w.word) (members.access_exact w.accesses) ∙ either_is (variable_word w.word) _ _ (w.kind, w.behind) w.kinds
+      either_is (parts.accessed p) _ _ (w.access, w.word) (members.access_exact w.accesses) ∙ either_is (variable_word w.word) _ _ (w.kind, w.behind) w.kinds
       ∙ then_is (r.field w.access w.kind w.behind) _ (f, q) w.reads
 
   function_is : (p q : Spot) (f : FunctionTree) → FunctionRead p f q → r.composite_member p ≡ Some (tree.function f, q)
   unfolding r.composite_member r.composite_member_with
   function_is p q f w =
       let v = viewed_is k.Fun w.word (w.is_view, w.behind) w.views in
-      either_is (r.accessed p) _ _ (w.access, w.word) (members.access_exact w.accesses)
+      either_is (parts.accessed p) _ _ (w.access, w.word) (members.access_exact w.accesses)
       ∙ either_not (variable_word w.word) _ _ (view_no_read variable_kind_of k.Fun w.word (λ n. refl) refl v)
       ∙ either_not (keyword k.Event w.word) _ _ (view_no_keyword k.Event k.Fun w.word (λ x. cc) v) ∙ then_is (r.function w.access w.word) _ (f, q) w.reads
 
   event_is : (p q : Spot) (e : EventTree) → OpenEventRead p e q ⊎ DestructionRead p e q → r.composite_member p ≡ Some (tree.event e, q)
   unfolding r.composite_member r.composite_member_with
   event_is p q e (inl w) =
-      either_is (r.accessed p) _ _ (w.access, w.word) (members.access_exact w.accesses)
+      either_is (parts.accessed p) _ _ (w.access, w.word) (members.access_exact w.accesses)
       ∙ either_not (variable_word w.word) _ _ (read_not variable_kind_of w.word (kind.Keyword k.Event) (keyword_head k.Event w.word w.behind w.words) refl)
       ∙ either_is (keyword k.Event w.word) _ _ w.behind w.words ∙ then_is (r.event w.word w.access w.behind) _ (e, q) w.reads
   event_is p q e (inr w) =
-      either_not (r.accessed p) _ _ (no_access p (not_keyword k.Access k.Event p (λ x. cc) (keyword_head k.Event p w.behind w.words)))
+      either_not (parts.accessed p) _ _ (no_access p (not_keyword k.Access k.Event p (λ x. cc) (keyword_head k.Event p w.behind w.words)))
       ∙ either_is (keyword k.Event p) _ _ w.behind w.words ∙ then_is (r.destruction p w.behind) _ (e, q) w.reads
 
   init_is : (p q : Spot) (i : InitTree) → InitRead p i q → r.composite_member p ≡ Some (tree.init i, q)
   unfolding r.composite_member
   init_is p q i w =
       let v = viewed_is k.Init p (w.is_view, w.behind) w.views in
-      either_not (r.accessed p) _ _ (no_access p (view_no_keyword k.Access k.Init p (λ x. cc) v))
+      either_not (parts.accessed p) _ _ (no_access p (view_no_keyword k.Access k.Init p (λ x. cc) v))
       ∙ either_not (keyword k.Event p) _ _ (view_no_keyword k.Event k.Init p (λ x. cc) v)
       ∙ then_is (viewed k.Init p) _ (w.is_view, w.behind) w.views ∙ then_is (r.initializer w.is_view w.behind) _ (i, q) w.reads
 

@@ -14,7 +14,7 @@ use Rattle.cad_grammar.specs.ProgramGrammar.{ReadsCondition, ConditionsIn, Condi
 use Rattle.cad_grammar.specs.ProgramGrammar as g
 use Rattle.cad_parse_type.specs.Code.Reading.{maybe}
 use Rattle.cad_parse_expr.specs.Code.Reading.{expression}
-use Rattle.cad_parse.specs.Code.Reading.{repeated, emitted, plain, condition, parted_condition, condition_list, conditions, conditions_behind}
+use Rattle.cad_parse.specs.Code.Parts.{repeated, emitted, plain, condition, parted_condition, condition_list, conditions, conditions_behind}
 use Rattle.cad_parse_type.proofs.Heads.{none_of, some_same, then_some, head_start, after_head, after_shorter, keyword_shorter, keyword_head, opening_shorter}
 use Rattle.cad_parse_type.proofs.Climbs.{then_is, either_is, either_not, IfFound, then_found, either_found, found_is, found_weaker}
 use Rattle.cad_parse_type.proofs.ListLaws.{IsSound, IsRead, maybe_sound, maybe_exact, maybe_short}

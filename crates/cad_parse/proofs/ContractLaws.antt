@@ -17,6 +17,7 @@ use Rattle.cad_grammar.specs.ProgramGrammar as g
 use Rattle.cad_parse_type.proofs.TypeLaws.{TypeLaws}
 use Rattle.cad_parse_type.proofs.Heads.{keyword_head, read_not, name_shorter, keyword_shorter, opening_shorter}
 use Rattle.cad_parse_type.proofs.Climbs.{then_is, either_is, either_not, IfFound, then_found, either_found, found_is}
+use Rattle.cad_parse.specs.Code.Parts as parts
 use Rattle.cad_parse.specs.Code.Reading as r
 use Rattle.cad_parse.proofs.MemberLaws.{MemberLaws, FieldRead, FunctionRead, OpenEventRead, DestructionRead, InitRead}
 use Rattle.cad_parse.proofs.Firsts.{Begins, begins_weak, begins_no_sign, not_keyword, word_head, word_no_keyword, viewed_is, view_no_keyword, view_no_word, view_no_read, composite_no_variable}
@@ -61,7 +62,7 @@ module _ (types : TypeLaws) (members : MemberLaws) where
   unfolding r.contract_member
   contract_member_found p =
       let P = As ReadsContractMember p in
-      either_found P (r.accessed p) _ _ (λ c e. contract_member_with_found p c.1 c.0 (members.access_sound p c e)) (λ _.
+      either_found P (parts.accessed p) _ _ (λ c e. contract_member_with_found p c.1 c.0 (members.access_sound p c e)) (λ _.
       either_found P (keyword k.Event p) _ _ (λ q e. then_found P (r.destruction p q) _ (λ y f. g.contract_event (members.destruction_sound p q y e f))) (λ _.
       then_found P (viewed k.Init p) _ (λ v e. then_found P (r.initializer v.0 v.1) _ (λ y f. g.contract_init (members.init_sound p v.1 v.0 y e f)))))
 
@@ -94,7 +95,7 @@ module _ (types : TypeLaws) (members : MemberLaws) where
   -- behind an access
   accessed_is : (p q : Spot) (c : Access) → ReadsAccess p c q → r.contract_member p ≡ r.contract_member_with p c q
   unfolding r.contract_member
-  accessed_is p q c d = either_is (r.accessed p) _ _ (c, q) (members.access_exact d)
+  accessed_is p q c d = either_is (parts.accessed p) _ _ (c, q) (members.access_exact d)
 
   field_is : (p q : Spot) (f : FieldTree) → FieldRead p f q → r.contract_member p ≡ Some (tree.contract_field f, q)
   unfolding r.contract_member_with
@@ -125,14 +126,14 @@ module _ (types : TypeLaws) (members : MemberLaws) where
       accessed_is p w.word w.access w.accesses ∙ either_not (variable_word w.word) _ _ h.0 ∙ either_not (read composite_kind_of w.word) _ _ h.1
       ∙ either_is (keyword k.Event w.word) _ _ w.behind w.words ∙ then_is (r.event w.word w.access w.behind) _ (e, q) w.reads
   event_is p q e (inr w) =
-      either_not (r.accessed p) _ _ (no_access types members p (not_keyword k.Access k.Event p (λ x. cc) (keyword_head k.Event p w.behind w.words)))
+      either_not (parts.accessed p) _ _ (no_access types members p (not_keyword k.Access k.Event p (λ x. cc) (keyword_head k.Event p w.behind w.words)))
       ∙ either_is (keyword k.Event p) _ _ w.behind w.words ∙ then_is (r.destruction p w.behind) _ (e, q) w.reads
 
   init_is : (p q : Spot) (i : InitTree) → InitRead p i q → r.contract_member p ≡ Some (tree.contract_init i, q)
   unfolding r.contract_member
   init_is p q i w =
       let v = viewed_is k.Init p (w.is_view, w.behind) w.views in
-      either_not (r.accessed p) _ _ (no_access types members p (view_no_keyword k.Access k.Init p (λ x. cc) v))
+      either_not (parts.accessed p) _ _ (no_access types members p (view_no_keyword k.Access k.Init p (λ x. cc) v))
       ∙ either_not (keyword k.Event p) _ _ (view_no_keyword k.Event k.Init p (λ x. cc) v)
       ∙ then_is (viewed k.Init p) _ (w.is_view, w.behind) w.views ∙ then_is (r.initializer w.is_view w.behind) _ (i, q) w.reads
 

@@ -13,6 +13,7 @@ use Rattle.cad_parse_type.proofs.TypeLaws.{TypeLaws}
 use Rattle.cad_parse_type.proofs.Heads.{keyword_head}
 use Rattle.cad_parse_type.proofs.Climbs.{Shrinks, then_is, then_not, either_is, either_not, IfFound, then_found, either_found, found_is}
 use Rattle.cad_parse_statement.proofs.StatementLaws.{StatementLaws}
+use Rattle.cad_parse.specs.Code.Parts as parts
 use Rattle.cad_parse.specs.Code.Reading as r
 use Rattle.cad_parse.proofs.MemberLaws.{MemberLaws, FunctionRead}
 use Rattle.cad_parse.proofs.Firsts.{not_keyword, viewed_is, view_no_keyword}
@@ -36,7 +37,7 @@ module _ (types : TypeLaws) (statements : StatementLaws) (members : MemberLaws) 
       let P = As ReadsDecl p in
       either_found P (keyword k.Transaction p) _ _
       (λ q e. then_found P (r.transaction p q) _ (λ y f. g.transaction_decl (found_is (As ReadsTransaction p) _ y (transaction_found types statements members p q e) f)))
-      (λ _. then_found P (r.accessed p) _ (λ c e. accessed_found p c.1 c.0 (members.access_sound p c e)))
+      (λ _. then_found P (parts.accessed p) _ (λ c e. accessed_found p c.1 c.0 (members.access_sound p c e)))
 
   pub declaration_sound : (p : Spot) (x : DeclTree × Spot) → r.declaration p ≡ Some x → ReadsDecl p x.0 x.1
   declaration_sound p x e = found_is (As ReadsDecl p) _ x (declaration_found p) e
@@ -57,7 +58,7 @@ module _ (types : TypeLaws) (statements : StatementLaws) (members : MemberLaws) 
   unfolding r.declaration r.accessed_declaration
   contract_is p q x w =
       either_not (keyword k.Transaction p) _ _ (access_lacks k.Transaction p w.place w.access (λ x. cc) w.accesses)
-      ∙ then_is (r.accessed p) _ (w.access, w.place) (members.access_exact w.accesses)
+      ∙ then_is (parts.accessed p) _ (w.access, w.place) (members.access_exact w.accesses)
       ∙ either_is (keyword k.Contract w.place) _ _ w.behind w.words ∙ then_is (r.contract p w.access w.behind) _ (x, q) w.reads
 
   function_is : (p q : Spot) (x : FunctionTree) → FunctionRead p x q → r.declaration p ≡ Some (tree.top_function x, q)
@@ -65,7 +66,7 @@ module _ (types : TypeLaws) (statements : StatementLaws) (members : MemberLaws) 
   function_is p q x w =
       let v = viewed_is k.Fun w.word (w.is_view, w.behind) w.views in
       either_not (keyword k.Transaction p) _ _ (access_lacks k.Transaction p w.word w.access (λ x. cc) w.accesses)
-      ∙ then_is (r.accessed p) _ (w.access, w.word) (members.access_exact w.accesses)
+      ∙ then_is (parts.accessed p) _ (w.access, w.word) (members.access_exact w.accesses)
       ∙ either_not (keyword k.Contract w.word) _ _ (view_no_keyword k.Contract k.Fun w.word (λ x. cc) v) ∙ then_is (r.function w.access w.word) _ (x, q) w.reads
 
   transaction_is : (p q : Spot) (x : TransactionTree) → TransactionRead types statements members p x q → r.declaration p ≡ Some (tree.transaction x, q)

@@ -23,6 +23,7 @@ use Rattle.cad_parse_type.specs.Code.Reading.{dotted}
 use Rattle.cad_parse_type.proofs.TypeLaws.{TypeLaws}
 use Rattle.cad_parse_type.proofs.Heads.{none_of, some_same, then_some, head, head_of, next_taken, read_taken, name_head, after_head, other, not_after, opening_head, weak_after, after_shorter, name_shorter, next_shorter, keyword_shorter, opening_shorter}
 use Rattle.cad_parse_type.proofs.Climbs.{then_is, either_is, either_not, IfFound, then_found, either_found, found_is}
+use Rattle.cad_parse.specs.Code.Parts as parts
 use Rattle.cad_parse.specs.Code.Reading as r
 use Rattle.cad_parse.proofs.MemberLaws.{MemberLaws}
 use Rattle.cad_parse.proofs.Firsts.{Begins, begins_weak, begins_no_sign, named_begins, word_head}
@@ -62,12 +63,12 @@ module _ (types : TypeLaws) (members : MemberLaws) where
   unfolding r.enum_case
   enum_case_found p =
       let P = As ReadsEnumCase p in
-      then_found P (r.accessed p) _ (λ c e. then_found P (keyword k.Case c.1) _ (λ q f. then_found P (name q) _ (λ n h. g.enum_case (members.access_sound p c e) f h)))
+      then_found P (parts.accessed p) _ (λ c e. then_found P (keyword k.Case c.1) _ (λ q f. then_found P (name q) _ (λ n h. g.enum_case (members.access_sound p c e) f h)))
 
   enum_case_exact : {p q : Spot} {x : EnumCase} → ReadsEnumCase p x q → r.enum_case p ≡ Some (x, q)
   unfolding r.enum_case
   enum_case_exact (g.enum_case {p} {q} {r = u} {u = v} {c} {n} d e f) =
-      then_is (r.accessed p) _ (c, q) (members.access_exact d) ∙ then_is (keyword k.Case q) _ u e ∙ then_is (name u) _ (n, v) f
+      then_is (parts.accessed p) _ (c, q) (members.access_exact d) ∙ then_is (keyword k.Case q) _ u e ∙ then_is (name u) _ (n, v) f
 
   enum_case_shorter : {p q : Spot} {x : EnumCase} → ReadsEnumCase p x q → length q.tokens < length p.tokens
   enum_case_shorter (g.enum_case {p} {q} {r = u} {u = v} {c} {n} d e f) = omega (arith, members.access_shorter d, keyword_shorter k.Case q u e, name_shorter u (n, v) f)
@@ -88,7 +89,7 @@ module _ (types : TypeLaws) (members : MemberLaws) where
   unfolding r.enumeration
   enumeration_found p q u c d e =
       let P = As ReadsEnum p in
-      then_found P (r.labelled u) _ (λ n e1. let w = labelled_is u n e1 in then_found P (dotted n.1) _ (λ raw e2. then_found P (opening s.OpenBrace raw.1) _ (λ v e3.
+      then_found P (parts.labelled u) _ (λ n e1. let w = labelled_is u n e1 in then_found P (dotted n.1) _ (λ raw e2. then_found P (opening s.OpenBrace raw.1) _ (λ v e3.
       then_found P (r.enum_cases v) _ (λ all e4.
       g.enumeration d e w.1 w.2 (types.dotted_sound n.1 raw e2) e3 (repeated_sound ReadsEnumCase r.enum_case s.CloseBrace enum_case_laws.is_sound (length v.tokens) v all e4)))))
 
@@ -125,7 +126,7 @@ module _ (types : TypeLaws) (members : MemberLaws) where
     behind = u;
     accesses = d;
     words = e;
-    reads = then_is (r.labelled u) _ (n, w) (labelled_exact u v w n f h)
+    reads = then_is (parts.labelled u) _ (n, w) (labelled_exact u v w n f h)
         ∙ then_is (dotted w) _ (dots, y) (types.dotted_exact raw (not_after s.OpenBrace s.Dot y (λ x. cc) (opening_head s.OpenBrace y z o)))
         ∙ then_is (opening s.OpenBrace y) _ z o
         ∙ then_is (r.enum_cases z) _ (all, end) (repeated_exact ReadsEnumCase r.enum_case s.CloseBrace enum_case_laws (λ b. refl) m);

@@ -13,7 +13,8 @@ use Rattle.cad_grammar.specs.StatementGrammar.{variable_kind_of, variable_word}
 use Rattle.cad_grammar.specs.ProgramGrammar.{ReadsAccess, ReadsFunction, FunctionBlock, FunctionWith, Blocked, MaybeBlocked, ReadsInit, viewed}
 use Rattle.cad_grammar.specs.ProgramGrammar as g
 use Rattle.cad_parse_statement.specs.Code.Reading.{maybe_annotated, statements_in}
-use Rattle.cad_parse.specs.Code.Reading.{labelled, parameters, conditions_behind, function_block, blocked, maybe_blocked, block_of, function_with, initializer}
+use Rattle.cad_parse.specs.Code.Parts.{labelled, parameters, conditions_behind, function_block}
+use Rattle.cad_parse.specs.Code.Reading.{blocked, maybe_blocked, block_of, function_with, initializer}
 use Rattle.cad_parse_type.proofs.Heads.{none_of, then_some, head, keyword_head, keyword_shorter, keyword_no_sign, keyword_no_name, read_not, after_shorter, name_shorter, opening_shorter, opening_is}
 use Rattle.cad_parse_type.proofs.Climbs.{then_is, either_is, either_not, cases_of, IfFound, then_found, either_found, found_is}
 use Rattle.cad_parse_type.proofs.ListLaws.{IsSound}

@@ -8,7 +8,8 @@ use Rattle.cad_grammar.specs.Spots.{Spot, keyword}
 use Rattle.cad_parse_type.specs.Code.Levels.{token_strength}
 use Rattle.cad_grammar.specs.StatementGrammar.{variable_word}
 use Rattle.cad_grammar.specs.ProgramGrammar.{viewed, ReadsAccess, Parameters, Pre, Post, ReadsFunction, ReadsInit, ReadsField, ReadsEvent, ReadsInterfaceMember}
-use Rattle.cad_parse.specs.Code.Reading.{accessed, parameters, conditions_behind, function, initializer, field, event, destruction, interface_member}
+use Rattle.cad_parse.specs.Code.Parts.{accessed, parameters, conditions_behind}
+use Rattle.cad_parse.specs.Code.Reading.{function, initializer, field, event, destruction, interface_member}
 
 -- how a field, a function and an event are read behind an access
 pub record FieldRead (p : Spot) (f : FieldTree) (q : Spot) : Type 0 where

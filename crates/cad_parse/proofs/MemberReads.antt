@@ -16,7 +16,8 @@ use Rattle.cad_grammar.specs.ProgramGrammar.{ReadsAccess, ReadsField, EventParam
 use Rattle.cad_grammar.specs.ProgramGrammar as g
 use Rattle.cad_parse_type.specs.Code.Reading.{annotation}
 use Rattle.cad_parse_expr.specs.Code.Reading.{expression}
-use Rattle.cad_parse.specs.Code.Reading.{accessed, labelled, parameter, function_with, field, event_parameter, event_parameter_list, event_parameters, event, destruction, unsorted, interface_member_with, interface_member}
+use Rattle.cad_parse.specs.Code.Parts.{accessed, labelled, parameter}
+use Rattle.cad_parse.specs.Code.Reading.{function_with, field, event_parameter, event_parameter_list, event_parameters, event, destruction, unsorted, interface_member_with, interface_member}
 use Rattle.cad_parse_type.proofs.Heads.{some_same, then_some, head, name_head, name_no_sign, read_not, keyword_shorter, read_shorter, after_shorter, name_shorter, opening_shorter}
 use Rattle.cad_parse_type.proofs.Climbs.{then_is, either_is, either_not, IfFound, then_found, either_found, found_is}
 use Rattle.cad_parse_type.proofs.ListLaws.{IsSound, ReadBefore, listed_sound, listed_read, listed_exact, listed_shorter}

@@ -14,7 +14,7 @@ use Rattle.cad_grammar.specs.ProgramGrammar.{ReadsParameter, Parameters}
 use Rattle.cad_grammar.specs.ProgramGrammar as g
 use Rattle.cad_parse_type.specs.Code.Reading.{annotation}
 use Rattle.cad_parse_statement.specs.Code.Reading.{maybe_annotated}
-use Rattle.cad_parse.specs.Code.Reading.{labelled, parameter_behind, parameter, parameter_list, parameters}
+use Rattle.cad_parse.specs.Code.Parts.{labelled, parameter_behind, parameter, parameter_list, parameters}
 use Rattle.cad_parse_type.proofs.Heads.{some_same, then_some, head, after_shorter, after_left, name_shorter, name_head, name_no_sign, opening_shorter}
 use Rattle.cad_parse_type.proofs.Climbs.{then_is, either_is, either_not, IfFound, then_found, either_found}
 use Rattle.cad_parse_type.proofs.ListLaws.{IsSound, IsRead, ReadBefore, listed_sound, listed_read, listed_exact, listed_shorter, maybe_sound, maybe_exact, maybe_short, maybe_left}

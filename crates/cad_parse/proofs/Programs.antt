@@ -11,7 +11,8 @@ use Rattle.cad_grammar.specs.ProgramGrammar.{Chain, ReadsImport, ReadsDecl, Read
 use Rattle.cad_grammar.specs.ProgramGrammar as g
 use Rattle.cad_parse_type.proofs.Climbs.{then_is, Shrinks}
 use Rattle.cad_parse.specs.Program.{Parses, EndsAt, Refuses, Unparsed}
-use Rattle.cad_parse.specs.Code.Reading.{chain, import, declaration, imports, declarations, program}
+use Rattle.cad_parse.specs.Code.Parts.{chain}
+use Rattle.cad_parse.specs.Code.Reading.{import, declaration, imports, declarations, program}
 use Rattle.cad_parse.proofs.Chains.{chain_extends, chain_exact, chain_sound, chain_gives}
 
 -- a text is refused by the lexer, or by the reader of tokens

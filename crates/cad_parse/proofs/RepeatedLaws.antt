@@ -9,7 +9,7 @@ use Rattle.cad_parse_type.specs.Code.Reading.{Reader}
 use Rattle.cad_parse_type.proofs.Heads.{after_shorter, after_strength}
 use Rattle.cad_parse_type.proofs.Climbs.{then_is, either_is, either_not, IfFound, then_found, either_found, found_is, found_weaker}
 use Rattle.cad_parse_type.proofs.ListLaws.{IsSound}
-use Rattle.cad_parse.specs.Code.Reading.{repeated}
+use Rattle.cad_parse.specs.Code.Parts.{repeated}
 
 -- what is found there is spelled
 abbrev pub As : {A : Type 0} → (Spot → A → Spot → Type 0) → Spot → A × Spot → Type 0

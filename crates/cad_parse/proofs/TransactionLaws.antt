@@ -21,6 +21,7 @@ use Rattle.cad_parse_type.proofs.Climbs.{then_is, either_is, either_not, IfFound
 use Rattle.cad_parse_type.proofs.ListLaws.{IsRead, maybe_sound, maybe_exact, maybe_short}
 use Rattle.cad_parse_statement.specs.Code.Reading.{block_in}
 use Rattle.cad_parse_statement.proofs.StatementLaws.{StatementLaws}
+use Rattle.cad_parse.specs.Code.Parts as parts
 use Rattle.cad_parse.specs.Code.Reading as r
 use Rattle.cad_parse.proofs.MemberLaws.{MemberLaws}
 use Rattle.cad_parse.proofs.Firsts.{variable_weak}
@@ -62,7 +63,7 @@ module _ (types : TypeLaws) (statements : StatementLaws) (members : MemberLaws) 
   unfolding r.transaction_field
   field_found p u sort e =
       let P = FieldAs p in
-      then_found P (r.labelled u) _ (λ n f. let w = labelled_is u n f in then_found P (annotation n.1) _ (λ a h. g.typed e w.1 w.2 (types.annotation_sound n.1 a h)))
+      then_found P (parts.labelled u) _ (λ n f. let w = labelled_is u n f in then_found P (annotation n.1) _ (λ a h. g.typed e w.1 w.2 (types.annotation_sound n.1 a h)))
 
   typed_shorter : {p q : Spot} {sort : VariableKind} {n : Name} {a : Annotation} → Typed p sort n a q → length q.tokens < length p.tokens
   typed_shorter (g.typed {p} {q} {r = u} {u = v} {v = w} e n f a) =
@@ -72,7 +73,7 @@ module _ (types : TypeLaws) (statements : StatementLaws) (members : MemberLaws) 
       → (u : Spot) × (variable_word p ≡ Some (sort, u)) × (r.transaction_field sort u ≡ Some (record { kind = sort; name = n; annotation = a }, q))
   unfolding r.transaction_field
   typed_exact (g.typed {p} {q} {r = u} {u = v} {v = w} {kind = sort} {n} {a} e f h d) weak =
-      (q, e, then_is (r.labelled q) _ (n, v) (labelled_exact q u v n f h) ∙ then_is (annotation v) _ (a, w) (types.annotation_exact d weak))
+      (q, e, then_is (parts.labelled q) _ (n, v) (labelled_exact q u v n f h) ∙ then_is (annotation v) _ (a, w) (types.annotation_exact d weak))
 
   fields_found : (turns : ℕ) (found : List TransactionFieldTree) (p : Spot) → length p.tokens ≤ turns → IfFound (FieldsAs found p) (r.fields turns found p)
   unfolding r.fields
@@ -114,7 +115,7 @@ module _ (types : TypeLaws) (statements : StatementLaws) (members : MemberLaws) 
   unfolding r.maybe_parameters
   maybe_parameters_found p =
       let P = As MaybeParameters p in
-      either_found P (after s.OpenParenthesis p) _ _ (λ q e. then_found P (r.parameters p) _ (λ x f. g.some_parameters (members.parameters_sound p x f))) (λ lacks. g.no_parameters lacks)
+      either_found P (after s.OpenParenthesis p) _ _ (λ q e. then_found P (parts.parameters p) _ (λ x f. g.some_parameters (members.parameters_sound p x f))) (λ lacks. g.no_parameters lacks)
 
   -- their parenthesis comes next
   parenthesis : {p q : Spot} {all : List ParameterTree} → Parameters p all q → (u : Spot) × (after s.OpenParenthesis p ≡ Some u)
@@ -124,7 +125,7 @@ module _ (types : TypeLaws) (statements : StatementLaws) (members : MemberLaws) 
   unfolding r.maybe_parameters
   maybe_parameters_exact (g.no_parameters {p} e) = either_not (after s.OpenParenthesis p) _ _ e
   maybe_parameters_exact (g.some_parameters {p} {q} {all} d) =
-      let w = parenthesis d in either_is (after s.OpenParenthesis p) _ _ w.0 w.1 ∙ then_is (r.parameters p) _ (all, q) (members.parameters_exact d)
+      let w = parenthesis d in either_is (after s.OpenParenthesis p) _ _ w.0 w.1 ∙ then_is (parts.parameters p) _ (all, q) (members.parameters_exact d)
 
   maybe_parameters_short : {p q : Spot} {x : Option (List ParameterTree)} → MaybeParameters p x q → length q.tokens ≤ length p.tokens
   maybe_parameters_short (g.no_parameters e) = omega arith
@@ -134,11 +135,11 @@ module _ (types : TypeLaws) (statements : StatementLaws) (members : MemberLaws) 
   unfolding r.prepared
   prepared_found p =
       let P = As Prepares p in
-      then_found P (r.parameters p) _ (λ all e. then_found P (block_in all.1) _ (λ b f. g.prepares (members.parameters_sound p all e) (statements.block_sound all.1 b f)))
+      then_found P (parts.parameters p) _ (λ all e. then_found P (block_in all.1) _ (λ b f. g.prepares (members.parameters_sound p all e) (statements.block_sound all.1 b f)))
 
   prepared_exact : {p q : Spot} {x : PrepareTree} → Prepares p x q → r.prepared p ≡ Some (x, q)
   unfolding r.prepared
-  prepared_exact (g.prepares {p} {q} {r = u} {all} {body} d e) = then_is (r.parameters p) _ (all, q) (members.parameters_exact d) ∙ then_is (block_in q) _ (body, u) (statements.block_exact e)
+  prepared_exact (g.prepares {p} {q} {r = u} {all} {body} d e) = then_is (parts.parameters p) _ (all, q) (members.parameters_exact d) ∙ then_is (block_in q) _ (body, u) (statements.block_exact e)
 
   prepared_short : {p q : Spot} {x : PrepareTree} → Prepares p x q → length q.tokens ≤ length p.tokens
   prepared_short (g.prepares d e) = omega (arith, members.parameters_shorter d, statements.block_shorter e)
@@ -172,7 +173,7 @@ module _ (types : TypeLaws) (statements : StatementLaws) (members : MemberLaws) 
   transaction_found p q e =
       let P = As ReadsTransaction p in
       then_found P (r.maybe_parameters q) _ (λ x e1. then_found P (opening s.OpenBrace x.1) _ (λ u e2. then_found P (r.field_list u) _ (λ f e3. then_found P (r.prepare f.1) _ (λ y e4.
-      then_found P (r.conditions_behind k.Pre y.1) _ (λ a e5. then_found P (r.execute a.1) _ (λ z e6. then_found P (r.conditions_behind k.Post z.1) _ (λ b e7.
+      then_found P (parts.conditions_behind k.Pre y.1) _ (λ a e5. then_found P (r.execute a.1) _ (λ z e6. then_found P (parts.conditions_behind k.Post z.1) _ (λ b e7.
       then_found P (after s.CloseBrace b.1) _ (λ v e8.
       g.transaction e (found_is (As MaybeParameters q) _ x (maybe_parameters_found q) e1) e2 (fields_sound u f e3) (prepare_sound f.1 y e4) (members.pre_sound y.1 a e5) (execute_sound a.1 z e6)
       (members.post_sound z.1 b e7) e8))))))))
@@ -213,6 +214,6 @@ module _ (types : TypeLaws) (statements : StatementLaws) (members : MemberLaws) 
         behind = q;
         words = e;
         reads = then_is (r.maybe_parameters q) _ (parameters, t) (maybe_parameters_exact ps) ∙ then_is (opening s.OpenBrace t) _ u o ∙ then_is (r.field_list u) _ (fields, v) (fields_exact fs weak_prepare)
-            ∙ then_is (r.prepare v) _ (prepare, w) (prepare_exact pr) ∙ then_is (r.conditions_behind k.Pre w) _ (pre, x) (members.pre_exact a) ∙ then_is (r.execute x) _ (execute, y) (execute_exact ex)
-            ∙ then_is (r.conditions_behind k.Post y) _ (post, z) (members.post_exact b) ∙ then_is (after s.CloseBrace z) _ end c;
+            ∙ then_is (r.prepare v) _ (prepare, w) (prepare_exact pr) ∙ then_is (parts.conditions_behind k.Pre w) _ (pre, x) (members.pre_exact a) ∙ then_is (r.execute x) _ (execute, y) (execute_exact ex)
+            ∙ then_is (parts.conditions_behind k.Post y) _ (post, z) (members.post_exact b) ∙ then_is (after s.CloseBrace z) _ end c;
       }

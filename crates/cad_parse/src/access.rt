@@ -2,7 +2,7 @@
 ghost use Rattle.std.specs.Prelude.{◌≡◌, IfOk, option_map};
 ghost use Rattle.cad_grammar.specs.ProgramGrammar as grammar;
 ghost use Rattle.cad_grammar.specs.Spots.{read};
-ghost use Rattle.cad_parse.specs.Code.Reading as spec;
+ghost use Rattle.cad_parse.specs.Code.Parts as parts;
 ghost use Rattle.cad_parse.specs.Code.Views.{same};
 ghost use Rattle.cad_parse_type.specs.Code.Views.{seen, seen_with};
 
@@ -44,18 +44,18 @@ fn plain_word(spot: Spot<'_>) -> Option<(Access, Spot<'_>)>
     }
 }
 
-#[tactic(auto, unfolding(crate::specs::Code::Reading::plain_access))]
+#[tactic(auto, unfolding(crate::specs::Code::Parts::plain_access))]
 fn plain_access(spot: Spot<'_>) -> Option<(Access, Spot<'_>)>
-    ensures { option_map (seen_with same) result ≡ spec.plain_access (seen spot.entry) }
+    ensures { option_map (seen_with same) result ≡ parts.plain_access (seen spot.entry) }
 {
     let (access, spot) = plain_word(spot)?;
     let spot = spot.after(Sign::CloseParenthesis)?;
     Some((access, spot))
 }
 
-#[tactic(auto, unfolding(crate::specs::Code::Reading::mapping_access))]
+#[tactic(auto, unfolding(crate::specs::Code::Parts::mapping_access))]
 fn mapping_access(alloc: Global, spot: Spot<'_>) -> Result<Option<(Access, Spot<'_>)>, AllocError>
-    ensures { IfOk result (λ o. option_map (seen_with same) o ≡ spec.mapping_access (seen spot.entry)) }
+    ensures { IfOk result (λ o. option_map (seen_with same) o ≡ parts.mapping_access (seen spot.entry)) }
 {
     let Some(spot) = spot.word("mapping") else {
         return Ok(None);
@@ -90,9 +90,9 @@ fn is_plain_access(entitlements: &Entitlements) -> bool
     }
 }
 
-#[tactic(auto, unfolding(crate::specs::Code::Reading::entitled_access))]
+#[tactic(auto, unfolding(crate::specs::Code::Parts::entitled_access))]
 fn entitled_access(alloc: Global, spot: Spot<'_>) -> Result<Option<(Access, Spot<'_>)>, AllocError>
-    ensures { IfOk result (λ o. option_map (seen_with same) o ≡ spec.entitled_access (seen spot.entry)) }
+    ensures { IfOk result (λ o. option_map (seen_with same) o ≡ parts.entitled_access (seen spot.entry)) }
 {
     let Some((entitlements, spot)) = entitled(alloc, spot)? else {
         return Ok(None);
@@ -104,9 +104,9 @@ fn entitled_access(alloc: Global, spot: Spot<'_>) -> Result<Option<(Access, Spot
 }
 
 // What stands between the parentheses, and `)`.
-#[tactic(auto, unfolding(crate::specs::Code::Reading::allows))]
+#[tactic(auto, unfolding(crate::specs::Code::Parts::allows))]
 fn allows(alloc: Global, spot: Spot<'_>) -> Result<Option<(Access, Spot<'_>)>, AllocError>
-    ensures { IfOk result (λ o. option_map (seen_with same) o ≡ spec.allows (seen spot.entry)) }
+    ensures { IfOk result (λ o. option_map (seen_with same) o ≡ parts.allows (seen spot.entry)) }
 {
     if let Some(found) = plain_access(spot) {
         return Ok(Some(found));
@@ -118,9 +118,9 @@ fn allows(alloc: Global, spot: Spot<'_>) -> Result<Option<(Access, Spot<'_>)>, A
 }
 
 /// The access that begins at a spot, and the spot behind its `)`; None where none begins.
-#[tactic(auto, unfolding(crate::specs::Code::Reading::accessed))]
+#[tactic(auto, unfolding(crate::specs::Code::Parts::accessed))]
 pub fn accessed(alloc: Global, spot: Spot<'_>) -> Result<Option<(Access, Spot<'_>)>, AllocError>
-    ensures { IfOk result (λ o. option_map (seen_with same) o ≡ spec.accessed (seen spot.entry)) }
+    ensures { IfOk result (λ o. option_map (seen_with same) o ≡ parts.accessed (seen spot.entry)) }
 {
     let Some(inner) = spot.keyword(Keyword::Access) else {
         return Ok(None);

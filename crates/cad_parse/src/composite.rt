@@ -4,6 +4,7 @@ ghost use Rattle.cad_grammar.specs.declared.token.Sign.TheVariants as s;
 ghost use Rattle.cad_grammar.specs.Spots.{read};
 ghost use Rattle.cad_grammar.specs.ProgramGrammar as grammar;
 ghost use Rattle.cad_grammar.specs.Views.{composite_of, interface_of, enum_of, mapping_of};
+ghost use Rattle.cad_parse.specs.Code.Parts as parts;
 ghost use Rattle.cad_parse.specs.Code.Reading as spec;
 ghost use Rattle.cad_parse.specs.Code.Views.{same, items_in};
 ghost use Rattle.cad_parse_type.specs.Code.Views.{seen, seen_with, seen_name};
@@ -149,12 +150,12 @@ fn enum_case(alloc: Global, spot: Spot<'_>) -> Result<Option<(EnumCase, Spot<'_>
     Ok(Some((case, spot)))
 }
 
-#[tactic(auto, unfolding(crate::specs::Code::Reading::repeated))]
+#[tactic(auto, unfolding(crate::specs::Code::Parts::repeated))]
 fn enum_cases(
     alloc: Global,
     spot: Spot<'_>,
 ) -> Result<Option<(Vec<EnumCase>, Spot<'_>)>, AllocError>
-    ensures { IfOk result (λ o. option_map (seen_with items_in) o ≡ spec.repeated spec.enum_case s.CloseBrace (length spot.entry.tokens.now) [] (seen spot.entry)) }
+    ensures { IfOk result (λ o. option_map (seen_with items_in) o ≡ parts.repeated spec.enum_case s.CloseBrace (length spot.entry.tokens.now) [] (seen spot.entry)) }
 {
     let mut found = Vec::new(alloc);
     let mut here = spot;
@@ -238,12 +239,12 @@ fn mapping_entry(
     }
 }
 
-#[tactic(auto, unfolding(crate::specs::Code::Reading::repeated))]
+#[tactic(auto, unfolding(crate::specs::Code::Parts::repeated))]
 fn mapping_entries(
     alloc: Global,
     spot: Spot<'_>,
 ) -> Result<Option<(Vec<MappingItem>, Spot<'_>)>, AllocError>
-    ensures { IfOk result (λ o. option_map (seen_with items_in) o ≡ spec.repeated spec.mapping_entry s.CloseBrace (length spot.entry.tokens.now) [] (seen spot.entry)) }
+    ensures { IfOk result (λ o. option_map (seen_with items_in) o ≡ parts.repeated spec.mapping_entry s.CloseBrace (length spot.entry.tokens.now) [] (seen spot.entry)) }
 {
     let mut found = Vec::new(alloc);
     let mut here = spot;

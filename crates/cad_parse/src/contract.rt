@@ -2,6 +2,7 @@
 ghost use Rattle.std.specs.Prelude.{◌≡◌, [], length, IfOk, option_map};
 ghost use Rattle.cad_grammar.specs.declared.token.Sign.TheVariants as s;
 ghost use Rattle.cad_grammar.specs.Views.{contract_of, contract_member_of};
+ghost use Rattle.cad_parse.specs.Code.Parts as parts;
 ghost use Rattle.cad_parse.specs.Code.Reading as spec;
 ghost use Rattle.cad_parse.specs.Code.Views.{contract_members_in};
 ghost use Rattle.cad_parse_type.specs.Code.Views.{seen, seen_with};
@@ -125,12 +126,12 @@ fn contract_member(
     Ok(Some((ContractMember::Init(found), end)))
 }
 
-#[tactic(auto, unfolding(crate::specs::Code::Reading::repeated))]
+#[tactic(auto, unfolding(crate::specs::Code::Parts::repeated))]
 fn contract_members(
     alloc: Global,
     spot: Spot<'_>,
 ) -> Result<Option<(Vec<ContractMember>, Spot<'_>)>, AllocError>
-    ensures { IfOk result (λ o. option_map (seen_with contract_members_in) o ≡ spec.repeated spec.contract_member s.CloseBrace (length spot.entry.tokens.now) [] (seen spot.entry)) }
+    ensures { IfOk result (λ o. option_map (seen_with contract_members_in) o ≡ parts.repeated spec.contract_member s.CloseBrace (length spot.entry.tokens.now) [] (seen spot.entry)) }
 {
     let mut found = Vec::new(alloc);
     let mut here = spot;

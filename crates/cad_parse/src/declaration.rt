@@ -3,6 +3,7 @@ ghost use Rattle.std.specs.Prelude.{◌≡◌, [], length, IfOk, Some, option_ma
 ghost use Rattle.cad_grammar.specs.Spots.{read};
 ghost use Rattle.cad_grammar.specs.ProgramGrammar as grammar;
 ghost use Rattle.cad_grammar.specs.Views.{decl_of, program_of};
+ghost use Rattle.cad_parse.specs.Code.Parts as parts;
 ghost use Rattle.cad_parse.specs.Code.Reading as spec;
 ghost use Rattle.cad_parse.specs.Code.Views.{same, items_in, declarations_in};
 ghost use Rattle.cad_parse_type.specs.Code.Views.{seen, seen_with};
@@ -123,9 +124,9 @@ fn declaration(alloc: Global, spot: Spot<'_>) -> Result<Option<(Decl, Spot<'_>)>
     accessed_declaration(alloc, spot, access, behind)
 }
 
-#[tactic(auto, unfolding(crate::specs::Code::Reading::chain))]
+#[tactic(auto, unfolding(crate::specs::Code::Parts::chain))]
 fn imports(alloc: Global, spot: Spot<'_>) -> Result<(Vec<Import>, Spot<'_>), AllocError>
-    ensures { IfOk result (λ x. spec.chain spec.import (length spot.entry.tokens.now) [] (seen spot.entry) ≡ Some (seen_with items_in x)) }
+    ensures { IfOk result (λ x. parts.chain spec.import (length spot.entry.tokens.now) [] (seen spot.entry) ≡ Some (seen_with items_in x)) }
 {
     let mut found = Vec::new(alloc);
     let mut here = spot;
@@ -139,9 +140,9 @@ fn imports(alloc: Global, spot: Spot<'_>) -> Result<(Vec<Import>, Spot<'_>), All
     Ok((found, here))
 }
 
-#[tactic(auto, unfolding(crate::specs::Code::Reading::chain))]
+#[tactic(auto, unfolding(crate::specs::Code::Parts::chain))]
 fn declarations(alloc: Global, spot: Spot<'_>) -> Result<(Vec<Decl>, Spot<'_>), AllocError>
-    ensures { IfOk result (λ x. spec.chain spec.declaration (length spot.entry.tokens.now) [] (seen spot.entry) ≡ Some (seen_with declarations_in x)) }
+    ensures { IfOk result (λ x. parts.chain spec.declaration (length spot.entry.tokens.now) [] (seen spot.entry) ≡ Some (seen_with declarations_in x)) }
 {
     let mut found = Vec::new(alloc);
     let mut here = spot;

@@ -4,6 +4,7 @@ ghost use Rattle.cad_grammar.specs.declared.token.Sign.TheVariants as s;
 ghost use Rattle.cad_grammar.specs.Spots as spots;
 ghost use Rattle.cad_grammar.specs.ProgramGrammar as grammar;
 ghost use Rattle.cad_grammar.specs.Views.{parameter_of, condition_of, block_of, function_of, init_of};
+ghost use Rattle.cad_parse.specs.Code.Parts as parts;
 ghost use Rattle.cad_parse.specs.Code.Reading as spec;
 ghost use Rattle.cad_parse.specs.Code.Views.{same, parameters_in, conditions_in, maybe_conditions_in, maybe_block_of, maybe_expr_of};
 ghost use Rattle.cad_parse_expr.specs.Code.Reading as expressions;
@@ -20,22 +21,22 @@ use cad_syntax::{Keyword, Name};
 use std::alloc::{AllocError, Global};
 
 /// The name before a `:` that come next, and the spot behind the `:`.
-#[tactic(auto, unfolding(crate::specs::Code::Reading::labelled))]
+#[tactic(auto, unfolding(crate::specs::Code::Parts::labelled))]
 pub fn labelled(spot: Spot<'_>) -> Option<(&Name, Spot<'_>)>
-    ensures { option_map (seen_with seen_name) result ≡ spec.labelled (seen spot.entry) }
+    ensures { option_map (seen_with seen_name) result ≡ parts.labelled (seen spot.entry) }
 {
     let (name, spot) = spot.name()?;
     let spot = spot.after(Sign::Colon)?;
     Some((name, spot))
 }
 
-#[tactic(auto, unfolding(crate::specs::Code::Reading::parameter_behind))]
+#[tactic(auto, unfolding(crate::specs::Code::Parts::parameter_behind))]
 fn parameter_behind<'a>(
     alloc: Global,
     label: &Name,
     spot: Spot<'a>,
 ) -> Result<Option<(Parameter, Spot<'a>)>, AllocError>
-    ensures { IfOk result (λ o. option_map (seen_with parameter_of) o ≡ spec.parameter_behind label.now (seen spot.entry)) }
+    ensures { IfOk result (λ o. option_map (seen_with parameter_of) o ≡ parts.parameter_behind label.now (seen spot.entry)) }
 {
     let Some((name, spot)) = labelled(spot) else {
         return Ok(None);
@@ -52,9 +53,9 @@ fn parameter_behind<'a>(
 }
 
 /// The parameter that begins at a spot, and the spot behind its type; None where none begins.
-#[tactic(auto, unfolding(crate::specs::Code::Reading::parameter))]
+#[tactic(auto, unfolding(crate::specs::Code::Parts::parameter))]
 pub fn parameter(alloc: Global, spot: Spot<'_>) -> Result<Option<(Parameter, Spot<'_>)>, AllocError>
-    ensures { IfOk result (λ o. option_map (seen_with parameter_of) o ≡ spec.parameter (seen spot.entry)) }
+    ensures { IfOk result (λ o. option_map (seen_with parameter_of) o ≡ parts.parameter (seen spot.entry)) }
 {
     let Some((name, spot)) = spot.name() else {
         return Ok(None);
@@ -78,7 +79,7 @@ fn parameter_list(
     alloc: Global,
     spot: Spot<'_>,
 ) -> Result<Option<(Vec<Parameter>, Spot<'_>)>, AllocError>
-    ensures { IfOk result (λ o. option_map (seen_with parameters_in) o ≡ types.listed spec.parameter s.CloseParenthesis (length spot.entry.tokens.now) [] (seen spot.entry)) }
+    ensures { IfOk result (λ o. option_map (seen_with parameters_in) o ≡ types.listed parts.parameter s.CloseParenthesis (length spot.entry.tokens.now) [] (seen spot.entry)) }
 {
     let mut found = Vec::new(alloc);
     let mut here = spot;
@@ -102,12 +103,12 @@ fn parameter_list(
 }
 
 /// The parameters that begin at a spot with their `(`, and the spot behind their `)`; None where none begin.
-#[tactic(auto, unfolding(crate::specs::Code::Reading::parameters, cad_parse_type::specs::Code::Views::seen))]
+#[tactic(auto, unfolding(crate::specs::Code::Parts::parameters, cad_parse_type::specs::Code::Views::seen))]
 pub fn parameters(
     alloc: Global,
     spot: Spot<'_>,
 ) -> Result<Option<(Vec<Parameter>, Spot<'_>)>, AllocError>
-    ensures { IfOk result (λ o. option_map (seen_with parameters_in) o ≡ spec.parameters (seen spot.entry)) }
+    ensures { IfOk result (λ o. option_map (seen_with parameters_in) o ≡ parts.parameters (seen spot.entry)) }
 {
     let Some(inner) = spot.opening(Sign::OpenParenthesis) else {
         return Ok(None);
@@ -132,9 +133,9 @@ fn message(alloc: Global, spot: Spot<'_>) -> Result<Option<(Option<Expr>, Spot<'
     Ok(Some((Some(message), end)))
 }
 
-#[tactic(auto, unfolding(crate::specs::Code::Reading::emitted))]
+#[tactic(auto, unfolding(crate::specs::Code::Parts::emitted))]
 fn emitted(alloc: Global, spot: Spot<'_>) -> Result<Option<(Condition, Spot<'_>)>, AllocError>
-    ensures { IfOk result (λ o. option_map (seen_with condition_of) o ≡ spec.emitted (seen spot.entry)) }
+    ensures { IfOk result (λ o. option_map (seen_with condition_of) o ≡ parts.emitted (seen spot.entry)) }
 {
     let Some((event, end)) = expression(alloc, spot)? else {
         return Ok(None);
@@ -142,9 +143,9 @@ fn emitted(alloc: Global, spot: Spot<'_>) -> Result<Option<(Condition, Spot<'_>)
     Ok(Some((Condition::Emit(event), end)))
 }
 
-#[tactic(auto, unfolding(crate::specs::Code::Reading::plain))]
+#[tactic(auto, unfolding(crate::specs::Code::Parts::plain))]
 fn plain(alloc: Global, spot: Spot<'_>) -> Result<Option<(Condition, Spot<'_>)>, AllocError>
-    ensures { IfOk result (λ o. option_map (seen_with condition_of) o ≡ spec.plain (seen spot.entry)) }
+    ensures { IfOk result (λ o. option_map (seen_with condition_of) o ≡ parts.plain (seen spot.entry)) }
 {
     if !begins_plainly(spot) {
         return Ok(None);
@@ -158,9 +159,9 @@ fn plain(alloc: Global, spot: Spot<'_>) -> Result<Option<(Condition, Spot<'_>)>,
     Ok(Some((Condition::Test { test, message }, spot)))
 }
 
-#[tactic(auto, unfolding(crate::specs::Code::Reading::condition))]
+#[tactic(auto, unfolding(crate::specs::Code::Parts::condition))]
 fn condition(alloc: Global, spot: Spot<'_>) -> Result<Option<(Condition, Spot<'_>)>, AllocError>
-    ensures { IfOk result (λ o. option_map (seen_with condition_of) o ≡ spec.condition (seen spot.entry)) }
+    ensures { IfOk result (λ o. option_map (seen_with condition_of) o ≡ parts.condition (seen spot.entry)) }
 {
     match spot.keyword(Keyword::Emit) {
         Some(behind) => emitted(alloc, behind),
@@ -168,12 +169,12 @@ fn condition(alloc: Global, spot: Spot<'_>) -> Result<Option<(Condition, Spot<'_
     }
 }
 
-#[tactic(auto, unfolding(crate::specs::Code::Reading::parted_condition))]
+#[tactic(auto, unfolding(crate::specs::Code::Parts::parted_condition))]
 fn parted_condition(
     alloc: Global,
     spot: Spot<'_>,
 ) -> Result<Option<(Condition, Spot<'_>)>, AllocError>
-    ensures { IfOk result (λ o. option_map (seen_with condition_of) o ≡ spec.parted_condition (seen spot.entry)) }
+    ensures { IfOk result (λ o. option_map (seen_with condition_of) o ≡ parts.parted_condition (seen spot.entry)) }
 {
     let Some((condition, spot)) = condition(alloc, spot)? else {
         return Ok(None);
@@ -184,12 +185,12 @@ fn parted_condition(
     Ok(Some((condition, spot)))
 }
 
-#[tactic(auto, unfolding(crate::specs::Code::Reading::repeated))]
+#[tactic(auto, unfolding(crate::specs::Code::Parts::repeated))]
 fn condition_list(
     alloc: Global,
     spot: Spot<'_>,
 ) -> Result<Option<(Conditions, Spot<'_>)>, AllocError>
-    ensures { IfOk result (λ o. option_map (seen_with conditions_in) o ≡ spec.repeated spec.parted_condition s.CloseBrace (length spot.entry.tokens.now) [] (seen spot.entry)) }
+    ensures { IfOk result (λ o. option_map (seen_with conditions_in) o ≡ parts.repeated parts.parted_condition s.CloseBrace (length spot.entry.tokens.now) [] (seen spot.entry)) }
 {
     let mut found = Vec::new(alloc);
     let mut here = spot;
@@ -206,9 +207,9 @@ fn condition_list(
     Ok(None)
 }
 
-#[tactic(auto, unfolding(crate::specs::Code::Reading::conditions, cad_parse_type::specs::Code::Views::seen))]
+#[tactic(auto, unfolding(crate::specs::Code::Parts::conditions, cad_parse_type::specs::Code::Views::seen))]
 fn conditions(alloc: Global, spot: Spot<'_>) -> Result<Option<(Conditions, Spot<'_>)>, AllocError>
-    ensures { IfOk result (λ o. option_map (seen_with conditions_in) o ≡ spec.conditions (seen spot.entry)) }
+    ensures { IfOk result (λ o. option_map (seen_with conditions_in) o ≡ parts.conditions (seen spot.entry)) }
 {
     let Some(inner) = spot.opening(Sign::OpenBrace) else {
         return Ok(None);
@@ -227,7 +228,7 @@ pub fn conditions_behind(
     word: Keyword,
     spot: Spot<'_>,
 ) -> Result<Option<(Option<Conditions>, Spot<'_>)>, AllocError>
-    ensures { IfOk result (λ o. option_map (seen_with maybe_conditions_in) o ≡ spec.conditions_behind word (seen spot.entry)) }
+    ensures { IfOk result (λ o. option_map (seen_with maybe_conditions_in) o ≡ parts.conditions_behind word (seen spot.entry)) }
 {
     let Some(behind) = spot.keyword(word) else {
         return Ok(Some((None, spot)));
@@ -239,12 +240,12 @@ pub fn conditions_behind(
 }
 
 /// The block of a function that begins at a spot, with its conditions, and the spot behind its `}`; None where none begins.
-#[tactic(auto, unfolding(crate::specs::Code::Reading::function_block))]
+#[tactic(auto, unfolding(crate::specs::Code::Parts::function_block))]
 pub fn function_block(
     alloc: Global,
     spot: Spot<'_>,
 ) -> Result<Option<(FunctionBlock, Spot<'_>)>, AllocError>
-    ensures { IfOk result (λ o. option_map (seen_with block_of) o ≡ spec.function_block (seen spot.entry)) }
+    ensures { IfOk result (λ o. option_map (seen_with block_of) o ≡ parts.function_block (seen spot.entry)) }
 {
     let Some(inner) = spot.opening(Sign::OpenBrace) else {
         return Ok(None);

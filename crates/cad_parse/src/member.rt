@@ -3,6 +3,7 @@ ghost use Rattle.std.specs.Prelude.{◌≡◌, [], length, IfOk, option_map};
 ghost use Rattle.cad_grammar.specs.declared.token.Sign.TheVariants as s;
 ghost use Rattle.cad_grammar.specs.ProgramGrammar as grammar;
 ghost use Rattle.cad_grammar.specs.Views.{field_of, event_of, event_parameter_of, composite_member_of, interface_member_of};
+ghost use Rattle.cad_parse.specs.Code.Parts as parts;
 ghost use Rattle.cad_parse.specs.Code.Reading as spec;
 ghost use Rattle.cad_parse.specs.Code.Views.{event_parameters_in, composite_members_in, interface_members_in};
 ghost use Rattle.cad_parse_type.specs.Code.Reading as types;
@@ -231,12 +232,12 @@ fn composite_member(
 }
 
 /// The members of a composite up to a `}`, and the spot behind that; None where other tokens stand before it.
-#[tactic(auto, unfolding(crate::specs::Code::Reading::repeated))]
+#[tactic(auto, unfolding(crate::specs::Code::Parts::repeated))]
 pub fn composite_members(
     alloc: Global,
     spot: Spot<'_>,
 ) -> Result<Option<(Vec<CompositeMember>, Spot<'_>)>, AllocError>
-    ensures { IfOk result (λ o. option_map (seen_with composite_members_in) o ≡ spec.repeated spec.composite_member s.CloseBrace (length spot.entry.tokens.now) [] (seen spot.entry)) }
+    ensures { IfOk result (λ o. option_map (seen_with composite_members_in) o ≡ parts.repeated spec.composite_member s.CloseBrace (length spot.entry.tokens.now) [] (seen spot.entry)) }
 {
     let mut found = Vec::new(alloc);
     let mut here = spot;
@@ -311,12 +312,12 @@ fn interface_member(
 }
 
 /// The members of an interface up to a `}`, and the spot behind that; None where other tokens stand before it.
-#[tactic(auto, unfolding(crate::specs::Code::Reading::repeated))]
+#[tactic(auto, unfolding(crate::specs::Code::Parts::repeated))]
 pub fn interface_members(
     alloc: Global,
     spot: Spot<'_>,
 ) -> Result<Option<(Vec<InterfaceMember>, Spot<'_>)>, AllocError>
-    ensures { IfOk result (λ o. option_map (seen_with interface_members_in) o ≡ spec.repeated spec.interface_member s.CloseBrace (length spot.entry.tokens.now) [] (seen spot.entry)) }
+    ensures { IfOk result (λ o. option_map (seen_with interface_members_in) o ≡ parts.repeated spec.interface_member s.CloseBrace (length spot.entry.tokens.now) [] (seen spot.entry)) }
 {
     let mut found = Vec::new(alloc);
     let mut here = spot;

@@ -1,5 +1,5 @@
 use Rattle.std.proofs.Common.{◌≡◌, [], length, ◌-◌}
-use Rattle.cad_parse.specs.Code.Reading.{chain}
+use Rattle.cad_parse.specs.Code.Parts.{chain}
 use Rattle.cad_parse.specs.Code.Reading as spec
 use Rattle.cad_parse.specs.Code.Views.{declarations_in}
 use Rattle.cad_parse_type.specs.Code.Views.{seen}

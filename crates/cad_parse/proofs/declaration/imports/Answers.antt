@@ -1,6 +1,6 @@
 use Rattle.std.proofs.Common.{◌≡◌, ap, arith, rules}
 use Rattle.std.proofs.lemmas.Grind.{common_steps}
-use Rattle.cad_parse.specs.Code.Reading.{chain}
+use Rattle.cad_parse.specs.Code.Parts.{chain}
 use Rattle.cad_parse.specs.Code.Reading as spec
 use Rattle.cad_parse.specs.Code.Views.{items_in}
 use Rattle.cad_parse_type.specs.Code.Views.{seen}

@@ -2,7 +2,7 @@ use Rattle.std.proofs.Common.{◌≡◌, ap, arith, rules}
 use Rattle.std.proofs.lemmas.Grind.{common_steps}
 use Rattle.cad_grammar.specs.declared.token.Sign.TheVariants as s
 use Rattle.cad_parse_type.specs.Code.Reading.{listed}
-use Rattle.cad_parse.specs.Code.Reading as spec
+use Rattle.cad_parse.specs.Code.Parts as parts
 use Rattle.cad_parse.specs.Code.Views.{parameters_in}
 use Rattle.cad_parse_type.specs.Code.Views.{seen}
 use Rattle.cad_parse_type.proofs.Turns.{one_more}
@@ -11,29 +11,29 @@ use Rattle.cad_parse.proofs.function.parameter_list.Goals as goal
 pub returns-in-Some : goal.returns-in-Some
 unfolding listed
 returns-in-Some c =
-    let e = one_more (λ n. listed spec.parameter s.CloseParenthesis n (parameters_in c.loop-turn.found) (seen c.loop-turn.here)) _ c.loop-turn._turn c.loop-turn-test.true c.loop-turn.invariant in
+    let e = one_more (λ n. listed parts.parameter s.CloseParenthesis n (parameters_in c.loop-turn.found) (seen c.loop-turn.here)) _ c.loop-turn._turn c.loop-turn-test.true c.loop-turn.invariant in
     first_of (search rules, grind (arith, common_steps))
 
 pub returns-in_default-2 : goal.returns-in_default-2
 unfolding listed
 returns-in_default-2 c =
-    let e = one_more (λ n. listed spec.parameter s.CloseParenthesis n (parameters_in c.loop-turn.found) (seen c.loop-turn.here)) _ c.loop-turn._turn c.loop-turn-test.true c.loop-turn.invariant in
+    let e = one_more (λ n. listed parts.parameter s.CloseParenthesis n (parameters_in c.loop-turn.found) (seen c.loop-turn.here)) _ c.loop-turn._turn c.loop-turn-test.true c.loop-turn.invariant in
     first_of (search rules, grind (arith, common_steps))
 
 pub returns-in_default-resumed : goal.returns-in_default-resumed
 unfolding listed
 returns-in_default-resumed c =
-    let e = one_more (λ n. listed spec.parameter s.CloseParenthesis n (parameters_in c.loop-turn.found) (seen c.loop-turn.here)) _ c.loop-turn._turn c.loop-turn-test.true c.loop-turn.invariant in
+    let e = one_more (λ n. listed parts.parameter s.CloseParenthesis n (parameters_in c.loop-turn.found) (seen c.loop-turn.here)) _ c.loop-turn._turn c.loop-turn-test.true c.loop-turn.invariant in
     first_of (search rules, grind (arith, common_steps))
 
 pub returns-in_default-resumed-2 : goal.returns-in_default-resumed-2
 unfolding listed
 returns-in_default-resumed-2 c =
-    let e = one_more (λ n. listed spec.parameter s.CloseParenthesis n (parameters_in c.loop-turn.found) (seen c.loop-turn.here)) _ c.loop-turn._turn c.loop-turn-test.true c.loop-turn.invariant in
+    let e = one_more (λ n. listed parts.parameter s.CloseParenthesis n (parameters_in c.loop-turn.found) (seen c.loop-turn.here)) _ c.loop-turn._turn c.loop-turn-test.true c.loop-turn.invariant in
     first_of (search rules, grind (arith, common_steps))
 
 pub loop-turn-preserved : goal.loop-turn-preserved
 unfolding listed
 loop-turn-preserved c =
-    let e = one_more (λ n. listed spec.parameter s.CloseParenthesis n (parameters_in c.loop-turn.found) (seen c.loop-turn.here)) _ c.loop-turn._turn c.loop-turn-test.true c.loop-turn.invariant in
+    let e = one_more (λ n. listed parts.parameter s.CloseParenthesis n (parameters_in c.loop-turn.found) (seen c.loop-turn.here)) _ c.loop-turn._turn c.loop-turn-test.true c.loop-turn.invariant in
     first_of (search rules, grind (arith, common_steps))

@@ -1,7 +1,7 @@
 use Rattle.std.proofs.Common.{◌≡◌, ap, arith, rules}
 use Rattle.std.proofs.lemmas.Grind.{common_steps}
 use Rattle.cad_grammar.specs.declared.token.Sign.TheVariants as s
-use Rattle.cad_parse.specs.Code.Reading.{repeated}
+use Rattle.cad_parse.specs.Code.Parts.{repeated}
 use Rattle.cad_parse.specs.Code.Reading as spec
 use Rattle.cad_parse.specs.Code.Views.{interface_members_in}
 use Rattle.cad_parse_type.specs.Code.Views.{seen}
