@@ -32,7 +32,7 @@ all_meet tables stop each first =
     (subst (λ (l : List TypeEntry). Each (Meets (kinds_of tables) tables.types) l) first.1.split each))
 
 -- a phase that passes doesn't stop
-passes_no_stop : (tables : ProgramTables) (program : ProgramTree) (p : Phase) (stop : Stop) → Passes tables program p → Stops tables program p stop → ⊥
+pub passes_no_stop : (tables : ProgramTables) (program : ProgramTree) (p : Phase) (stop : Stop) → Passes tables program p → Stops tables program p stop → ⊥
 passes_no_stop tables program phase.Lex stop passes stops = stops
 passes_no_stop tables program phase.Parse stop passes stops = stops
 passes_no_stop tables program phase.Resolve stop passes stops = stops
@@ -47,10 +47,10 @@ abbrev IsOk : ProgramTables → Result ProgramTables Stop → Type 0
 IsOk tables (Ok other) = tables ≡ other
 IsOk tables (Err stop) = ⊥
 
-same_tables : (s : Subject) (a b : ProgramTables) → subject_tables s ≡ Ok a → subject_tables s ≡ Ok b → a ≡ b
+pub same_tables : (s : Subject) (a b : ProgramTables) → subject_tables s ≡ Ok a → subject_tables s ≡ Ok b → a ≡ b
 same_tables s a b first second = subst (IsOk a) (sym first ∙ second) refl
 
-no_error : (s : Subject) (a : ProgramTables) (stop : Stop) → subject_tables s ≡ Ok a → subject_tables s ≡ Err stop → ⊥
+pub no_error : (s : Subject) (a : ProgramTables) (stop : Stop) → subject_tables s ≡ Ok a → subject_tables s ≡ Err stop → ⊥
 no_error s a stop first second = subst (IsOk a) (sym first ∙ second) refl
 
 by_tables : (s : Subject) (checked : CheckedProgram) (p : Phase) (stop : Stop) (accepted : Accepts s checked) → Passes accepted.tables s.program p → StopsFirst s p stop → ⊥

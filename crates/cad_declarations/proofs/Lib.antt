@@ -1,2 +1,2 @@
 mod Fields
-mod Visits
+pub mod Visits
