@@ -171,10 +171,10 @@ class Reader:
             if path.stem not in tests:
                 self.modules[crate, name] = read_code(crate, path, name)
         above = set()
-        for part in re.findall(re.escape(FOR_ABOVE) + r"[^\n]*\n((?:pub use [^;]*;\n)+)", root):
+        for part in re.findall(re.escape(FOR_ABOVE) + r"[^\n]*\n((?:pub (?:use|mod) [^;]*;\n)+)", root):
             above |= set(re.findall(r"(\w+)(?=\s*[,};])", part))
         shown = {n for part in re.findall(r"^pub use [^;]*;", root, re.M) for n in re.findall(r"(\w+)(?=\s*[,};])", part)}
-        whole = {"src/" + m for m in re.findall(r"^pub mod (\w+);", root, re.M)}
+        whole = {"src/" + m for m in re.findall(r"^pub mod (\w+);", root, re.M) if m not in above}
         if crate == ENTRY[0]:
             shown |= {ENTRY[2]}
             whole |= {"src/laws"}

@@ -101,7 +101,7 @@ fn before_letters(
 }
 
 /// The statements of a part, behind which a `return` goes on.
-fn part_letters(
+pub fn part_letters(
     alloc: Global,
     reading: &Reading,
     part: BodyPart,
@@ -118,7 +118,8 @@ fn part_letters(
     }
 }
 
-fn has_no_block(inner: &Option<TypedBlock>) -> bool
+/// Whether a part isn't written.
+pub fn has_no_block(inner: &Option<TypedBlock>) -> bool
     ensures { result ≡ spec.has_no_block (option_map block_of inner.now) }
 {
     match inner {
@@ -128,7 +129,7 @@ fn has_no_block(inner: &Option<TypedBlock>) -> bool
 }
 
 /// The conditions and the body of a function.
-fn inner_letters(
+pub fn inner_letters(
     alloc: Global,
     reading: &Reading,
     function: &TypedFunction,

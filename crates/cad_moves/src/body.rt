@@ -39,14 +39,14 @@ pub enum Item {
 }
 
 /// The empty body.
-pub(crate) fn skip() -> Body
+pub fn skip() -> Body
     ensures { body_of result ≡ paths.skip }
 {
     Body::Leave(Way::Next)
 }
 
 /// Parts one behind the other.
-pub(crate) fn block(items: Vec<Item>) -> Body
+pub fn block(items: Vec<Item>) -> Body
     ensures { body_of result ≡ row_of (map item_of items.items) }
 {
     Body::Block(items)
@@ -160,7 +160,7 @@ pub(crate) fn push_or(items: &mut Vec<Item>, body: Body) -> Result<(), AllocErro
 }
 
 /// Adds the last part.
-pub(crate) fn push_last(items: &mut Vec<Item>, body: Body) -> Result<(), AllocError>
+pub fn push_last(items: &mut Vec<Item>, body: Body) -> Result<(), AllocError>
     ensures { IfOk result (λ _. (rest : paths.PathBody) → row_over (map item_of items.new.items) rest ≡ row_over (map item_of items.old.items) (body_of body)) }
 {
     push(items, last_item(body))?;
@@ -168,7 +168,7 @@ pub(crate) fn push_last(items: &mut Vec<Item>, body: Body) -> Result<(), AllocEr
 }
 
 /// Adds a declaration.
-pub(crate) fn push_declaration(
+pub fn push_declaration(
     items: &mut Vec<Item>,
     number: u64,
     name: &Name,

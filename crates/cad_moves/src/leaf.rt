@@ -173,7 +173,8 @@ pub(crate) fn variable_set(
     }
 }
 
-pub(crate) fn is_self(place: &Place) -> bool
+/// Whether a place is `self`.
+pub fn is_self(place: &Place) -> bool
     ensures { result ≡ spec.is_self (place_of place.now) }
 {
     match place {

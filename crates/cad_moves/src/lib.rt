@@ -8,7 +8,6 @@ mod leaf;
 mod letters;
 mod misuse;
 mod reading;
-mod search;
 mod state;
 mod statements;
 mod table;
@@ -18,3 +17,12 @@ pub use check::moves;
 pub use misuse::{Misuse, MoveStop};
 pub use reading::Reading;
 pub use state::Rules;
+
+// For the crates above alone: the search, which initialisation shares.
+pub mod search;
+
+// For the crates above alone: the letters of bodies, and their rows.
+pub use bodies::{has_no_block, inner_letters, part_letters};
+pub use body::{block, push_declaration, push_last, skip};
+pub use leaf::is_self;
+pub use statements::position;

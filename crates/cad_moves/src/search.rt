@@ -175,14 +175,14 @@ fn nearer(early: Option<Misuse>, comes: bool, late: Option<Misuse>) -> Option<Mi
 
 /// The first misuse in a body, and where its paths lead.
 #[derive(Drop)]
-pub(crate) struct Found {
-    pub(crate) misuse: Option<Misuse>,
-    pub(crate) silent: Table,
+pub struct Found {
+    pub misuse: Option<Misuse>,
+    pub silent: Table,
 }
 
 /// The first misuse in a body, and where its paths lead.
 #[cycle(searches)]
-pub(crate) fn search(rules: Rules, body: &Body) -> Result<Found, AllocError>
+pub fn search(rules: Rules, body: &Body) -> Result<Found, AllocError>
     ensures first { IfOk result (λ f. option_map offence_of f.misuse ≡ spec.first_of rules (body_of body.now)) }
     ensures leads { IfOk result (λ f. f.silent ≡ table.sweep rules None (body_of body.now)) }
 {

@@ -23,7 +23,7 @@ use cad_paths::{BodyPart, Letter, Position, Way};
 use std::alloc::{AllocError, Global};
 
 /// A statement or condition of a part.
-pub(crate) fn position(part: BodyPart, at: u64) -> Position
+pub fn position(part: BodyPart, at: u64) -> Position
     ensures { result ≡ spec.position part at }
 {
     Position { part, at }
