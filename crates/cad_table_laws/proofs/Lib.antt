@@ -1,0 +1,5 @@
+mod Added
+mod Contracts
+mod Offered
+pub mod Reaching
+mod Same
