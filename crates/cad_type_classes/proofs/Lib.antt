@@ -1,0 +1,4 @@
+mod Exportable
+mod Optionals
+mod Truths
+mod Turns
