@@ -1,0 +1,5 @@
+mod Told
+mod Meant
+mod Counted
+mod ScopeParts
+mod Closing
