@@ -1,0 +1,4 @@
+pub mod FirstStops
+pub mod Lacking
+pub mod Walk
+pub mod Ways

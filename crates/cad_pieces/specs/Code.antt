@@ -1,0 +1,4 @@
+pub mod Comes
+pub mod Ends
+pub mod Stops
+pub mod Walk
