@@ -2,4 +2,3 @@ mod Told
 mod Meant
 mod Counted
 mod ScopeParts
-mod Closing

@@ -9,8 +9,6 @@ mod forms;
 mod known;
 mod local;
 mod names;
-#[cfg(test)]
-mod tests;
 mod trees;
 mod typing;
 mod variables;
