@@ -6,10 +6,9 @@ ghost use Rattle.cad_types.specs.Views.{declarations};
 ghost use Rattle.cad_declarations.specs.Scopes as spec;
 ghost use Rattle.cad_scopes.specs.Views.{scope_of, meaning_view};
 
-use crate::meaning::Meaning;
 use crate::names::{basic_type, built_in_as, inside, is_entitlement_name, is_spelled};
 use cad_declarations::{MappingDeclaration, is_same_name};
-use cad_syntax::{Name, TypeId, contains};
+use cad_syntax::{Basic, Name, TypeId, contains};
 use cad_types::{DeclaredTypes, Sort};
 use std::alloc::{AllocError, Global};
 
@@ -22,6 +21,16 @@ pub struct Scope<'a> {
     pub types: &'a DeclaredTypes,
     pub entitlements: &'a [TypeId],
     pub mappings: &'a [MappingDeclaration],
+}
+
+/// What a name stands for: a type, an entitlement or a mapping.
+#[derive(Debug, Drop, PartialEq, Eq)]
+pub enum Meaning {
+    Basic(Basic),
+    Capability,
+    Type(TypeId, Sort),
+    Entitlement(TypeId),
+    Mapping(TypeId),
 }
 
 /// What a written name stands for; None where nothing of that name is there.
@@ -45,7 +54,7 @@ pub fn meaning(
 }
 
 /// What the program's contract declares under a name.
-fn own_meaning(scope: Scope<'_>, name: &Name) -> Result<Option<Meaning>, AllocError>
+pub fn own_meaning(scope: Scope<'_>, name: &Name) -> Result<Option<Meaning>, AllocError>
     ensures { IfOk result (λ found. option_map meaning_view found ≡ spec.own_meaning (scope_of scope.entry) name.now) }
 {
     match scope.contract {
@@ -67,7 +76,7 @@ fn meaning_inside(
 }
 
 /// What is declared under an identifier.
-fn meaning_of(scope: Scope<'_>, id: TypeId) -> Option<Meaning>
+pub fn meaning_of(scope: Scope<'_>, id: TypeId) -> Option<Meaning>
     ensures { option_map meaning_view result ≡ spec.meaning_of (scope_of scope.entry) id }
 {
     match sort_of(scope, &id) {
@@ -122,7 +131,7 @@ fn whole(more: &[Name], meaning: Meaning) -> Option<Meaning>
 }
 
 /// The contract of a name: the program's or one that it imports.
-fn contract_named<'a>(scope: Scope<'a>, name: &Name) -> Option<&'a TypeId>
+pub fn contract_named<'a>(scope: Scope<'a>, name: &Name) -> Option<&'a TypeId>
     ensures { option_copied result ≡ spec.contract_named (scope_of scope.entry) name.now }
 {
     if let Some(contract) = scope.contract {

@@ -1,9 +1,9 @@
 // Kinds of numbers.
 ghost use Rattle.std.specs.Prelude.{◌≡◌};
 ghost use Rattle.cad_syntax.specs.Types.{pure_type};
-ghost use Rattle.cad_declarations.specs.BuiltinNames as builtin;
 ghost use Rattle.cad_typing.specs.Types as spec;
 
+use cad_builtins::is_integer;
 use cad_syntax::{Basic, CadType, Kind};
 
 /// The kind of numbers that a type is, addresses among them.
@@ -37,16 +37,6 @@ pub fn is_signed(kind: Kind) -> bool
     ensures { result ≡ spec.is_signed kind }
 {
     0 < kind.depth()
-}
-
-/// Whether a kind is one of integers.
-pub fn is_integer(kind: Kind) -> bool
-    ensures { result ≡ builtin.is_integer kind }
-{
-    match kind {
-        Kind::Fix64 | Kind::UFix64 | Kind::Address => false,
-        _ => true,
-    }
 }
 
 /// Whether a type is a kind of numbers, which an address isn't.
