@@ -3,8 +3,8 @@ use Rattle.std.specs.Prelude.{map, option_copied}
 use Rattle.cad_types.specs.Views.{declarations}
 use Rattle.cad_declarations.specs.Scopes as s
 use Rattle.cad_scopes.specs.declared.scope.Scope.{Scope}
-use Rattle.cad_scopes.specs.declared.scope.Meaning.{Meaning}
-use Rattle.cad_scopes.specs.declared.scope.Meaning.TheVariants as m
+use Rattle.cad_scopes.specs.declared.names.Meaning.{Meaning}
+use Rattle.cad_scopes.specs.declared.names.Meaning.TheVariants as m
 
 abbrev pub scope_of : Scope → s.Scope
 scope_of x = record {

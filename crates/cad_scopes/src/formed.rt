@@ -10,7 +10,8 @@ ghost use Rattle.cad_types.specs.Views.{declarations};
 ghost use Rattle.cad_declarations.specs.Formed as spec;
 ghost use Rattle.cad_scopes.specs.Views.{scope_of, meaning_view};
 
-use crate::scope::{Meaning, Scope, meaning};
+use crate::names::Meaning;
+use crate::scope::{Scope, meaning};
 use crate::written::resolved_type;
 use cad_grammar::{TypeAnnotation, TypeExpr};
 use cad_syntax::{Basic, CadType, TypeId};

@@ -5,7 +5,18 @@ ghost use Rattle.cad_declarations.specs.Names as spec;
 ghost use Rattle.cad_declarations.specs.Scopes as scopes;
 
 use cad_syntax::{Address, Basic, Kind, Name, Names, TypeId};
+use cad_types::Sort;
 use std::alloc::{AllocError, Global};
+
+/// What a name stands for: a type, an entitlement or a mapping.
+#[derive(Debug, Drop, PartialEq, Eq)]
+pub enum Meaning {
+    Basic(Basic),
+    Capability,
+    Type(TypeId, Sort),
+    Entitlement(TypeId),
+    Mapping(TypeId),
+}
 
 /// The basic types of one name.
 const BASIC_NAMES: [(&str, Basic); 33] = [

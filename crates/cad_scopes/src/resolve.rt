@@ -3,7 +3,8 @@ ghost use Rattle.std.specs.Prelude.{◌≡◌, IfOk, option_map};
 ghost use Rattle.cad_declarations.specs.Scopes as spec;
 ghost use Rattle.cad_scopes.specs.Views.{scope_of, meaning_view};
 
-use crate::scope::{Meaning, Scope, meaning};
+use crate::names::Meaning;
+use crate::scope::{Scope, meaning};
 use cad_declarations::{MemberAccess, is_interface_sort};
 use cad_grammar::{Access, Dotted, Entitlements};
 use cad_syntax::{Authorization, Name, TypeId, TypeIds};

@@ -6,9 +6,9 @@ ghost use Rattle.cad_types.specs.Views.{declarations};
 ghost use Rattle.cad_declarations.specs.Scopes as spec;
 ghost use Rattle.cad_scopes.specs.Views.{scope_of, meaning_view};
 
-use crate::names::{basic_type, built_in_as, inside, is_entitlement_name, is_spelled};
+use crate::names::{Meaning, basic_type, built_in_as, inside, is_entitlement_name, is_spelled};
 use cad_declarations::{MappingDeclaration, is_same_name};
-use cad_syntax::{Basic, Name, TypeId, contains};
+use cad_syntax::{Name, TypeId, contains};
 use cad_types::{DeclaredTypes, Sort};
 use std::alloc::{AllocError, Global};
 
@@ -21,16 +21,6 @@ pub struct Scope<'a> {
     pub types: &'a DeclaredTypes,
     pub entitlements: &'a [TypeId],
     pub mappings: &'a [MappingDeclaration],
-}
-
-/// What a name stands for: a type, an entitlement or a mapping.
-#[derive(Debug, Drop, PartialEq, Eq)]
-pub enum Meaning {
-    Basic(Basic),
-    Capability,
-    Type(TypeId, Sort),
-    Entitlement(TypeId),
-    Mapping(TypeId),
 }
 
 /// What a written name stands for; None where nothing of that name is there.

@@ -7,8 +7,9 @@ ghost use Rattle.cad_grammar.specs.Trees.{annotations_of};
 ghost use Rattle.cad_declarations.specs.Scopes as spec;
 ghost use Rattle.cad_scopes.specs.Views.{scope_of, meaning_view};
 
+use crate::names::Meaning;
 use crate::resolve::{each_interface, resolved_entitlements};
-use crate::scope::{Meaning, Scope, meaning};
+use crate::scope::{Scope, meaning};
 use cad_declarations::is_interface_sort;
 use cad_grammar::{Entitlements, TypeAnnotation, TypeExpr};
 use cad_syntax::{Authorization, CadType, Name, TypeId, TypeIds};
