@@ -1,0 +1,6 @@
+pub mod Closed
+mod Linked
+mod Lists
+mod Plain
+mod Reach
+mod Turns

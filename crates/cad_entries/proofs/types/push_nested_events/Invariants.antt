@@ -1,0 +1,11 @@
+use Rattle.std.proofs.Common.{◌≡◌, ◌++◌, map, drop}
+use Rattle.std.specs.Prelude.{filter_map}
+use Rattle.cad_scopes.specs.Views.{scope_of}
+use Rattle.cad_declarations.specs.Views.{type_entry_of}
+use Rattle.cad_declarations.specs.Entries as e
+use Rattle.cad_grammar.specs.Views as g
+use Rattle.cad_entries.proofs.types.push_nested_events.Given as goal
+
+abbrev pub invariant-loop-member : goal.invariant-loop-member
+invariant-loop-member l =
+    map type_entry_of l.all.items ++ filter_map (e.nested_event (scope_of l.scope) l.links l.id) (map g.composite_member_of (drop l.member-index l.members)) ≡ map type_entry_of l.initial.all.items ++ filter_map (e.nested_event (scope_of l.scope) l.links l.id) (map g.composite_member_of l.members)
