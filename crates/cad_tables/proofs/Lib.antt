@@ -1,0 +1,5 @@
+mod Closed
+mod Enums
+mod Imports
+mod Points
+mod Turns

@@ -1,0 +1,10 @@
+use Rattle.std.proofs.Common.{◌≡◌, map, drop, reverse}
+use Rattle.cad_scopes.specs.Views.{scope_of}
+use Rattle.cad_declarations.specs.Build as b
+use Rattle.cad_declarations.specs.Points as p
+use Rattle.cad_grammar.specs.Views as g
+use Rattle.cad_tables.proofs.contract_points.contract_members_stop.Given as goal
+
+abbrev pub invariant-loop-member : goal.invariant-loop-member
+invariant-loop-member l =
+    b.first_stop (scope_of l.scope) (p.contract_members_points (scope_of l.scope) l.links l.id (reverse l.before) (map g.contract_member_of (drop l.member-index l.members))) ≡ b.first_stop (scope_of l.scope) (p.contract_members_points (scope_of l.scope) l.links l.id p.names_of_contract (map g.contract_member_of l.members))
