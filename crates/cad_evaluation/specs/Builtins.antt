@@ -18,7 +18,7 @@ use Rattle.cad_evaluation.specs.Accounts.{account_reference, any_account}
 use Rattle.cad_evaluation.specs.Arguments.{argument, with_argument, with_arguments}
 use Rattle.cad_evaluation.specs.Callees.{Calls, Front}
 use Rattle.cad_evaluation.specs.Numbers.{truth_of, on_numbers, saturating, converted, greatest_tree, least_tree}
-use Rattle.cad_evaluation.specs.Reading.{read_uuid, composite_id}
+use Rattle.cad_evaluation.specs.Reading.{copied, read_uuid, composite_id}
 use Rattle.cad_evaluation.specs.TypeTexts.{identifier}
 use Rattle.cad_evaluation.specs.Texts.{in_tree, text_in, character_in_value, address_in_value, text_tree, given_int, text_length, text_joined, text_slice, text_decoded, text_encoded, text_from_bytes, number_text, number_read, number_bytes, address_bytes, address_told}
 use Rattle.cad_evaluation.specs.Texts as texts
@@ -59,7 +59,7 @@ on_address spot f = with_some (in_tree address_in_value spot.tree) f
 
 -- `rawValue`: the one field of a case
 abbrev pub raw_value : Spot → Action Tree
-raw_value spot = with_some (composite_id spot.tree) (λ id. with_some (argument 0 spot.tree.parts) give)
+raw_value spot = with_some (composite_id spot.tree) (λ id. with_some (argument 0 spot.tree.parts) copied)
 
 -- the units of a value but the first
 abbrev pub cost : Option Tree → ℕ

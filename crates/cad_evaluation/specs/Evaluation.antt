@@ -5,7 +5,7 @@ use Rattle.cad_syntax.specs.declared.type_id.TypeId.{TypeId}
 use Rattle.cad_syntax.specs.declared.types.Basic.TheVariants as b
 use Rattle.cad_declarations.specs.Typed as e
 use Rattle.cad_world.specs.Rows.{Row, stop, Tree}
-use Rattle.cad_world.specs.State.{Frame, Action, ok, ◌>>=◌, ◌>>◌, give, with_some, limit}
+use Rattle.cad_world.specs.State.{Frame, Action, ok, ◌>>=◌, ◌>>◌, give, stuck, with_some, limit}
 use Rattle.cad_world.specs.Declared.{bodies_of, function_in}
 use Rattle.cad_world.specs.Transfers.{transferred}
 use Rattle.cad_evaluation.specs.Bodies.{Piece, own_piece, inherited, entered, left, conditioned, rest_of}
@@ -53,13 +53,18 @@ looked = ended 0 >> (λ s. ok tt (record s { frames = rest_of s.frames }))
 abbrev pub event_made : Front → Calls → TypeId → ℕ → e.DestroyedBody → Action Tree
 event_made front calls id l d = looking id l >> defaults front calls d.arguments >>= event_of d.event >>= (λ t. looked >> give t)
 
+-- in the default arguments of an event nothing is destroyed, but by what they call
+abbrev pub destroying_nothing : Calls → Calls
+destroying_nothing calls (destroyed_event id l) r = stuck
+destroying_nothing calls callee r = calls callee r
+
 -- ---- the recursion
 
 abbrev pub called : Front → Calls → ℕ → Calls
 called front calls n (method id name l) r = λ s. run front calls n (Some l) false (own_piece s name id) (inherited s name id) r s
 called front calls n (function name) r = λ s. run front calls n None false (outside (function_in s.program.bodies.functions name)) [] r s
 called front calls n (initializer id l) r = λ s. run front calls n (Some l) true (making id (initializer_of (bodies_of s id))) [] r s
-called front calls n (destroyed_event id l) r = λ s. with_some (destroyed_body (bodies_of s id)) (event_made front calls id l) s
+called front calls n (destroyed_event id l) r = λ s. with_some (destroyed_body (bodies_of s id)) (event_made front (destroying_nothing calls) id l) s
 
 -- calls that are nested at most so deep, with at most so many turns of each loop; Limit beyond
 abbrev pub calls_to : Front → ℕ → Calls

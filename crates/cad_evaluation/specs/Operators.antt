@@ -12,7 +12,7 @@ use Rattle.cad_text.specs.Texts.{normal_form}
 use Rattle.cad_values.specs.Sizes.{most_high}
 use Rattle.cad_values.specs.Values.{PureValue, bool, number, string, character}
 use Rattle.cad_world.specs.Rows.{Tree}
-use Rattle.cad_world.specs.State.{Action, ◌>>=◌, ◌>>◌, give, stuck, require, spend, with_some}
+use Rattle.cad_world.specs.State.{Action, ◌>>=◌, ◌>>◌, give, stuck, guard, require, spend, with_some}
 use Rattle.cad_world.specs.Same.{equal}
 use Rattle.cad_world.specs.Trees as trees
 use Rattle.cad_world.specs.Trees.{tree_weight, tree_height}
@@ -61,11 +61,7 @@ ordered x a b = with_some x (λ is. compared a b >> give (bool_tree is))
 abbrev pub unary : UnaryOperator → Tree → Action Tree
 unary u.Negate a = negated a
 unary u.Not a = with_some (truth_of a) (λ x. give (bool_tree (not x)))
-unary u.Dereference a = choose_reference (is_reference a)
-  where
-    choose_reference : Bool → Action Tree
-    choose_reference true = deref a.shape >>= dereferenced
-    choose_reference false = stuck
+unary u.Dereference a = guard (is_reference a) (deref a.shape >>= dereferenced)
 unary _ a = stuck
 
 -- ---- operators of two operands that are both evaluated

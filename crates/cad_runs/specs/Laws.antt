@@ -4,7 +4,7 @@ use Rattle.cad_syntax.specs.declared.address.Address.{Address}
 use Rattle.cad_declarations.specs.Typed as e
 use Rattle.cad_world.specs.Fronts.{Front}
 use Rattle.cad_world.specs.Marks.{AreGivenOnce}
-use Rattle.cad_world.specs.Rows.{Row}
+use Rattle.cad_world.specs.Rows.{Row, bare}
 use Rattle.cad_world.specs.Sound.{Sound}
 use Rattle.cad_world.specs.Begin.{begun, left_world}
 use Rattle.cad_world.specs.State.{Program, World, State, ok}
@@ -26,7 +26,7 @@ ScriptsLeave Json = (x : Surroundings Json) (w : World) (code : List ℕ) (js : 
 abbrev pub SoundReadsBack : Type 0
 SoundReadsBack = (front : Front) (program : Program) (units : ℕ) (w : World) → Sound front w → left_world (begun program units w) ≡ w
 
--- a label that was given is never given again, and stands on one node
+-- a label that was given is never given again, and stands on one node; arguments come without labels
 abbrev pub LabelsAreGivenOnce : Type 0
 LabelsAreGivenOnce = (front : Front) (n : ℕ) (t : e.TransactionBody) (r : Row) (signers : List Address) (s s' : State)
-    → run_transaction front (calls_to front n) n t r signers s ≡ ok tt s' → AreGivenOnce s → AreGivenOnce s'
+    → bare r ≡ r → run_transaction front (calls_to front n) n t r signers s ≡ ok tt s' → AreGivenOnce s → AreGivenOnce s'

@@ -1,5 +1,5 @@
 -- Runs: a transaction, the deployment of a contract, and a script.
-use Rattle.std.specs.Prelude.{ℕ, suc, ◌+◌, ◌-◌, false, List, [], ◌∷◌, length, codes, Option, Some, None}
+use Rattle.std.specs.Prelude.{ℕ, suc, ◌+◌, ◌-◌, false, List, ◌∷◌, length, codes, Option, Some, None}
 use Rattle.cad_syntax.specs.Types.{basic}
 use Rattle.cad_syntax.specs.declared.address.Address.{Address}
 use Rattle.cad_syntax.specs.declared.text.Name.{Name}
@@ -15,15 +15,15 @@ use Rattle.cad_world.specs.Storable.{values_last}
 use Rattle.cad_world.specs.Trees.{value_of}
 use Rattle.cad_evaluation.specs.Accounts.{account_reference}
 use Rattle.cad_evaluation.specs.Adding.{install}
-use Rattle.cad_evaluation.specs.Bodies.{most_calls, rest_of, all_tested, values_before, value_of_flow}
+use Rattle.cad_evaluation.specs.Bodies.{rest_of, all_tested, values_before, value_of_flow}
 use Rattle.cad_evaluation.specs.Callees.{function, Calls}
 use Rattle.cad_evaluation.specs.Ending.{ended, dropped}
 use Rattle.cad_evaluation.specs.Statements.{exec_block}
 
--- So many calls are nested at most, and so many turns of a loop taken, when the units are spent or too many calls are in
--- progress: a turn takes a unit, and of calls 2,000 are in progress at most, with an event of destruction in each.
+-- Calls are nested less often, and turns of a loop fewer, before the units are spent: a turn and a call take a unit each, and in
+-- a call stands at most one event that tells of an end, since there none is told of but by a call.
 abbrev pub bound : ℕ → ℕ
-bound limit = limit + (limit + (most_calls + most_calls))
+bound limit = suc limit + suc limit
 
 -- ---- transactions
 

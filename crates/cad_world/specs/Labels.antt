@@ -120,8 +120,10 @@ variables_of (Some f) = f.variables
 abbrev pub variables : State → Row
 variables s = variables_of (newest s)
 
-abbrev pub on_value : TypeId → (Row → Row) → Contract → Contract
-on_value id g c = if same_id c.id id then record c { value = g c.value } else c
+-- the value of the contract with this identifier is changed
+abbrev pub change_value : TypeId → (Row → Row) → List Contract → List Contract
+change_value id g [] = []
+change_value id g (c ∷ all) = if same_id c.id id then record c { value = g c.value } ∷ all else c ∷ change_value id g all
 
 abbrev pub value_in : List Contract → TypeId → Slot
 value_in [] id = out

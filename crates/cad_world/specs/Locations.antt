@@ -1,12 +1,12 @@
 -- Where a value stands in a running state, and the nodes that are named there.
-use Rattle.std.specs.Prelude.{ℕ, suc, List, [], ◌∷◌, Option, Some, None, map, option_map, ℤ, pos, negsuc, if◌then◌else◌}
+use Rattle.std.specs.Prelude.{ℕ, suc, List, [], ◌∷◌, Option, Some, None, option_map, ℤ, pos, negsuc, if◌then◌else◌}
 use Rattle.cad_syntax.specs.declared.text.Name.{Name}
 use Rattle.cad_syntax.specs.declared.type_id.TypeId.{TypeId}
 use Rattle.cad_values.specs.Values.{PureValue}
 use Rattle.cad_world.specs.Rows.{NodeShape, array, dictionary, Row, Tree, Slot, out, free, full, slot, named, Found}
 use Rattle.cad_world.specs.State.{State, Action, ok, ◌>>=◌, give, stuck, fail, or_fail}
 use Rattle.cad_world.specs.Same.{same_key}
-use Rattle.cad_world.specs.Labels.{at, with_node, with_account, stored_slot, on_stored, with_variables, variables, on_value, value_in}
+use Rattle.cad_world.specs.Labels.{at, with_node, with_account, stored_slot, on_stored, with_variables, variables, change_value, value_in}
 use Rattle.cad_world.specs.Trees.{wrapped}
 
 pub data Location : Type 0 where
@@ -120,7 +120,7 @@ in_entry g l (Some i) s = in_node g l i (at l s) s
 abbrev pub changed_at : (ℕ → Row → Row) → Location → State → State
 changed_at g (variable x) s = with_variables (g x) s
 changed_at g (receiver l) s = s
-changed_at g (contract id) s = record s { contracts = map (on_value id (g 0)) s.contracts }
+changed_at g (contract id) s = record s { contracts = change_value id (g 0) s.contracts }
 changed_at g (stored a n) s = with_account a (on_stored g n) s
 changed_at g (part l i) s = in_node g l i (at l s) s
 changed_at g (element l i) s = in_element g l i s
