@@ -1,0 +1,54 @@
+//! Labels: one that was given is never given again, and stands on one node. Laws of the actions on places alone.
+#![tactic(auto)]
+
+ghost use Rattle.cad_labels.specs.Laws.{AssigningKeeps, BeginsWithout, EndingKeeps, ExchangingKeeps, FillingKeeps, LooksKeep, MakingKeeps, NamingKeeps, SwappingKeeps, TakingKeeps};
+
+/// A run begins without labels.
+pub fn runs_begin_without_labels()
+    ensures { BeginsWithout }
+{}
+
+/// What is named gets a label that stands nowhere.
+pub fn names_are_new()
+    ensures { NamingKeeps }
+{}
+
+/// What is used is looked at, and named where it is stored.
+pub fn looks_keep_labels()
+    ensures { LooksKeep }
+{}
+
+/// A value that leaves its place loses its labels.
+pub fn taking_keeps_labels()
+    ensures { TakingKeeps }
+{}
+
+/// A value that comes to a place brings none.
+pub fn filling_keeps_labels()
+    ensures { FillingKeeps }
+{}
+
+/// Assignments.
+pub fn assigning_keeps_labels()
+    ensures { AssigningKeeps }
+{}
+
+/// Second values.
+pub fn exchanging_keeps_labels()
+    ensures { ExchangingKeeps }
+{}
+
+/// Swaps.
+pub fn swapping_keeps_labels()
+    ensures { SwappingKeeps }
+{}
+
+/// Variables that end.
+pub fn ending_keeps_labels()
+    ensures { EndingKeeps }
+{}
+
+/// What initializers make.
+pub fn making_keeps_labels()
+    ensures { MakingKeeps }
+{}
