@@ -1,7 +1,14 @@
 pub mod SampleAccount
 pub mod SampleContract
+pub mod SampleForms
 pub mod SampleParts
 pub mod SamplesAccounts
+pub mod SamplesContainers
+pub mod SamplesFlows
+pub mod SamplesOperators
 pub mod SamplesPlaces
+pub mod SamplesReferences
+pub mod SamplesStored
 pub mod SamplesTerms
+pub mod SamplesTexts
 pub mod SamplesTypes

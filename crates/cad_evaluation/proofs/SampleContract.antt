@@ -51,6 +51,15 @@ replace_name = named (codes "replace")
 abbrev pub fill_name : Name
 fill_name = named (codes "fill")
 
+abbrev pub tie_name : Name
+tie_name = named (codes "tie")
+
+abbrev pub mark_name : Name
+mark_name = named (codes "mark")
+
+abbrev pub b_id : TypeId
+b_id = inside (codes "B")
+
 abbrev pub gone_id : TypeId
 gone_id = record { address = record { 0 = 1 }; names = named (codes "C") ∷ named (codes "R") ∷ named (codes "ResourceDestroyed") ∷ [] }
 
@@ -96,7 +105,8 @@ abbrev pub types : List TypeEntry
 types =
     entry c_id sort.Contract [] (field_of c_id n_name access.All int_type ∷ [])
     ∷ entry s_id sort.Struct (i_id ∷ j_id ∷ []) (field_of s_id n_name access.All int_type ∷ field_of s_id list_name access.All (array int_type) ∷ function_of s_id add_name access.All true ∷ [])
-    ∷ entry r_id sort.Resource [] (field_of r_id n_name access.Own int_type ∷ field_of r_id kid_name access.All kid_type ∷ function_of r_id add_name (access.Entitled right) true ∷ function_of r_id replace_name access.All true ∷ function_of r_id fill_name access.All true ∷ [])
+    ∷ entry r_id sort.Resource [] (field_of r_id n_name access.Own int_type ∷ field_of r_id kid_name access.All kid_type ∷ function_of r_id add_name (access.Entitled right) true ∷ function_of r_id replace_name access.All true ∷ function_of r_id fill_name access.All true ∷ function_of r_id tie_name access.All true ∷ function_of r_id mark_name access.All true ∷ [])
+    ∷ entry b_id sort.Struct [] (field_of b_id n_name access.All (basic b.AnyStruct) ∷ [])
     ∷ entry i_id sort.StructInterface [] (function_of i_id add_name access.All false ∷ [])
     ∷ entry j_id sort.StructInterface [] (function_of j_id twice_name access.All true ∷ [])
     ∷ entry gone_id sort.Event [] (field_of gone_id n_name access.All (basic (b.Number k.UInt64)) ∷ [])
@@ -161,6 +171,18 @@ r_replace = body (variable 0 kid_type ∷ []) kid_type
 abbrev pub r_fill : e.FunctionBody
 r_fill = body (variable 0 kid_type ∷ []) (basic b.Void) (e.force_assign 0 (self_field r_id kid_name) (e.take (e.variable 0)) kid_type ∷ [])
 
+-- fun tie(_ r: @R) { r.kid <-! r }
+abbrev pub r_tie : e.FunctionBody
+r_tie = body (variable 0 (declared r_id) ∷ []) (basic b.Void) (e.force_assign 0 (e.field (e.variable 0) (declared r_id) kid_name) (e.take (e.variable 0)) kid_type ∷ [])
+
+-- fun mark() { C.n = 3 }
+abbrev pub r_mark : e.FunctionBody
+r_mark = body [] (basic b.Void) (e.assign 0 (e.field (e.contract c_id) (declared c_id) n_name) (literal 3) int_type ∷ [])
+
+-- init(_ n: AnyStruct) { self.n = n }
+abbrev pub b_init : e.FunctionBody
+b_init = body (variable 0 (basic b.AnyStruct) ∷ []) (basic b.Void) (e.assign 0 (self_field b_id n_name) (argument 0) (basic b.AnyStruct) ∷ [])
+
 -- in the second interface: fun twice(): Int { return self.n * 2 }
 abbrev pub j_twice : e.FunctionBody
 j_twice = body [] int_type (e.return_value 0 (e.binary o.Multiply (self_read n_name) (literal 2)) int_type ∷ [])
@@ -169,7 +191,8 @@ abbrev pub bodies : List e.TypeBody
 bodies =
     record { id = c_id; initializer = None; functions = function_named (named (codes "make")) make ∷ []; destroyed = None }
     ∷ record { id = s_id; initializer = Some s_init; functions = function_named add_name s_add ∷ []; destroyed = None }
-    ∷ record { id = r_id; initializer = Some r_init; functions = function_named add_name r_add ∷ function_named replace_name r_replace ∷ function_named fill_name r_fill ∷ []; destroyed = Some told }
+    ∷ record { id = r_id; initializer = Some r_init; functions = function_named add_name r_add ∷ function_named replace_name r_replace ∷ function_named fill_name r_fill ∷ function_named tie_name r_tie ∷ function_named mark_name r_mark ∷ []; destroyed = Some told }
+    ∷ record { id = b_id; initializer = Some b_init; functions = []; destroyed = None }
     ∷ record { id = i_id; initializer = None; functions = function_named add_name i_add ∷ []; destroyed = None }
     ∷ record { id = j_id; initializer = None; functions = function_named twice_name j_twice ∷ []; destroyed = None } ∷ []
   where

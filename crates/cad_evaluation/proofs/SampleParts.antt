@@ -1,5 +1,5 @@
 -- Small programs and states, of which samples are made, and what is seen of an outcome.
-use Rattle.std.specs.Prelude.{ℕ, true, false, List, [], ◌∷◌, Option, Some, None, refl, codes}
+use Rattle.std.specs.Prelude.{ℕ, suc, ◌+◌, true, false, List, [], ◌∷◌, Option, Some, None, refl, codes}
 use Rattle.cad_syntax.specs.Types.{PureType, basic}
 use Rattle.cad_syntax.specs.declared.kind.Kind.{Kind}
 use Rattle.cad_syntax.specs.declared.kind.Kind.TheVariants as k
@@ -117,7 +117,7 @@ seen ill = ill_typed
 
 -- `main` without arguments, in a state with as many units
 abbrev pub runs : State → Outcome Tree
-runs s = calls_to no_front s.units (function main) stop s
+runs s = calls_to no_front (suc s.units + suc s.units) (function main) stop s
 
 -- a script whose `main` has these statements and this result
 abbrev pub alone : PureType → List e.StatementTree → ℕ → Seen

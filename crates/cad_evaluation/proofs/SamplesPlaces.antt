@@ -16,7 +16,7 @@ use Rattle.cad_values.specs.Values as v
 use Rattle.cad_evaluation.proofs.SampleParts.{num, minus, int, literal, int_type, named, block, variable, Seen, gave, failed_with, without_units, ill_typed, alone}
 use Rattle.cad_evaluation.proofs.SampleContract.{c_id, s_id, r_id, i_id, gone_id, told_id, enum_id, right, n_name, list_name, kid_name, add_name, kid_type, twice_name, replace_name, fill_name, run, runs_from, with_depth, with_identity, with_unset, leaves, left, event}
 
-abbrev mutate : Authorization
+abbrev pub mutate : Authorization
 mutate = All (built_in (codes "Mutate") ∷ [])
 
 -- a function that the struct doesn't write: the default of its second interface

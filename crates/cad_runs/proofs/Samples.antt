@@ -1,15 +1,22 @@
 -- Commands and their replies, each list of commands from the World without accounts.
-use Rattle.std.specs.Prelude.{ℕ, true, false, List, [], ◌∷◌, ◌≡◌, refl, codes}
+use Rattle.std.specs.Prelude.{ℕ, true, false, [], ◌∷◌, ◌≡◌, refl, codes}
 use Rattle.cad_syntax.specs.declared.address.Address.{Address}
 use Rattle.cad_num.specs.Numbers as n
 use Rattle.cad_values.specs.Values.{PureValue}
 use Rattle.cad_values.specs.Values as v
-use Rattle.cad_evaluation.proofs.SampleParts.{int, int_type}
+use Rattle.cad_syntax.specs.Types.{basic}
+use Rattle.cad_syntax.specs.declared.kind.Kind.TheVariants as k
+use Rattle.cad_syntax.specs.declared.types.Basic.TheVariants as b
+use Rattle.cad_evaluation.proofs.SampleParts.{int, num, int_type}
+use Rattle.cad_evaluation.proofs.SampleContract.{r_id, gone_id, contract, event}
 use Rattle.cad_runs.specs.Commands.{Command, account, deploy, transaction, script, refused, Reply, account_made, result, ran, rejected, failed, limit, bad}
 use Rattle.cad_runs.specs.Batch.{one_more}
-use Rattle.cad_runs.proofs.SampleCommands.{refusal, replies, surroundings, script_program}
+use Rattle.cad_runs.proofs.SampleCommands.{refusal, replies, replies_beside, surroundings, script_program}
 use Rattle.cad_world.specs.Begin.{begun, empty_world, new_account}
+use Rattle.cad_world.specs.Fits.{have_identities}
 use Rattle.cad_world.specs.Registers.{size}
+use Rattle.cad_world.specs.Shapes.{shapes}
+use Rattle.cad_runs.specs.Run.{told}
 use Rattle.cad_world.specs.Rows.{Tree, alone}
 use Rattle.cad_world.specs.State as run
 use Rattle.cad_world.specs.State.{State}
@@ -28,6 +35,9 @@ save code value = transaction (code ∷ []) (int value ∷ []) (one ∷ []) 9
 
 abbrev nothing : Reply PureValue
 nothing = ran [] [] []
+
+abbrev stored : Tree → State
+stored t = begun (script_program [] int_type []) 9 (record empty_world { accounts = record new_account { identifiers = record { 0 = codes "x" } ∷ []; stored = alone t } ∷ [] })
 
 -- accounts have the addresses from 1
 accounts : replies (account ∷ account ∷ []) ≡ account_made 1 ∷ account_made 2 ∷ []
@@ -88,14 +98,42 @@ conditions : replies (account ∷ save 7 7 ∷ save 7 0 ∷ save 7 8 ∷ transac
 unfolding n.outcome
 conditions = refl
 
+-- an entry of a deployment takes a unit, and the statement of its initializer
+deploy_units : replies (account ∷ deploy one (codes "D") (1 ∷ []) (int 5 ∷ []) 1 ∷ deploy one (codes "D") (1 ∷ []) (int 5 ∷ []) 2 ∷ []) ≡ account_made 1 ∷ limit ∷ nothing ∷ []
+unfolding n.outcome
+deploy_units = refl
+
+-- what comes with a request takes no units
+argument_units : replies (script (13 ∷ []) (v.array int_type (v.values_of (int 1 ∷ int 2 ∷ [])) ∷ []) 2 ∷ []) ≡ result (int 1) ∷ []
+unfolding n.outcome
+argument_units = refl
+
+-- a command that fails takes no identity
+identities : replies_beside (transaction (11 ∷ []) (int 0 ∷ []) (one ∷ []) 30 ∷ transaction (10 ∷ []) (int 0 ∷ []) (one ∷ []) 30 ∷ transaction (10 ∷ []) (int 0 ∷ []) (one ∷ []) 30
+    ∷ transaction (12 ∷ []) (int 0 ∷ []) (one ∷ []) 30 ∷ [])
+    ≡ failed 109 ∷ ran (1 ∷ []) [] [] ∷ failed 111 ∷ ran (2 ∷ []) (2 ∷ []) (event gone_id (v.number (num k.UInt64 2)) ∷ []) ∷ []
+unfolding n.outcome
+identities = refl
+
+-- a result has a form where Void lies in a container, and none where a type does
+void_told : told (tree_of (v.array (basic b.Void) (v.values_of (v.void ∷ [])))) (stored (tree_of v.nil)) ≡ run.ok (v.array (basic b.Void) (v.values_of (v.void ∷ []))) (stored (tree_of v.nil))
+void_told = refl
+
+type_untold : told (tree_of (v.array (basic b.Meta) (v.values_of (v.meta int_type ∷ [])))) (stored (tree_of v.nil)) ≡ run.failed 134
+type_untold = refl
+
+-- a resource in a World has an identity
+without_identity : have_identities (shapes (contract ∷ [])) (alone (tree_of (v.composite r_id 0 v.no_fields))) ≡ false
+without_identity = refl
+
+with_identity : have_identities (shapes (contract ∷ [])) (alone (tree_of (v.composite r_id 1 v.no_fields))) ≡ true
+with_identity = refl
+
 -- one account: 67 bytes
 one_account : size surroundings.coding (one_more surroundings empty_world) ≡ 67
 one_account = refl
 
 -- ---- the end of a command
-
-abbrev stored : Tree → State
-stored t = begun (script_program [] int_type []) 9 (record empty_world { accounts = record new_account { identifiers = record { 0 = codes "x" } ∷ []; stored = alone t } ∷ [] })
 
 -- a value of height 257: 123
 too_high : values_last (stored (record (tree_of (int 7)) { optionals = 256 })) ≡ run.failed 123
