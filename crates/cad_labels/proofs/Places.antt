@@ -150,7 +150,7 @@ transferred_keeps type t none = keeps_bind AnyOne HasNone (charged t) _ (charged
 
 -- ---- a value leaves its place
 
-bare_has_none : (t : Tree) → HasNone (bare_tree t)
+pub bare_has_none : (t : Tree) → HasNone (bare_tree t)
 bare_has_none t p = marks_mark p (bare t.parts) ∙ mark_bare p t.parts
 
 cleared_stands : (x : Location) (s : State) → AreGivenOnce s → AreGivenOnce (changed_at clear x s)
@@ -176,7 +176,7 @@ taking_keeps x = keeps_bind AnyOne HasNone (slot_of x) (take_slot x) (slot_keeps
 
 -- ---- a value comes to a place
 
-no_mark : (t : Tree) → HasNone t → (p : ℕ) → mark p t.parts ≡ 0
+pub no_mark : (t : Tree) → HasNone t → (p : ℕ) → mark p t.parts ≡ 0
 no_mark t none p = sym (marks_mark p t.parts) ∙ none p
 
 put_keeps : (x : Location) (t : Tree) → HasNone t → Keeps AnyOne (put_at x t)

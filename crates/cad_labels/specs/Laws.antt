@@ -1,15 +1,18 @@
 -- A label that was given is never given again, and stands on one node: of the actions that name nodes, take values out of places and
 -- bring values to places.
-use Rattle.std.specs.Prelude.{◌≡◌, ℕ, List}
+use Rattle.std.specs.Prelude.{◌≡◌, ℕ, Bool, List, Option}
 use Rattle.cad_syntax.specs.Types.{PureType}
 use Rattle.cad_syntax.specs.declared.text.Name.{Name}
 use Rattle.cad_syntax.specs.declared.type_id.TypeId.{TypeId}
 use Rattle.cad_world.specs.Locations.{Location, name}
 use Rattle.cad_world.specs.Marks.{marks, AreGivenOnce}
 use Rattle.cad_world.specs.Receivers.{Receiver, look_at}
-use Rattle.cad_world.specs.Rows.{Tree}
+use Rattle.cad_world.specs.Labels.{with_account}
+use Rattle.cad_world.specs.Rows.{Row, Tree}
 use Rattle.cad_world.specs.State.{Program, World, State, Outcome, ok, failed, limit, ill, Action}
 use Rattle.cad_world.specs.Begin.{begun, IsKept}
+use Rattle.cad_evaluation.specs.Bodies.{entered, left, result_aside, result_taken, linked_result}
+use Rattle.cad_evaluation.specs.Storage.{storing}
 use Rattle.cad_evaluation.specs.Changing.{take, fill, assigned, force_assigned, exchanged, swapped}
 use Rattle.cad_evaluation.specs.Ending.{ended}
 use Rattle.cad_evaluation.specs.Making.{begin, finish}
@@ -66,3 +69,18 @@ EndingKeeps = (n : ℕ) → Keeps AnyOne (ended n)
 -- what is made has a label of its own, and none once it is there
 abbrev pub MakingKeeps : Type 0
 MakingKeeps = ((id : TypeId) (i : ℕ) (names : List Name) → Keeps AnyOne (begin id i names)) × Keeps HasNone finish
+
+abbrev pub HasNoneInRow : Row → Type 0
+HasNoneInRow r = (p : ℕ) → marks p r ≡ 0
+
+-- a call begins, over arguments without labels, and ends
+abbrev pub CallsKeep : Type 0
+CallsKeep = ((within : Option TypeId) (self : Option ℕ) (initializes : Bool) (r : Row) → HasNoneInRow r → Keeps AnyOne (entered within self initializes r)) × Keeps AnyOne left
+
+-- a result is put aside, comes back without labels, and is referred to
+abbrev pub ResultsKeep : Type 0
+ResultsKeep = ((t : Tree) → HasNone t → Keeps AnyOne (result_aside t)) × Keeps HasNone result_taken × ((t : Tree) → Keeps HasNone (linked_result t))
+
+-- a value comes to an account
+abbrev pub StoringKeeps : Type 0
+StoringKeeps = (a : ℕ) (identifier : Name) (t : Tree) → HasNone t → (s : State) → AreGivenOnce s → AreGivenOnce (with_account a (storing identifier t) s)

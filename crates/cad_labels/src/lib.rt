@@ -1,7 +1,7 @@
 //! Labels: one that was given is never given again, and stands on one node. Laws of the actions on places alone.
 #![tactic(auto)]
 
-ghost use Rattle.cad_labels.specs.Laws.{AssigningKeeps, BeginsWithout, EndingKeeps, ExchangingKeeps, FillingKeeps, LooksKeep, MakingKeeps, NamingKeeps, SwappingKeeps, TakingKeeps};
+ghost use Rattle.cad_labels.specs.Laws.{AssigningKeeps, BeginsWithout, CallsKeep, EndingKeeps, ExchangingKeeps, FillingKeeps, LooksKeep, MakingKeeps, NamingKeeps, ResultsKeep, StoringKeeps, SwappingKeeps, TakingKeeps};
 
 /// A run begins without labels.
 pub fn runs_begin_without_labels()
@@ -51,4 +51,19 @@ pub fn ending_keeps_labels()
 /// What initializers make.
 pub fn making_keeps_labels()
     ensures { MakingKeeps }
+{}
+
+/// Calls that begin and end.
+pub fn calls_keep_labels()
+    ensures { CallsKeep }
+{}
+
+/// Results, which are put aside while postconditions run.
+pub fn results_keep_labels()
+    ensures { ResultsKeep }
+{}
+
+/// What comes to an account.
+pub fn storing_keeps_labels()
+    ensures { StoringKeeps }
 {}
