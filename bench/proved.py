@@ -2,7 +2,6 @@
 import pathlib, shutil, subprocess
 
 ROOT = pathlib.Path(__file__).resolve().parent.parent
-TESTS = "#[cfg(test)]\nmod tests;\n"
 
 
 def lines_of(names):
@@ -21,9 +20,7 @@ def build(folder, libraries, name, uses, source, proofs, words):
     crates = folder / "crates"
     crates.mkdir(parents=True)
     for library in libraries:
-        shutil.copytree(ROOT / "crates" / library, crates / library, ignore=shutil.ignore_patterns("out", "must-fail", "tests.rt", "tests"))
-        head = crates / library / "src" / "lib.rt"
-        head.write_text(head.read_text().replace(TESTS, ""))
+        shutil.copytree(ROOT / "crates" / library, crates / library, ignore=shutil.ignore_patterns("out", "must-fail"))
     subprocess.run(["git", "init", "-q", "."], cwd=folder, check=True)
     lines = lines_of(libraries) + [f"{name}: {' '.join([*libraries, *uses])}"]
     (folder / "crates.txt").write_text("\n".join(lines) + "\n")
