@@ -1,0 +1,15 @@
+//! The types of calls.
+#![tactic(auto)]
+
+mod arguments;
+mod call;
+mod constructors;
+mod methods;
+mod parameters;
+mod type_arguments;
+
+pub use arguments::call_typed;
+pub use call::{Call, Callee, Invocation, Method};
+pub use constructors::{call_constructor, call_head, initializer_parameters, is_event};
+pub use methods::{before_call, call_member, create_call, invoke};
+pub use type_arguments::has_no_types;
