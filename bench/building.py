@@ -4,11 +4,11 @@ its tables, for n = 1,000 and 2,000.
 
 The contracts: n structs with a function each; a struct with n functions; n structs that have one interface of 10 in a row; n
 interfaces of one that has one function. The program stands on copies of the crates below cad_tables in a temporary repository,
-and `rt run` proves and builds it there. Each time is the least of five.
+and `rt run` proves and builds it there. Processor time, the least of five runs; 10 more builds or rounds of look-ups count.
 
 usage: bench/building.py
 """
-import pathlib, subprocess, sys, tempfile
+import pathlib, resource, subprocess, sys, tempfile
 
 from proved import build
 
@@ -21,7 +21,6 @@ use cad_grammar::{Access, Composite, CompositeKind, CompositeMember, Contract, C
 use cad_syntax::{Address, CadType, Items, Name, Names, Text, TypeId};
 use cad_tables::{build, no_contracts};
 use std::alloc::{AllocError, Global};
-use std::time::Instant;
 
 fn named(alloc: Global, letter: &str, number: u64) -> Result<Name, AllocError> {
     let text = format!(in alloc; "{letter}{number}")?;
@@ -127,26 +126,32 @@ fn look_up(alloc: Global, tables: &Tables, kind: &str, count: u64) -> Result<u64
     Ok(found)
 }
 
+fn tables_of(alloc: Global, program: &Program) -> Result<Tables> {
+    let deployed = no_contracts(alloc);
+    match build(alloc, program, Some(Address(1)), &deployed)? {
+        Ok(tables) => Ok(tables),
+        Err(_) => bail!("refused"),
+    }
+}
+
 fn run(rt: &HostRuntime) -> Result<()> {
     let alloc = rt.alloc();
     let mut words = std::env::args(rt)?;
     let _program = words.next();
     let kind = words.next().context("a kind")?;
     let count = words.next().context("a count")?.as_str().parse::<u64>().context("a count")?;
+    let builds = words.next().context("how many builds")?.as_str().parse::<u64>().context("how many builds")?;
+    let looks = words.next().context("how many times the look-ups")?.as_str().parse::<u64>().context("how many times the look-ups")?;
     let program = program(alloc, kind.as_str(), count)?;
-    for _ in 0..5 {
-        let deployed = no_contracts(alloc);
-        let start = Instant::now(rt)?;
-        let made = build(alloc, &program, Some(Address(1)), &deployed)?;
-        let built = start.elapsed(rt)?.as_nanos();
-        let Ok(tables) = made else {
-            bail!("refused");
-        };
-        let start = Instant::now(rt)?;
-        let found = look_up(alloc, &tables, kind.as_str(), count)?;
-        let looked = start.elapsed(rt)?.as_nanos();
-        println!(rt; "{built} {looked} {found}")?;
+    for _ in 1..builds {
+        let again = tables_of(alloc, &program)?;
     }
+    let tables = tables_of(alloc, &program)?;
+    let mut found = 0u64;
+    for _ in 0..looks {
+        found = found.saturating_add(look_up(alloc, &tables, kind.as_str(), count)?);
+    }
+    println!(rt; "{found}")?;
     Ok(())
 }
 
@@ -161,18 +166,28 @@ MOST = 2.3
 BELOW = ["cad_syntax", "cad_auth", "cad_types", "cad_grammar", "cad_declarations", "cad_scopes", "cad_contracts", "cad_stop_points", "cad_entries", "cad_tables"]
 
 
+def seconds(program, kind, count, builds, looks):
+    """The least processor time of five runs with so many builds and rounds of look-ups."""
+    best = None
+    for _ in range(5):
+        before = resource.getrusage(resource.RUSAGE_CHILDREN).ru_utime
+        done = subprocess.run([str(program), kind, *map(str, (count, builds, looks))], check=True, capture_output=True, text=True)
+        taken = resource.getrusage(resource.RUSAGE_CHILDREN).ru_utime - before
+        assert done.stdout.strip() == str(looks * 10_000), done.stdout + done.stderr
+        best = taken if best is None else min(best, taken)
+    return best
+
+
 def times(program, kind, count):
-    """The least times of building and of the look-ups, in milliseconds."""
-    done = subprocess.run([str(program), kind, str(count)], check=True, capture_output=True, text=True)
-    lines = [line.split() for line in done.stdout.splitlines() if line[:1].isdigit()]
-    assert len(lines) == 5 and all(line[2] == "10000" for line in lines), done.stdout + done.stderr
-    return [min(int(line[i]) for line in lines) / 1e6 for i in (0, 1)]
+    """The times of one build and of one round of look-ups, in milliseconds."""
+    one = seconds(program, kind, count, 1, 0)
+    return [(seconds(program, kind, count, 11, 0) - one) * 100, (seconds(program, kind, count, 1, 10) - one) * 100]
 
 
 def main():
     slow = False
     with tempfile.TemporaryDirectory() as name:
-        program = build(pathlib.Path(name), BELOW, "built", ["anyhow"], SOURCE, {}, ["structs", "2"])
+        program = build(pathlib.Path(name), BELOW, "built", ["anyhow"], SOURCE, {}, ["structs", "2", "1", "1"])
         for kind in KINDS:
             first, second = (times(program, kind, count) for count in COUNTS)
             for what, a, b in zip(["build", "look-ups"], first, second):
