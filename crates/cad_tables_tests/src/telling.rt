@@ -1,5 +1,6 @@
 // What building the tables of a text comes to.
-use cad_declarations::{Bodies, Checked, Deployed, Installed, Stop, Tables};
+use cad_conform::conforms;
+use cad_declarations::{Bodies, Checked, Deployed, Installed, Refused, Stop, Tables};
 use cad_grammar::Program;
 use cad_parse::parse_program;
 use cad_syntax::{Address, Bytes, Name, Text};
@@ -133,4 +134,16 @@ pub fn type_count(alloc: Global, a: &str) -> Result<usize, AllocError> {
     let deployed = one(alloc, a)?;
     let kinds = deployed_kinds(alloc, &deployed)?;
     Ok(kinds.declared().len())
+}
+
+/// Where the contract `A` doesn't meet an interface, or `ok`.
+pub fn conformance(alloc: Global, a: &str) -> Result<String, AllocError> {
+    let none = no_contracts(alloc);
+    let program = program_of(alloc, a)?;
+    let tables = tables_of(alloc, &program, &none)?;
+    match conforms(alloc, &tables) {
+        Ok(()) => String::from_str(alloc, "ok"),
+        Err(Refused::Is(stop)) => told_stop(alloc, &stop),
+        Err(Refused::Memory) => Err(AllocError),
+    }
 }

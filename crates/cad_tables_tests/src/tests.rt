@@ -1,5 +1,5 @@
 // Where the names of programs are refused, and programs that are accepted.
-use crate::telling::{contract, contract_beside, script, script_beside, type_count};
+use crate::telling::{conformance, contract, contract_beside, script, script_beside, type_count};
 use std::test::Fail;
 
 #[test]
@@ -142,5 +142,45 @@ fn programs_are_accepted(rt: HostRuntime) -> Result<(), Fail> {
     )?;
     assert_eq!(rt; interface.as_str(), "main.0");
     assert_eq!(rt; script(alloc, "transaction {}")?.as_str(), "ok");
+    Ok(())
+}
+
+// A token with its vault, under the name that the other programs here import.
+const TOKEN: &str =
+    "access(all) contract A {\n  access(all) entitlement Withdraw\n  access(all) event Moved(id: UInt64, amount: UFix64)\n  access(all) var supply: UFix64\n  access(all) resource interface Receiver {\n    access(all) fun deposit(from: @Vault)\n  }\n  access(all) resource Vault: Receiver {\n    access(all) var balance: UFix64\n    init(balance: UFix64) { self.balance = balance }\n    access(Withdraw) fun withdraw(amount: UFix64): @Vault {\n      pre { self.balance >= amount: \"too little\" }\n      self.balance = self.balance - amount\n      return <-create Vault(balance: amount)\n    }\n    access(all) fun deposit(from: @Vault) {\n      self.balance = self.balance + from.balance\n      emit Moved(id: self.uuid, amount: from.balance)\n      destroy from\n    }\n  }\n  access(all) fun empty(): @Vault { return <-create Vault(balance: 0.0) }\n  init() {\n    self.supply = 1000.0\n    self.account.storage.save(<-create Vault(balance: 1000.0), to: /storage/token)\n  }\n}";
+
+const SETUP: &str =
+    "import A from 0x1\ntransaction { prepare(a: auth(SaveValue) &Account) {\n  a.storage.save(<-A.empty(), to: /storage/token) } }";
+
+const PUBLISH: &str =
+    "import A from 0x1\ntransaction { prepare(a: auth(IssueStorageCapabilityController, PublishCapability) &Account) {\n  let c = a.capabilities.storage.issue<&A.Vault>(/storage/token)\n  a.capabilities.publish(c, at: /public/token) } }";
+
+const TRANSFER: &str =
+    "import A from 0x1\ntransaction(amount: UFix64, to: Address) {\n  let vault: @A.Vault\n  prepare(a: auth(BorrowValue) &Account) {\n    let own = a.storage.borrow<auth(A.Withdraw) &A.Vault>(from: /storage/token) ?? panic(\"none\")\n    self.vault <- own.withdraw(amount: amount)\n  }\n  execute {\n    let into = getAccount(to).capabilities.borrow<&A.Vault>(/public/token) ?? panic(\"none\")\n    into.deposit(from: <-self.vault)\n  }\n}";
+
+#[test]
+fn a_token_is_accepted(rt: HostRuntime) -> Result<(), Fail> {
+    let alloc = rt.alloc();
+    assert_eq!(rt; type_count(alloc, TOKEN)?, 4);
+    assert_eq!(rt; conformance(alloc, TOKEN)?.as_str(), "ok");
+    assert_eq!(rt; script_beside(alloc, TOKEN, SETUP)?.as_str(), "ok");
+    assert_eq!(rt; script_beside(alloc, TOKEN, PUBLISH)?.as_str(), "ok");
+    assert_eq!(rt; script_beside(alloc, TOKEN, TRANSFER)?.as_str(), "ok");
+    Ok(())
+}
+
+// Two interfaces that have a third one's default.
+const DIAMOND: &str =
+    "access(all) contract A {\naccess(all) struct interface D { access(all) fun f() { log(1) } }\naccess(all) struct interface I: D {}\naccess(all) struct interface J: D {}\naccess(all) struct S: I, J {}\n}";
+
+// Two interfaces with a default each.
+const TWO: &str =
+    "access(all) contract A {\naccess(all) struct interface I { access(all) fun f() { log(1) } }\naccess(all) struct interface J { access(all) fun f() { log(2) } }\naccess(all) struct S: I, J {}\n}";
+
+#[test]
+fn a_default_is_inherited_once(rt: HostRuntime) -> Result<(), Fail> {
+    let alloc = rt.alloc();
+    assert_eq!(rt; conformance(alloc, DIAMOND)?.as_str(), "ok");
+    assert_eq!(rt; conformance(alloc, TWO)?.as_str(), "A.S.0");
     Ok(())
 }
