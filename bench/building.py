@@ -10,7 +10,7 @@ usage: bench/building.py
 """
 import pathlib, resource, subprocess, sys, tempfile
 
-from proved import build
+from proved import build, grows
 
 SOURCE = r"""//! Times tables of programs.
 #![tactic(auto)]
@@ -161,8 +161,6 @@ fn main(rt: HostRuntime) -> Result<()> {
 """
 
 KINDS = ["structs", "members", "conforming", "interfaces"]
-COUNTS = [1000, 2000]
-MOST = 2.3
 BELOW = ["cad_syntax", "cad_auth", "cad_types", "cad_grammar", "cad_declarations", "cad_scopes", "cad_contracts", "cad_stop_points", "cad_entries", "cad_tables"]
 
 
@@ -185,14 +183,9 @@ def times(program, kind, count):
 
 
 def main():
-    slow = False
     with tempfile.TemporaryDirectory() as name:
         program = build(pathlib.Path(name), BELOW, "built", ["anyhow"], SOURCE, {}, ["structs", "2", "1", "1"])
-        for kind in KINDS:
-            first, second = (times(program, kind, count) for count in COUNTS)
-            for what, a, b in zip(["build", "look-ups"], first, second):
-                print(f"{kind}, {what}: {a:.2f} ms and {b:.2f} ms, {b / a:.2f} times", flush=True)
-                slow = slow or b / a > MOST
+        slow = grows(KINDS, ["build", "look-ups"], lambda kind, count: times(program, kind, count))
     sys.exit(1 if slow else 0)
 
 

@@ -10,7 +10,7 @@ usage: bench/declarations.py
 """
 import pathlib, subprocess, sys, tempfile
 
-from proved import build
+from proved import build, grows
 
 SOURCE = r"""//! Times tables of declared types.
 #![tactic(auto)]
@@ -95,8 +95,6 @@ fn main(rt: HostRuntime) -> Result<()> {
 """
 
 CHAINS = ["fields", "backwards", "ring", "interfaces"]
-COUNTS = [1000, 2000]
-MOST = 2.3
 
 
 def times(program, chain, count):
@@ -108,14 +106,9 @@ def times(program, chain, count):
 
 
 def main():
-    slow = False
     with tempfile.TemporaryDirectory() as name:
         program = build(pathlib.Path(name), ["cad_syntax", "cad_auth", "cad_types"], "chained", ["anyhow"], SOURCE, {}, ["fields", "2"])
-        for chain in CHAINS:
-            first, second = (times(program, chain, count) for count in COUNTS)
-            for what, a, b in zip(["table", "look-ups"], first, second):
-                print(f"{chain}, {what}: {a:.2f} ms and {b:.2f} ms, {b / a:.2f} times", flush=True)
-                slow = slow or b / a > MOST
+        slow = grows(CHAINS, ["table", "look-ups"], lambda kind, count: times(program, kind, count))
     sys.exit(1 if slow else 0)
 
 

@@ -1,7 +1,9 @@
-"""Builds a small proved program over copies of the repository's crates, for a benchmark to time."""
+"""Builds a small proved program over copies of the repository's crates, for a benchmark to time, and compares its times."""
 import pathlib, shutil, subprocess
 
 ROOT = pathlib.Path(__file__).resolve().parent.parent
+COUNTS = [1000, 2000]
+MOST = 2.3
 
 
 def lines_of(names):
@@ -34,3 +36,15 @@ def build(folder, libraries, name, uses, source, proofs, words):
         file.write_text(text)
     subprocess.run(["rt", "run", "--jobs", "2", "--", *words], cwd=program, check=True, capture_output=True)
     return program / "out" / name
+
+
+def grows(kinds, parts, times):
+    """Prints the times in milliseconds that `times` gives, part by part, for 1,000 and 2,000 of each kind. Whether one of them
+    is over 2.3 times as long for twice as many."""
+    slow = False
+    for kind in kinds:
+        first, second = (times(kind, count) for count in COUNTS)
+        for part, a, b in zip(parts, first, second):
+            print(f"{kind}, {part}: {a:.2f} ms and {b:.2f} ms, {b / a:.2f} times", flush=True)
+            slow = slow or b / a > MOST
+    return slow

@@ -18,7 +18,7 @@ pub enum Part {
 }
 
 /// The tokens of a text. A text that has none fails the test.
-pub fn tokens(alloc: Global, code: &str) -> Result<Tokens, AllocError> {
+pub(crate) fn tokens(alloc: Global, code: &str) -> Result<Tokens, AllocError> {
     match lex(alloc, code.as_bytes()) {
         Ok(tokens) => Ok(tokens),
         Err(_) => Err(AllocError),
@@ -26,14 +26,14 @@ pub fn tokens(alloc: Global, code: &str) -> Result<Tokens, AllocError> {
 }
 
 /// The printed form of a tree, with each name between two of these marks, and shorter types.
-pub fn shown(alloc: Global, text: &str, mark: &str) -> Result<String, AllocError> {
+pub(crate) fn shown(alloc: Global, text: &str, mark: &str) -> Result<String, AllocError> {
     let text = text.replace(alloc, "Name(Text { text: \"", mark)?;
     let text = text.replace(alloc, "\" })", mark)?;
     let text = text.replace(alloc, "Named { name: Items { items: [", "Type[")?;
     text.replace(alloc, "] }, arguments: [] }", "]")
 }
 
-pub fn told_program(alloc: Global, code: &str) -> Result<String, AllocError> {
+pub(crate) fn told_program(alloc: Global, code: &str) -> Result<String, AllocError> {
     match parse_program(alloc, code.as_bytes()) {
         Ok(_) => String::from_str(alloc, "ok"),
         Err(ParseStop::At { phase, at }) => match phase {
@@ -60,7 +60,7 @@ fn compared(alloc: Global, pair: &str) -> &'static str {
 }
 
 /// The statements that a text begins with where so many nestings may be opened, and the number of tokens behind them.
-pub fn told_statements(alloc: Global, left: u32, code: &str) -> Result<String, AllocError> {
+pub(crate) fn told_statements(alloc: Global, left: u32, code: &str) -> Result<String, AllocError> {
     let all = tokens(alloc, code)?;
     let spot = Spot {
         left,
@@ -77,7 +77,7 @@ pub fn told_statements(alloc: Global, left: u32, code: &str) -> Result<String, A
 }
 
 /// The expression that a text begins with where so many nestings are open, and the number of tokens behind it.
-pub fn told_expression(alloc: Global, depth: u32, code: &str) -> Result<String, AllocError> {
+pub(crate) fn told_expression(alloc: Global, depth: u32, code: &str) -> Result<String, AllocError> {
     let all = tokens(alloc, code)?;
     let mut cursor = Cursor {
         tokens: all.as_slice(),
@@ -95,7 +95,11 @@ pub fn told_expression(alloc: Global, depth: u32, code: &str) -> Result<String, 
 
 /// The annotated type that a text begins with where two nestings may be opened, the number of tokens behind it, and that of the
 /// nestings that may still be opened.
-pub fn told_type(alloc: Global, position: TypePosition, code: &str) -> Result<String, AllocError> {
+pub(crate) fn told_type(
+    alloc: Global,
+    position: TypePosition,
+    code: &str,
+) -> Result<String, AllocError> {
     let all = tokens(alloc, code)?;
     let spot = Spot {
         left: 2,
@@ -123,7 +127,7 @@ fn told(alloc: Global, part: Part, code: &str) -> Result<String, AllocError> {
 }
 
 /// The rows that are told otherwise than they say. Of programs a row begins with what is told, of all else with the text.
-pub fn differences(alloc: Global, part: Part, rows: &str) -> Result<String, AllocError> {
+pub(crate) fn differences(alloc: Global, part: Part, rows: &str) -> Result<String, AllocError> {
     let mut out = String::new(alloc);
     for row in rows.split('\n') {
         let Some((front, back)) = row.split_once(" ⇒ ") else {

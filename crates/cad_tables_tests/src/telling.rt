@@ -99,13 +99,13 @@ fn deploy(
 }
 
 /// What a script or a transaction comes to where no contract is deployed.
-pub fn script(alloc: Global, code: &str) -> Result<String, AllocError> {
+pub(crate) fn script(alloc: Global, code: &str) -> Result<String, AllocError> {
     let none = no_contracts(alloc);
     told_beside(alloc, None, &none, code)
 }
 
 /// What a contract comes to where no other is deployed.
-pub fn contract(alloc: Global, code: &str) -> Result<String, AllocError> {
+pub(crate) fn contract(alloc: Global, code: &str) -> Result<String, AllocError> {
     let none = no_contracts(alloc);
     told_beside(alloc, Some(PLACE), &none, code)
 }
@@ -117,27 +117,32 @@ fn one(alloc: Global, a: &str) -> Result<Deployed, AllocError> {
 }
 
 /// What a script comes to beside the contract `A`.
-pub fn script_beside(alloc: Global, a: &str, code: &str) -> Result<String, AllocError> {
+pub(crate) fn script_beside(alloc: Global, a: &str, code: &str) -> Result<String, AllocError> {
     let deployed = one(alloc, a)?;
     told_beside(alloc, None, &deployed, code)
 }
 
 /// What a contract comes to beside the contracts `A` and `B`.
-pub fn contract_beside(alloc: Global, a: &str, b: &str, code: &str) -> Result<String, AllocError> {
+pub(crate) fn contract_beside(
+    alloc: Global,
+    a: &str,
+    b: &str,
+    code: &str,
+) -> Result<String, AllocError> {
     let first = one(alloc, a)?;
     let deployed = deploy(alloc, &first, "B", b)?;
     told_beside(alloc, Some(PLACE), &deployed, code)
 }
 
 /// How many types the contract `A` declares.
-pub fn type_count(alloc: Global, a: &str) -> Result<usize, AllocError> {
+pub(crate) fn type_count(alloc: Global, a: &str) -> Result<usize, AllocError> {
     let deployed = one(alloc, a)?;
     let kinds = deployed_kinds(alloc, &deployed)?;
     Ok(kinds.declared().len())
 }
 
 /// Where the contract `A` doesn't meet an interface, or `ok`.
-pub fn conformance(alloc: Global, a: &str) -> Result<String, AllocError> {
+pub(crate) fn conformance(alloc: Global, a: &str) -> Result<String, AllocError> {
     let none = no_contracts(alloc);
     let program = program_of(alloc, a)?;
     let tables = tables_of(alloc, &program, &none)?;
