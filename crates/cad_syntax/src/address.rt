@@ -8,7 +8,7 @@ use crate::text::{Name, Text};
 use std::alloc::{AllocError, Global};
 
 /// The address of an account.
-#[derive(Clone, Copy, Debug, PartialEq, Eq)]
+#[derive(Clone, Copy, Debug, PartialEq, Eq, Hash)]
 pub struct Address(pub u64);
 
 pub type Addresses = Items<Address>;

@@ -12,7 +12,7 @@ use crate::text::{Name, Text};
 use std::alloc::{AllocError, Global};
 
 /// The identifier of a declared type: the account of its contract, and the names that lead to it, the contract's first.
-#[derive(Debug, Drop, PartialEq, Eq)]
+#[derive(Debug, Drop, PartialEq, Eq, Hash)]
 pub struct TypeId {
     pub address: Address,
     pub names: Names,
