@@ -7,4 +7,4 @@ pub mod Growing
 pub mod Turns
 pub mod Judging
 pub mod Closed
-pub mod Distinct
+pub mod Placed

@@ -70,6 +70,16 @@ pub interface_by : (k : List Declaration) (ids : List TypeId) (id : TypeId) → 
 interface_by k ids id = some_of_two (λ i. same_id i id) (λ i. has (interfaces_of k i) id) ids
 
 -- the marks of an identifier are those at the place of its first declaration
+pub marked_nowhere : (k : List Declaration) (marks : List Marks) (id : TypeId) → place_of k id ≡ None → marked k marks id ≡ unmarked
+marked_nowhere [] marks id e = refl
+marked_nowhere (d ∷ ds) [] id e = refl
+marked_nowhere (d ∷ ds) (m ∷ ms) id e = go (same_id d.id id) (place_of ds id) (marked_nowhere ds ms id) e
+  where
+    go : (b : Bool) (o : Option ℕ) → (o ≡ None → marked ds ms id ≡ unmarked) → cond b (Some 0) (option_map suc o) ≡ None → cond b m (marked ds ms id) ≡ unmarked
+    go true o rest e = cc
+    go false None rest e = rest refl
+    go false (Some p) rest e = cc
+
 pub marked_there : (k : List Declaration) (marks : List Marks) (id : TypeId) (place : ℕ) → place_of k id ≡ Some place → marked k marks id ≡ marks_at marks place
 marked_there [] marks id place e = cc
 marked_there (d ∷ ds) [] id place e = sym (nothing_at place)

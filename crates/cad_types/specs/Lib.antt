@@ -6,5 +6,6 @@ pub mod Declarations
 pub mod Growth
 pub mod Laws
 pub mod Optionals
+pub mod Places
 pub mod Sub
 pub mod Views

@@ -1,14 +1,12 @@
 // Declared types.
-ghost use Rattle.std.specs.Prelude.{◌≡◌, ◌↔◌, IsTrue, IfOk, IfSome, Some, true, map, option_map};
+ghost use Rattle.std.specs.Prelude.{◌≡◌, ◌↔◌, IsTrue, map, option_map};
 ghost use Rattle.std.specs.List.{list_all};
-ghost use Rattle.cad_syntax.specs.TypeIds.{has, type_text};
+ghost use Rattle.cad_syntax.specs.TypeIds.{has};
 ghost use Rattle.cad_syntax.specs.Types.{pure_type};
 ghost use Rattle.cad_types.specs.Declarations as spec;
 ghost use Rattle.cad_types.specs.Code.Declarations as tests;
 
 use cad_syntax::{TypeId, TypeIds, Types, contains};
-use std::alloc::{AllocError, Global};
-use std::collections::HashSet;
 
 /// What a declared type is.
 #[derive(Clone, Copy, Debug, PartialEq, Eq)]
@@ -42,55 +40,6 @@ pub(crate) fn find<'a>(declared: &'a [Declared], id: &TypeId) -> Option<&'a Decl
         }
     }
     None
-}
-
-/// Whether no two identifiers have one text, and so none is declared twice.
-pub(crate) fn are_distinct(alloc: Global, declared: &[Declared]) -> Result<bool, AllocError>
-    ensures { IfOk result (λ distinct. distinct ≡ true → tests.all_distinct (map spec.declaration_of declared.now) ≡ true) }
-{
-    let mut texts = HashSet::new(alloc);
-    let mut left = declared.len();
-    while left > 0 {
-        left -= 1;
-        let text = text_of(alloc, &declared[left].id)?;
-        if !texts.insert(text)? {
-            return Ok(false);
-        }
-    }
-    Ok(true)
-}
-
-/// The bytes of an identifier's text.
-fn text_of(alloc: Global, id: &TypeId) -> Result<Vec<u8>, AllocError>
-    ensures { IfOk result (λ text. text.items ≡ type_text id.now) }
-{
-    let text = id.to_text(alloc)?;
-    text.as_bytes().to_vec(alloc)
-}
-
-/// The declaration at a place, if it is that of the identifier.
-#[tactic(auto, using(crate::proofs::Distinct::first_there))]
-pub(crate) fn find_at<'a>(
-    declared: &'a [Declared],
-    place: usize,
-    id: &TypeId,
-) -> Option<&'a Declared>
-    requires distinct { tests.all_distinct (map spec.declaration_of declared.now) ≡ true }
-    ensures { IfSome result (λ d. spec.found (map spec.declaration_of declared.now) id.now ≡ Some (spec.declaration_of d.now)) }
-{
-    if place < declared.len() && declared[place].id.same(id) {
-        return Some(&declared[place]);
-    }
-    None
-}
-
-/// Whether the declaration at a place is that of the identifier.
-#[tactic(auto, using(crate::proofs::Distinct::first_place))]
-pub(crate) fn is_at(declared: &[Declared], place: usize, id: &TypeId) -> bool
-    requires distinct { tests.all_distinct (map spec.declaration_of declared.now) ≡ true }
-    ensures { IsTrue result → tests.place_of (map spec.declaration_of declared.now) id.now ≡ Some place }
-{
-    place < declared.len() && declared[place].id.same(id)
 }
 
 /// The interfaces that a declared type has.

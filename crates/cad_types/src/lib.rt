@@ -16,4 +16,5 @@ pub use builtin::Builtin;
 pub use classes::{is_exportable, is_importable, is_storable};
 pub use declared::{Declared, Sort, is_closed};
 pub use declared_types::DeclaredTypes;
+pub use places::{Places, places_of};
 pub use subtype::{is_resource, is_subtype};

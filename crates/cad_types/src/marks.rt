@@ -157,7 +157,7 @@ fn marked(table: &TypeTable, marks: &[Marks], id: &TypeId) -> Marks
 {
     match table.place(id) {
         Some(place) => marks_at(marks, place),
-        None => first_marked(table.declared(), marks, id),
+        None => unmarked(),
     }
 }
 
@@ -167,29 +167,19 @@ fn marks_at(marks: &[Marks], place: usize) -> Marks
 {
     match marks.get(place) {
         Some(m) => *m,
-        None => Marks {
-            storable: true,
-            importable: false,
-            carried: false,
-        },
+        None => unmarked(),
     }
 }
 
-/// The marks of the first declaration of an identifier, by a walk over all.
-fn first_marked(declared: &[Declared], marks: &[Marks], id: &TypeId) -> Marks
-    ensures { result ≡ spec.marked (map declaration_of declared.now) marks.now id.now }
+/// The marks of what isn't declared.
+fn unmarked() -> Marks
+    ensures { result ≡ spec.unmarked }
 {
-    let unmarked = Marks {
+    Marks {
         storable: true,
         importable: false,
         carried: false,
-    };
-    for (i, d) in declared.iter().enumerate() {
-        if d.id.same(id) {
-            return marks.get(i).copied().unwrap_or(unmarked);
-        }
     }
-    unmarked
 }
 
 pub(crate) fn is_storable_by(table: &TypeTable, marks: &[Marks], t: &CadType) -> bool

@@ -1,10 +1,9 @@
 // Declared types that are found by their identifiers.
-ghost use Rattle.std.specs.Prelude.{◌≡◌, true, map};
-ghost use Rattle.cad_types.specs.Declarations.{declaration_of};
-ghost use Rattle.cad_types.specs.Code.Declarations.{all_distinct};
+ghost use Rattle.std.specs.Prelude.{◌≡◌, map, IfOk};
+ghost use Rattle.cad_types.specs.Places.{ArePlaces};
 
-use crate::declared::{Declared, are_distinct, find, find_at, is_at};
-use crate::places::Places;
+use crate::declared::Declared;
+use crate::places::{Places, places_of};
 use cad_syntax::TypeId;
 use std::alloc::{AllocError, Global};
 
@@ -13,12 +12,30 @@ use std::alloc::{AllocError, Global};
 pub struct TypeTable {
     declared: Vec<Declared>,
     places: Places,
-    distinct: bool,
-    ghost known: { distinct ≡ true → all_distinct (map declaration_of declared.items) ≡ true },
+    ghost placed: { ArePlaces places (map (λ d. d.id) declared.items) },
+}
+
+/// The first place of each declaration.
+fn placed(alloc: Global, declared: &[Declared]) -> Result<Places, AllocError>
+    ensures { IfOk result (λ places. ArePlaces places (map (λ d. d.id) declared.now)) }
+{
+    let ids = identifiers(alloc, declared)?;
+    places_of(alloc, ids.as_slice())
+}
+
+/// The identifiers of declarations.
+fn identifiers(alloc: Global, declared: &[Declared]) -> Result<Vec<&TypeId>, AllocError>
+    ensures { IfOk result (λ ids. map (λ id. id.now) ids.items ≡ map (λ d. d.id) declared.now) }
+{
+    let mut ids = Vec::new(alloc);
+    for d in declared {
+        ids.push(&d.id)?;
+    }
+    Ok(ids)
 }
 
 impl TypeTable {
-    ghost use Rattle.std.specs.Prelude.{◌≡◌, map, option_map, IfOk, IfSome, Some};
+    ghost use Rattle.std.specs.Prelude.{◌≡◌, map, option_map, IfOk};
     ghost use Rattle.cad_types.specs.Declarations.{declaration_of, found};
     ghost use Rattle.cad_types.specs.Code.Declarations.{place_of};
     ghost use Rattle.cad_types.specs.Code.Views.{listed};
@@ -27,13 +44,8 @@ impl TypeTable {
     pub fn new(alloc: Global, declared: Vec<Declared>) -> Result<TypeTable, AllocError>
         ensures { IfOk result (λ table. listed table ≡ map declaration_of declared.items) }
     {
-        let places = Places::new(alloc, declared.as_slice())?;
-        let distinct = are_distinct(alloc, declared.as_slice())?;
-        Ok(TypeTable {
-            declared,
-            places,
-            distinct,
-        })
+        let places = placed(alloc, declared.as_slice())?;
+        Ok(TypeTable { declared, places })
     }
 
     /// The declarations.
@@ -47,34 +59,19 @@ impl TypeTable {
     pub fn find(&self, id: &TypeId) -> Option<&Declared>
         ensures { option_map (λ d. declaration_of d.now) result ≡ found (listed self.now) id.now }
     {
-        if let Some(d) = self.find_placed(id) {
-            return Some(d);
+        match self.places.get(id) {
+            Some(place) => self.declared.get(*place),
+            None => None,
         }
-        find(self.declared.as_slice(), id)
     }
 
-    /// The declaration of an identifier where its place is known.
-    fn find_placed(&self, id: &TypeId) -> Option<&Declared>
-        ensures { IfSome result (λ d. found (listed self.now) id.now ≡ Some (declaration_of d.now)) }
-    {
-        if !self.distinct {
-            return None;
-        }
-        let place = self.places.find(self.declared.as_slice(), id)?;
-        find_at(self.declared.as_slice(), place, id)
-    }
-
-    /// The place of the first declaration of an identifier, where it is known.
+    /// The place of the first declaration of an identifier.
     pub fn place(&self, id: &TypeId) -> Option<usize>
-        ensures { IfSome result (λ place. place_of (listed self.now) id.now ≡ Some place) }
+        ensures { result ≡ place_of (listed self.now) id.now }
     {
-        if !self.distinct {
-            return None;
+        match self.places.get(id) {
+            Some(place) => Some(*place),
+            None => None,
         }
-        let place = self.places.find(self.declared.as_slice(), id)?;
-        if is_at(self.declared.as_slice(), place, id) {
-            return Some(place);
-        }
-        None
     }
 }

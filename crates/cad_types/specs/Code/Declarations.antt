@@ -1,14 +1,9 @@
 -- Tests of a list of declarations.
-use Rattle.std.specs.Prelude.{ℕ, suc, Bool, true, not, ◌&&◌, List, [], ◌∷◌, Option, Some, None, option_map, if◌then◌else◌}
+use Rattle.std.specs.Prelude.{ℕ, suc, Bool, List, [], ◌∷◌, Option, Some, None, option_map, if◌then◌else◌}
 use Rattle.std.specs.List.{list_all}
 use Rattle.cad_syntax.specs.TypeIds.{same_id, has}
 use Rattle.cad_syntax.specs.declared.type_id.TypeId.{TypeId}
-use Rattle.cad_types.specs.Declarations.{Declaration, is_declared, interfaces_of}
-
--- no identifier is declared twice
-abbrev pub all_distinct : List Declaration → Bool
-all_distinct [] = true
-all_distinct (d ∷ ds) = not (is_declared ds d.id) && all_distinct ds
+use Rattle.cad_types.specs.Declarations.{Declaration, interfaces_of}
 
 -- the place of the first declaration of an identifier
 abbrev pub place_of : List Declaration → TypeId → Option ℕ
