@@ -13,10 +13,10 @@ use Rattle.cad_declarations.specs.Deployed.{linked_type}
 use Rattle.cad_declarations.specs.Imports.{ContractEntry, contract_id, all_imported, is_deployed, import_links, closure}
 use Rattle.cad_declarations.specs.Own.{OwnContract, own_contract, program_scope, parent_links}
 use Rattle.cad_declarations.specs.Points.{Point, is_new, misplaced, declaration_point, types_are_there, transaction_name, contract_points, function_point, transaction_points}
-use Rattle.cad_declarations.specs.Reached.{reached_from, linearised}
+use Rattle.cad_declarations.specs.Reached.{reached_from}
 use Rattle.cad_declarations.specs.declared.link.Link.{Link}
 use Rattle.cad_declarations.specs.Scopes.{Scope}
-use Rattle.cad_declarations.specs.Tables.{TypeEntry, MappingEntry, ProgramTables}
+use Rattle.cad_declarations.specs.Tables.{MappingEntry, ProgramTables}
 use Rattle.cad_declarations.specs.declared.stop.Stop.{Stop}
 
 -- ---- the first stop

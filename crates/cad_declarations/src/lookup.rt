@@ -11,6 +11,7 @@ ghost use Rattle.cad_declarations.specs.Views.{form_of, member_of, type_entry_of
 
 use crate::member::{Member, MemberKind};
 use crate::tables::{Tables, TypeDeclaration};
+use crate::type_declarations::TypeDeclarations;
 use cad_syntax::{Basic, CadType, Name, TypeId, Types};
 use cad_types::{Declared, DeclaredTypes, Sort};
 use std::alloc::{AllocError, Global};
@@ -28,14 +29,14 @@ impl Tables {
     pub fn find(&self, id: &TypeId) -> Option<&TypeDeclaration>
         ensures { option_map (λ t. type_entry_of t.now) result ≡ spec.type_in (tables_of self.now).types id.now }
     {
-        find_type(self.types.as_slice(), id)
+        find_type(&self.types, id)
     }
 
     /// All interfaces that a type has, each before its own parents; none of an identifier that isn't declared.
     pub fn linearised(&self, of: &TypeId) -> &[TypeId]
         ensures { result.now ≡ spec.interfaces_of_type (tables_of self.now) of.now }
     {
-        interfaces(self.types.as_slice(), of)
+        interfaces(&self.types, of)
     }
 
     /// The member of a name that a declared type has, or an intersection, interface by interface. None where there is none; the
@@ -44,9 +45,9 @@ impl Tables {
         ensures { option_map (λ m. member_of m.now) result ≡ spec.member (tables_of self.now) (pure_type of.now) name.now }
     {
         match of {
-            CadType::Declared(id) => declared_member(self.types.as_slice(), name, id),
+            CadType::Declared(id) => declared_member(&self.types, name, id),
             CadType::Intersection(ids) => {
-                first_interface_member(self.types.as_slice(), name, ids.as_slice())
+                first_interface_member(&self.types, name, ids.as_slice())
             }
             _ => None,
         }
@@ -108,15 +109,10 @@ pub fn is_same_name(a: &Name, b: &Name) -> bool
 }
 
 /// The first declaration of an identifier.
-pub fn find_type<'a>(types: &'a [TypeDeclaration], id: &TypeId) -> Option<&'a TypeDeclaration>
+pub fn find_type<'a>(types: &'a TypeDeclarations, id: &TypeId) -> Option<&'a TypeDeclaration>
     ensures { option_map (λ t. type_entry_of t.now) result ≡ spec.type_in (map type_entry_of types.now) id.now }
 {
-    for t in types {
-        if t.id.same(id) {
-            return Some(t);
-        }
-    }
-    None
+    types.find(id)
 }
 
 /// The first member of a name.
@@ -131,7 +127,7 @@ pub fn find_member<'a>(members: &'a [Member], name: &Name) -> Option<&'a Member>
     None
 }
 
-fn interfaces<'a>(types: &'a [TypeDeclaration], id: &TypeId) -> &'a [TypeId]
+fn interfaces<'a>(types: &'a TypeDeclarations, id: &TypeId) -> &'a [TypeId]
     ensures { result.now ≡ spec.interfaces_in (spec.type_in (map type_entry_of types.now) id.now) }
 {
     match find_type(types, id) {
@@ -141,7 +137,7 @@ fn interfaces<'a>(types: &'a [TypeDeclaration], id: &TypeId) -> &'a [TypeId]
 }
 
 /// What a type declares itself under a name.
-pub fn own_member<'a>(types: &'a [TypeDeclaration], name: &Name, id: &TypeId) -> Option<&'a Member>
+pub fn own_member<'a>(types: &'a TypeDeclarations, name: &Name, id: &TypeId) -> Option<&'a Member>
     ensures { option_map (λ m. member_of m.now) result ≡ spec.own_member (map type_entry_of types.now) name.now id.now }
 {
     match find_type(types, id) {
@@ -161,7 +157,7 @@ fn has_body(kind: &MemberKind) -> bool
 }
 
 /// The function of a name that an interface has with a body.
-pub fn default_in<'a>(types: &'a [TypeDeclaration], name: &Name, id: &TypeId) -> Option<&'a Member>
+pub fn default_in<'a>(types: &'a TypeDeclarations, name: &Name, id: &TypeId) -> Option<&'a Member>
     ensures { option_map (λ m. member_of m.now) result ≡ spec.default_in (map type_entry_of types.now) name.now id.now }
 {
     match own_member(types, name, id) {
@@ -181,7 +177,7 @@ fn if_default(member: &Member) -> Option<&Member>
 }
 
 /// What the first of these types that declares the name declares under it.
-fn first_own<'a>(types: &'a [TypeDeclaration], name: &Name, ids: &[TypeId]) -> Option<&'a Member>
+fn first_own<'a>(types: &'a TypeDeclarations, name: &Name, ids: &[TypeId]) -> Option<&'a Member>
     ensures { option_map (λ m. member_of m.now) result ≡ spec.first_some (spec.own_member (map type_entry_of types.now) name.now) ids.now }
 {
     for id in ids {
@@ -194,7 +190,7 @@ fn first_own<'a>(types: &'a [TypeDeclaration], name: &Name, ids: &[TypeId]) -> O
 
 /// The first body of a function of this name in these interfaces.
 fn first_default<'a>(
-    types: &'a [TypeDeclaration],
+    types: &'a TypeDeclarations,
     name: &Name,
     ids: &[TypeId],
 ) -> Option<&'a Member>
@@ -210,7 +206,7 @@ fn first_default<'a>(
 
 /// The member of an interface: the first of its name, in itself and then in its parents.
 pub fn interface_member<'a>(
-    types: &'a [TypeDeclaration],
+    types: &'a TypeDeclarations,
     name: &Name,
     id: &TypeId,
 ) -> Option<&'a Member>
@@ -224,7 +220,7 @@ pub fn interface_member<'a>(
 
 /// The member of an intersection, interface by interface.
 fn first_interface_member<'a>(
-    types: &'a [TypeDeclaration],
+    types: &'a TypeDeclarations,
     name: &Name,
     ids: &[TypeId],
 ) -> Option<&'a Member>
@@ -240,7 +236,7 @@ fn first_interface_member<'a>(
 
 /// The member of a composite: its own, else the first body in its interfaces.
 fn composite_member<'a>(
-    types: &'a [TypeDeclaration],
+    types: &'a TypeDeclarations,
     name: &Name,
     id: &TypeId,
 ) -> Option<&'a Member>
@@ -252,7 +248,7 @@ fn composite_member<'a>(
     first_default(types, name, interfaces(types, id))
 }
 
-fn declared_member<'a>(types: &'a [TypeDeclaration], name: &Name, id: &TypeId) -> Option<&'a Member>
+fn declared_member<'a>(types: &'a TypeDeclarations, name: &Name, id: &TypeId) -> Option<&'a Member>
     ensures { option_map (λ m. member_of m.now) result ≡ spec.declared_member (map type_entry_of types.now) name.now id.now }
 {
     if is_interface(types, id) {
@@ -262,7 +258,7 @@ fn declared_member<'a>(types: &'a [TypeDeclaration], name: &Name, id: &TypeId) -
     }
 }
 
-fn is_interface(types: &[TypeDeclaration], id: &TypeId) -> bool
+fn is_interface(types: &TypeDeclarations, id: &TypeId) -> bool
     ensures { result ≡ spec.is_interface_entry (spec.type_in (map type_entry_of types.now) id.now) }
 {
     match find_type(types, id) {

@@ -5,6 +5,7 @@ ghost use Rattle.cad_declarations.specs.Kinds.{declaration_of};
 ghost use Rattle.cad_declarations.specs.MemberViews.{type_entry_of};
 
 use crate::member::{Member, Signature};
+use crate::type_declarations::TypeDeclarations;
 use cad_auth::Mapping;
 use cad_syntax::{Address, Kind, Names, TypeId, TypeIds};
 use cad_types::Sort;
@@ -43,11 +44,11 @@ pub struct Tables {
     pub contract: Option<TypeId>,
     /// The contracts that it imports by name, in order.
     pub imports: TypeIds,
-    pub types: Vec<TypeDeclaration>,
+    pub types: TypeDeclarations,
     pub entitlements: TypeIds,
     pub mappings: Vec<MappingDeclaration>,
     /// The functions that stand outside a contract.
     pub functions: Vec<Member>,
     /// The interfaces of an interface that a type has are its own too.
-    pub ghost closed: { IsClosed (map declaration_of (map type_entry_of types.items)) },
+    pub ghost closed: { IsClosed (map declaration_of (map type_entry_of types)) },
 }

@@ -1,5 +1,5 @@
 -- What looking at one identifier after another does, and how many looks are left.
-use Rattle.std.specs.Prelude.{ℕ, ◌+◌, List, [], ◌∷◌, ◌++◌, length, if◌then◌else◌}
+use Rattle.std.specs.Prelude.{ℕ, ◌+◌, Option, Some, None, List, [], ◌∷◌, ◌++◌, length, if◌then◌else◌}
 use Rattle.cad_syntax.specs.TypeIds.{has}
 use Rattle.cad_syntax.specs.declared.type_id.TypeId.{TypeId}
 use Rattle.cad_declarations.specs.Reached.{linked}
@@ -21,3 +21,8 @@ unseen (l ∷ links) seen = (if has seen l.id then 0 else length l.to) + unseen 
 -- how many looks are left at most
 abbrev pub left : List Link → List TypeId → List TypeId → ℕ
 left links seen ahead = length ahead + unseen links seen
+
+-- where a link leads, if there is one
+abbrev pub targets : Option Link → List TypeId
+targets None = []
+targets (Some link) = link.to

@@ -1,6 +1,6 @@
 use Rattle.std.proofs.Common.{◌≡◌, drop, map}
 use Rattle.cad_declarations.specs.Members as spec
-use Rattle.cad_declarations.specs.Views.{member_of, type_entry_of}
+use Rattle.cad_declarations.specs.Views.{member_of}
 use Rattle.cad_declarations.proofs.lookup.find_member.Given as goal
 
 abbrev pub invariant-loop-member : goal.invariant-loop-member
