@@ -10,7 +10,7 @@ ghost use Rattle.cad_conform.specs.Refusals.{Refuses, IsStop};
 
 use crate::meets::member_meets;
 use cad_declarations::{
-    Member, Refused, Stop, Tables, TypeDeclaration, default_in, find_type, interface_member,
+    Member, Refused, Stop, Tables, TypeDeclaration, TypeDeclarations, default_in, find_type, interface_member,
     is_interface_sort, is_same_name, own_member,
 };
 use cad_syntax::{Name, TypeId};
@@ -45,12 +45,11 @@ fn stop_at(t: &TypeDeclaration) -> Refused<Stop>
 
 /// The first type of the program's contract that doesn't meet its interfaces.
 fn first_unmet<'a>(types: &DeclaredTypes, tables: &'a Tables) -> Option<&'a TypeDeclaration>
-    ensures none { IsNone result → Each (spec.Meets (declarations types.now) (map type_entry_of tables.now.types.items)) (spec.own_types tables.now.contract (map type_entry_of tables.now.types.items)) }
-    ensures some { IfSome result (λ t. spec.IsUnmet (declarations types.now) (map type_entry_of tables.now.types.items) (spec.own_types tables.now.contract (map type_entry_of tables.now.types.items)) (type_entry_of t.now)) }
+    ensures none { IsNone result → Each (spec.Meets (declarations types.now) (map type_entry_of tables.now.types)) (spec.own_types tables.now.contract (map type_entry_of tables.now.types)) }
+    ensures some { IfSome result (λ t. spec.IsUnmet (declarations types.now) (map type_entry_of tables.now.types) (spec.own_types tables.now.contract (map type_entry_of tables.now.types)) (type_entry_of t.now)) }
 {
-    let all = tables.types.as_slice();
-    for t in all {
-        if is_own(&tables.contract, &t.id) && !meets(types, all, t) {
+    for t in tables.types.as_slice() {
+        if is_own(&tables.contract, &t.id) && !meets(types, &tables.types, t) {
             return Some(t);
         }
     }
@@ -91,7 +90,7 @@ fn begin_with(names: &[Name], first: &[Name]) -> bool
 }
 
 /// Whether a type meets all interfaces that it has.
-fn meets(types: &DeclaredTypes, all: &[TypeDeclaration], t: &TypeDeclaration) -> bool
+fn meets(types: &DeclaredTypes, all: &TypeDeclarations, t: &TypeDeclaration) -> bool
     ensures { IsTrue result ↔ spec.Meets (declarations types.now) (map type_entry_of all.now) (type_entry_of t.now) }
 {
     for i in t.interfaces.as_slice() {
@@ -104,7 +103,7 @@ fn meets(types: &DeclaredTypes, all: &[TypeDeclaration], t: &TypeDeclaration) ->
 
 fn meets_interface(
     types: &DeclaredTypes,
-    all: &[TypeDeclaration],
+    all: &TypeDeclarations,
     t: &TypeDeclaration,
     interface: &TypeId,
 ) -> bool
@@ -119,7 +118,7 @@ fn meets_interface(
 }
 
 /// What a type declares itself.
-fn members_of<'a>(all: &'a [TypeDeclaration], id: &TypeId) -> &'a [Member]
+fn members_of<'a>(all: &'a TypeDeclarations, id: &TypeId) -> &'a [Member]
     ensures { map member_of result.now ≡ members.members_in (members.type_in (map type_entry_of all.now) id.now) }
 {
     match find_type(all, id) {
@@ -139,7 +138,7 @@ fn offers(types: &DeclaredTypes, own: Option<&Member>, asked: &Member) -> bool
 }
 
 /// What stands in a type for the members of a name that its interfaces have.
-fn offer<'a>(all: &'a [TypeDeclaration], t: &TypeDeclaration, name: &Name) -> Option<&'a Member>
+fn offer<'a>(all: &'a TypeDeclarations, t: &TypeDeclaration, name: &Name) -> Option<&'a Member>
     ensures { option_map (λ m. member_of m.now) result ≡ spec.offer (map type_entry_of all.now) (type_entry_of t.now) name.now }
 {
     if is_interface_sort(t.sort) {
@@ -150,7 +149,7 @@ fn offer<'a>(all: &'a [TypeDeclaration], t: &TypeDeclaration, name: &Name) -> Op
 }
 
 fn composite_offer<'a>(
-    all: &'a [TypeDeclaration],
+    all: &'a TypeDeclarations,
     t: &TypeDeclaration,
     name: &Name,
 ) -> Option<&'a Member>
@@ -163,7 +162,7 @@ fn composite_offer<'a>(
 }
 
 /// The only body that interfaces have for a name.
-fn only_default<'a>(all: &'a [TypeDeclaration], name: &Name, ids: &[TypeId]) -> Option<&'a Member>
+fn only_default<'a>(all: &'a TypeDeclarations, name: &Name, ids: &[TypeId]) -> Option<&'a Member>
     ensures { option_map (λ m. member_of m.now) result ≡ spec.only (filter_map (members.default_in (map type_entry_of all.now) name.now) ids.now) }
 {
     let mut found: Option<&Member> = None;

@@ -6,4 +6,4 @@ use Rattle.cad_conform.proofs.conform.first_unmet.Given as goal
 
 abbrev pub invariant-loop-t : goal.invariant-loop-t
 invariant-loop-t l =
-    Each (Meets (declarations l.types) (map type_entry_of l.tables.types.items)) (own_types l.tables.contract (map type_entry_of (take l.t-index l.tables.types.items)))
+    Each (Meets (declarations l.types) (map type_entry_of l.tables.types)) (own_types l.tables.contract (map type_entry_of (take l.t-index l.tables.types)))
