@@ -5,7 +5,7 @@ ghost use Rattle.cad_syntax.specs.TypeIds.{same_id};
 ghost use Rattle.cad_declarations.specs.Imports as spec;
 ghost use Rattle.cad_contracts.specs.Views.{entry_of};
 
-use cad_declarations::{Installed, Link, Tables, is_same_name, reached_from};
+use cad_declarations::{Installed, Link, Links, Tables, is_same_name, reached_from};
 use cad_grammar::Import;
 use cad_syntax::{Address, Name, Names, TypeId, TypeIds};
 use std::alloc::{AllocError, Global};
@@ -103,8 +103,8 @@ fn import_link(alloc: Global, contract: &Installed) -> Result<Link, AllocError>
     })
 }
 
-/// From each contract to those that it imports.
-pub fn import_links(alloc: Global, contracts: &[Installed]) -> Result<Vec<Link>, AllocError>
+/// From each contract to those that it imports, in order.
+fn all_import_links(alloc: Global, contracts: &[Installed]) -> Result<Vec<Link>, AllocError>
     ensures { IfOk result (λ links. links.items ≡ spec.import_links (map entry_of contracts.now)) }
 {
     let mut links = Vec::new(alloc);
@@ -112,6 +112,14 @@ pub fn import_links(alloc: Global, contracts: &[Installed]) -> Result<Vec<Link>,
         links.push(import_link(alloc, contract)?)?;
     }
     Ok(links)
+}
+
+/// From each contract to those that it imports.
+pub fn import_links(alloc: Global, contracts: &[Installed]) -> Result<Links, AllocError>
+    ensures { IfOk result (λ links. links ≡ spec.import_links (map entry_of contracts.now)) }
+{
+    let links = all_import_links(alloc, contracts)?;
+    Links::new(alloc, links)
 }
 
 /// The address of an import, which is that of a contract.
@@ -173,6 +181,6 @@ pub fn closure<'a>(
     ensures { IfOk result (λ found. map (λ c. entry_of c.now) found.items ≡ spec.closure (map entry_of contracts.now) ids.now) }
 {
     let links = import_links(alloc, contracts)?;
-    let reached = reached_from(alloc, links.as_slice(), ids)?;
+    let reached = reached_from(alloc, &links, ids)?;
     found_contracts(alloc, contracts, reached.as_slice())
 }

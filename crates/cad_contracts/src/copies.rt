@@ -6,10 +6,7 @@ ghost use Rattle.cad_contracts.specs.Views.{entry_of};
 
 use crate::contracts::{is_part, tables_in};
 use cad_auth::Mapping;
-use cad_declarations::{
-    Installed, Link, MappingDeclaration, Member, MemberAccess, MemberKind, Parameter, Signature,
-    TypeDeclaration, linearised,
-};
+use cad_declarations::{Installed, Links, MappingDeclaration, Member, MemberAccess, MemberKind, Parameter, Signature, TypeDeclaration, linearised};
 use cad_syntax::{Name, Pairs, TypeId};
 use std::alloc::{AllocError, Global};
 
@@ -125,7 +122,7 @@ fn copied_members(alloc: Global, all: &[Member]) -> Result<Vec<Member>, AllocErr
 /// A copy of a declared type with all interfaces that it has by these links.
 fn linked_copy(
     alloc: Global,
-    links: &[Link],
+    links: &Links,
     t: &TypeDeclaration,
 ) -> Result<TypeDeclaration, AllocError>
     ensures { IfOk result (λ copy. type_entry_of copy ≡ linked_type links.now (type_entry_of t.now)) }
@@ -146,7 +143,7 @@ fn linked_copy(
 pub fn push_linked_types(
     all: &mut Vec<TypeDeclaration>,
     alloc: Global,
-    links: &[Link],
+    links: &Links,
     contract: &Installed,
 ) -> Result<(), AllocError>
     ensures { OnOk result (map type_entry_of all.new.items ≡ map type_entry_of all.old.items ++ map (linked_type links.now) (entry_of contract.now).types) }

@@ -10,7 +10,7 @@ ghost use Rattle.cad_contracts.specs.Views.{entry_of};
 
 use crate::contracts::{is_part, tables_in};
 use crate::own::Own;
-use cad_declarations::{Installed, Link};
+use cad_declarations::{Installed, Link, Links};
 use cad_grammar::{ContractMember, Dotted};
 use cad_scopes::{Scope, inside, resolved_interface};
 use cad_syntax::{Name, TypeId, TypeIds};
@@ -45,8 +45,8 @@ fn push_imported_links(links: &mut Vec<Link>, contract: &Installed) -> Result<()
     Ok(())
 }
 
-/// Links to the interfaces that the types of deployed contracts name.
-pub fn imported_links(alloc: Global, contracts: &[&Installed]) -> Result<Vec<Link>, AllocError>
+/// Links to the interfaces that the types of deployed contracts name, in order.
+fn all_imported_links(alloc: Global, contracts: &[&Installed]) -> Result<Vec<Link>, AllocError>
     ensures { IfOk result (λ links. links.items ≡ flat_map parent_links_of (map (λ c. entry_of c.now) contracts.now)) }
 {
     let mut links = Vec::new(alloc);
@@ -54,6 +54,14 @@ pub fn imported_links(alloc: Global, contracts: &[&Installed]) -> Result<Vec<Lin
         push_imported_links(&mut links, contract)?;
     }
     Ok(links)
+}
+
+/// Links to the interfaces that the types of deployed contracts name.
+pub fn imported_links(alloc: Global, contracts: &[&Installed]) -> Result<Links, AllocError>
+    ensures { IfOk result (λ links. links ≡ flat_map parent_links_of (map (λ c. entry_of c.now) contracts.now)) }
+{
+    let links = all_imported_links(alloc, contracts)?;
+    Links::new(alloc, links)
 }
 
 /// Appends a link from a type to the interfaces that it names.
@@ -131,12 +139,12 @@ pub fn parent_links(
     scope: Scope<'_>,
     imports: &[&Installed],
     own: &Option<Own<'_>>,
-) -> Result<Vec<Link>, AllocError>
-    ensures { IfOk result (λ links. links.items ≡ spec.parent_links (map (λ c. entry_of c.now) imports.now) (scope_of scope.entry) (option_map own_of own.now)) }
+) -> Result<Links, AllocError>
+    ensures { IfOk result (λ links. links ≡ spec.parent_links (map (λ c. entry_of c.now) imports.now) (scope_of scope.entry) (option_map own_of own.now)) }
 {
-    let mut links = imported_links(alloc, imports)?;
+    let mut links = all_imported_links(alloc, imports)?;
     if let Some(own) = own {
         push_links_in(&mut links, alloc, scope, own)?;
     }
-    Ok(links)
+    Links::new(alloc, links)
 }

@@ -2,7 +2,7 @@ use Rattle.std.proofs.Common.{◌≡◌, ◌++◌, map, drop}
 use Rattle.std.specs.List.{flat_map}
 use Rattle.cad_contracts.specs.Views.{entry_of}
 use Rattle.cad_declarations.specs.Deployed.{parent_links_of}
-use Rattle.cad_contracts.proofs.links.imported_links.Given as goal
+use Rattle.cad_contracts.proofs.links.all_imported_links.Given as goal
 
 abbrev pub invariant-loop-contract : goal.invariant-loop-contract
 invariant-loop-contract l =
