@@ -6,12 +6,13 @@ ghost use Rattle.cad_declarations.specs.Points as spec;
 ghost use Rattle.cad_declarations.specs.Reached as reached;
 ghost use Rattle.cad_scopes.specs.Views.{scope_of};
 
+use crate::before::NamesBefore;
 use crate::names::{
     below, composite_member_name, interface_member_name, is_new, names_of_composite,
 };
 use crate::points::{event_stop, function_stop, init_stop, unless_right};
 use crate::right::{access_is_there, field_is_right, interfaces_are_there};
-use cad_declarations::{Link, Stop, linearised};
+use cad_declarations::{Links, Stop, linearised};
 use cad_grammar::{Composite, CompositeKind, CompositeMember, Event, Interface, InterfaceMember};
 use cad_scopes::{Scope, is_spelled};
 use cad_syntax::{Name, TypeId, contains};
@@ -35,7 +36,7 @@ fn has_destroyed_event(kind: CompositeKind) -> bool
 fn composite_field_is_right(
     alloc: Global,
     scope: Scope<'_>,
-    before: &[Name],
+    before: &NamesBefore,
     member: &CompositeMember,
 ) -> Result<bool, AllocError>
     ensures { IfOk result (λ b. b ≡ spec.composite_field_is_right (scope_of scope.entry) (reverse before.now) (composite_member_of member.now)) }
@@ -58,7 +59,7 @@ fn composite_fields_are_right(
 {
     let mut before = names_of_composite(alloc, kind)?;
     for member in members {
-        if !composite_field_is_right(alloc, scope, before.as_slice(), member)? {
+        if !composite_field_is_right(alloc, scope, &before, member)? {
             return Ok(false);
         }
         before.push(composite_member_name(alloc, member)?)?;
@@ -72,7 +73,7 @@ fn composite_member_stop(
     scope: Scope<'_>,
     kind: CompositeKind,
     names: &[Name],
-    before: &[Name],
+    before: &NamesBefore,
     member: &CompositeMember,
 ) -> Result<Option<Stop>, AllocError>
     ensures { IfOk result (λ s. s ≡ build.first_stop (scope_of scope.entry) (spec.composite_member_points (scope_of scope.entry) kind names.now (reverse before.now) (composite_member_of member.now))) }
@@ -106,7 +107,7 @@ fn composite_members_stop(
             scope,
             kind,
             names,
-            before.as_slice(),
+            &before,
             member,
         )? {
             return Ok(Some(stop));
@@ -120,7 +121,7 @@ fn composite_members_stop(
 fn composite_is_right(
     alloc: Global,
     scope: Scope<'_>,
-    before: &[Name],
+    before: &NamesBefore,
     x: &Composite,
 ) -> Result<bool, AllocError>
     ensures { IfOk result (λ b. b ≡ (spec.is_new (reverse before.now) x.now.name && (spec.access_is_there (scope_of scope.entry) x.now.access && (spec.interfaces_are_there (scope_of scope.entry) x.now.kind x.now.conformances && spec.composite_fields_are_right (scope_of scope.entry) (spec.names_of_composite x.now.kind) (map composite_member_of x.now.members.items))))) }
@@ -136,7 +137,7 @@ pub fn composite_stop(
     alloc: Global,
     scope: Scope<'_>,
     names: &[Name],
-    before: &[Name],
+    before: &NamesBefore,
     x: &Composite,
 ) -> Result<Option<Stop>, AllocError>
     ensures { IfOk result (λ s. s ≡ build.first_stop (scope_of scope.entry) (spec.composite_points (scope_of scope.entry) names.now (reverse before.now) (composite_of x.now))) }
@@ -159,7 +160,7 @@ pub fn composite_stop(
 fn interface_field_is_right(
     alloc: Global,
     scope: Scope<'_>,
-    before: &[Name],
+    before: &NamesBefore,
     member: &InterfaceMember,
 ) -> Result<bool, AllocError>
     ensures { IfOk result (λ b. b ≡ spec.interface_field_is_right (scope_of scope.entry) (reverse before.now) (interface_member_of member.now)) }
@@ -182,7 +183,7 @@ fn interface_fields_are_right(
 {
     let mut before = names_of_composite(alloc, kind)?;
     for member in members {
-        if !interface_field_is_right(alloc, scope, before.as_slice(), member)? {
+        if !interface_field_is_right(alloc, scope, &before, member)? {
             return Ok(false);
         }
         before.push(interface_member_name(member)?)?;
@@ -195,7 +196,7 @@ fn interface_member_stop(
     alloc: Global,
     scope: Scope<'_>,
     names: &[Name],
-    before: &[Name],
+    before: &NamesBefore,
     member: &InterfaceMember,
 ) -> Result<Option<Stop>, AllocError>
     ensures { IfOk result (λ s. s ≡ build.first_stop (scope_of scope.entry) (spec.interface_member_points (scope_of scope.entry) names.now (reverse before.now) (interface_member_of member.now))) }
@@ -219,7 +220,7 @@ fn interface_members_stop(
 {
     let mut before = names_of_composite(alloc, kind)?;
     for member in members {
-        if let Some(stop) = interface_member_stop(alloc, scope, names, before.as_slice(), member)? {
+        if let Some(stop) = interface_member_stop(alloc, scope, names, &before, member)? {
             return Ok(Some(stop));
         }
         before.push(interface_member_name(member)?)?;
@@ -228,7 +229,7 @@ fn interface_members_stop(
 }
 
 /// Whether a chain of links returns to the identifier.
-fn is_on_circle(alloc: Global, links: &[Link], id: &TypeId) -> Result<bool, AllocError>
+fn is_on_circle(alloc: Global, links: &Links, id: &TypeId) -> Result<bool, AllocError>
     ensures { IfOk result (λ b. b ≡ reached.is_on_circle links.now id.now) }
 {
     let reached = linearised(alloc, links, id)?;
@@ -239,9 +240,9 @@ fn is_on_circle(alloc: Global, links: &[Link], id: &TypeId) -> Result<bool, Allo
 fn interface_is_right(
     alloc: Global,
     scope: Scope<'_>,
-    links: &[Link],
+    links: &Links,
     id: &TypeId,
-    before: &[Name],
+    before: &NamesBefore,
     x: &Interface,
 ) -> Result<bool, AllocError>
     ensures { IfOk result (λ b. b ≡ (spec.is_new (reverse before.now) x.now.name && (spec.access_is_there (scope_of scope.entry) x.now.access && (spec.interfaces_are_there (scope_of scope.entry) x.now.kind x.now.conformances && (not (reached.is_on_circle links.now id.now) && spec.interface_fields_are_right (scope_of scope.entry) (spec.names_of_composite x.now.kind) (map interface_member_of x.now.members.items)))))) }
@@ -257,10 +258,10 @@ fn interface_is_right(
 pub fn interface_stop(
     alloc: Global,
     scope: Scope<'_>,
-    links: &[Link],
+    links: &Links,
     id: &TypeId,
     names: &[Name],
-    before: &[Name],
+    before: &NamesBefore,
     x: &Interface,
 ) -> Result<Option<Stop>, AllocError>
     ensures { IfOk result (λ s. s ≡ build.first_stop (scope_of scope.entry) (spec.interface_points (scope_of scope.entry) links.now id.now names.now (reverse before.now) (interface_of x.now))) }

@@ -1,6 +1,7 @@
 //! Where functions, composites and interfaces are refused.
 #![tactic(auto)]
 
+mod before;
 mod body_rows;
 mod composite_points;
 mod expression_types;
@@ -9,6 +10,7 @@ mod points;
 mod right;
 mod walk;
 
+pub use before::NamesBefore;
 pub use body_rows::{missing_in_body, missing_in_conditions};
 pub use composite_points::{composite_stop, interface_stop, is_destroyed_event};
 pub use names::{

@@ -1,12 +1,11 @@
-// Names that declarations have, and those before them. Lists of names before have the last at their end, where the
-// definitions have it in front.
+// Names that declarations have, and those before them.
 ghost use Rattle.std.specs.Prelude.{◌≡◌, ◌++◌, ◌∷◌, [], map, reverse, IfOk, OnOk};
 ghost use Rattle.cad_grammar.specs.Views.{composite_member_of, interface_member_of, contract_member_of, decl_of};
 ghost use Rattle.cad_declarations.specs.Build as build;
 ghost use Rattle.cad_declarations.specs.Names as names;
 ghost use Rattle.cad_declarations.specs.Points as spec;
 
-use cad_declarations::is_same_name;
+use crate::before::NamesBefore;
 use cad_grammar::{CompositeKind, CompositeMember, ContractMember, Decl, Import, InterfaceMember};
 use cad_syntax::{Name, Names, Text};
 use std::alloc::{AllocError, Global};
@@ -18,19 +17,12 @@ pub fn word(alloc: Global, text: &str) -> Result<Name, AllocError>
     Ok(Name(Text::from_str(alloc, text)?))
 }
 
-/// Whether a name is one of a list.
-fn has_name(all: &[Name], name: &Name) -> bool
-    ensures { result ≡ names.has_name all.now name.now }
-{
-    all.iter().any(|other| is_same_name(other, name))
-}
-
 /// Whether no declaration before has the name.
 #[tactic(auto, using(crate::proofs::Lists::has_reversed))]
-pub fn is_new(before: &[Name], name: &Name) -> bool
+pub fn is_new(before: &NamesBefore, name: &Name) -> bool
     ensures { result ≡ spec.is_new (reverse before.now) name.now }
 {
-    !has_name(before, name)
+    !before.has(name)
 }
 
 /// A name of its own behind those of the declaration in which it stands.
@@ -44,7 +36,7 @@ pub(crate) fn below(alloc: Global, all: &[Name], name: &Name) -> Result<Names, A
 
 /// Puts names behind those before, the last at the end.
 #[tactic(auto, using(crate::proofs::Lists::reversed_one))]
-pub fn push_names(before: &mut Names, all: &[Name]) -> Result<(), AllocError>
+pub fn push_names(before: &mut NamesBefore, all: &[Name]) -> Result<(), AllocError>
     ensures { OnOk result (reverse before.new ≡ build.with_names all.now (reverse before.old)) }
 {
     for name in all {
@@ -55,10 +47,10 @@ pub fn push_names(before: &mut Names, all: &[Name]) -> Result<(), AllocError>
 
 /// The names that a program's imports bring in.
 #[tactic(auto)]
-pub fn import_names(alloc: Global, imports: &[Import]) -> Result<Names, AllocError>
+pub fn import_names(alloc: Global, imports: &[Import]) -> Result<NamesBefore, AllocError>
     ensures { IfOk result (λ all. reverse all ≡ build.with_names (build.import_names imports.now) []) }
 {
-    let mut all = Names::new(alloc);
+    let mut all = NamesBefore::new(alloc);
     for import in imports {
         push_names(&mut all, import.names.as_slice())?;
     }
@@ -66,10 +58,10 @@ pub fn import_names(alloc: Global, imports: &[Import]) -> Result<Names, AllocErr
 }
 
 /// The built-in members of declared types.
-fn names_of_any(alloc: Global) -> Result<Names, AllocError>
+fn names_of_any(alloc: Global) -> Result<NamesBefore, AllocError>
     ensures { IfOk result (λ all. reverse all ≡ spec.names_of_any) }
 {
-    let mut all = Names::new(alloc);
+    let mut all = NamesBefore::new(alloc);
     all.push(word(alloc, "isInstance")?)?;
     all.push(word(alloc, "getType")?)?;
     Ok(all)
@@ -77,7 +69,7 @@ fn names_of_any(alloc: Global) -> Result<Names, AllocError>
 
 /// The built-in members of contracts.
 #[tactic(auto, using(crate::proofs::Lists::reversed_one))]
-pub fn names_of_contract(alloc: Global) -> Result<Names, AllocError>
+pub fn names_of_contract(alloc: Global) -> Result<NamesBefore, AllocError>
     ensures { IfOk result (λ all. reverse all ≡ spec.names_of_contract) }
 {
     let mut all = names_of_any(alloc)?;
@@ -87,7 +79,7 @@ pub fn names_of_contract(alloc: Global) -> Result<Names, AllocError>
 
 /// The built-in members of structs or resources.
 #[tactic(auto, using(crate::proofs::Lists::reversed_one))]
-pub(crate) fn names_of_composite(alloc: Global, kind: CompositeKind) -> Result<Names, AllocError>
+pub(crate) fn names_of_composite(alloc: Global, kind: CompositeKind) -> Result<NamesBefore, AllocError>
     ensures { IfOk result (λ all. reverse all ≡ spec.names_of_composite kind) }
 {
     match kind {

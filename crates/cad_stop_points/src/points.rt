@@ -7,6 +7,7 @@ ghost use Rattle.cad_scopes.specs.Views.{scope_of};
 ghost use Rattle.cad_stop_points.specs.Code.Stops as stops;
 
 use crate::body_rows::{missing_in_block, missing_in_option};
+use crate::before::NamesBefore;
 use crate::names::{below, is_new, word};
 use crate::right::{event_is_right, head_is_there, parameters_are_there};
 use cad_declarations::Stop;
@@ -57,7 +58,7 @@ pub fn function_stop(
     alloc: Global,
     scope: Scope<'_>,
     names: &[Name],
-    before: &[Name],
+    before: &NamesBefore,
     x: &Function,
 ) -> Result<Option<Stop>, AllocError>
     ensures { IfOk result (λ s. s ≡ build.point_stop (scope_of scope.entry) (spec.function_point (scope_of scope.entry) names.now (reverse before.now) (function_of x.now))) }
@@ -75,7 +76,7 @@ pub fn init_stop(
     alloc: Global,
     scope: Scope<'_>,
     names: &[Name],
-    before: &[Name],
+    before: &NamesBefore,
     x: &Init,
 ) -> Result<Option<Stop>, AllocError>
     ensures { IfOk result (λ s. s ≡ build.point_stop (scope_of scope.entry) (spec.init_point (scope_of scope.entry) names.now (reverse before.now) (init_of x.now))) }
@@ -93,7 +94,7 @@ pub fn event_stop(
     alloc: Global,
     scope: Scope<'_>,
     names: &[Name],
-    before: &[Name],
+    before: &NamesBefore,
     is_placed: bool,
     x: &Event,
 ) -> Result<Option<Stop>, AllocError>

@@ -10,6 +10,7 @@ ghost use Rattle.cad_declarations.specs.Written as written_types;
 ghost use Rattle.cad_scopes.specs.Views.{meaning_view, scope_of};
 
 use crate::expression_types::types_in_option;
+use crate::before::NamesBefore;
 use crate::names::is_new;
 use cad_grammar::{
     Access, CompositeKind, Dotted, Event, EventParameter, Field, Function, Parameter,
@@ -161,7 +162,7 @@ pub(crate) fn interfaces_are_there(
 pub fn field_is_right(
     alloc: Global,
     scope: Scope<'_>,
-    before: &[Name],
+    before: &NamesBefore,
     x: &Field,
 ) -> Result<bool, AllocError>
     ensures { IfOk result (λ b. b ≡ spec.field_is_right (scope_of scope.entry) (reverse before.now) (field_of x.now)) }
