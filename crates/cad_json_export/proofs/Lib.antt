@@ -1,0 +1,4 @@
+pub mod Plain
+pub mod Pushes
+pub mod Laws
+pub mod Turns

@@ -1,0 +1,9 @@
+//! Values to their JSON.
+#![tactic(auto)]
+
+mod form;
+mod text;
+mod word;
+mod writing;
+
+pub use writing::export;
