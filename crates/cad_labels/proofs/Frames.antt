@@ -15,7 +15,7 @@ use Rattle.cad_labels.proofs.Places.{ending_keeps, bare_has_none, no_mark}
 
 -- ---- calls
 
-enter_keeps : (within : Option TypeId) (self : Option ℕ) (initializes : Bool) (r : Row) → HasNoneInRow r → Keeps AnyOne (entered within self initializes r)
+pub enter_keeps : (within : Option TypeId) (self : Option ℕ) (initializes : Bool) (r : Row) → HasNoneInRow r → Keeps AnyOne (entered within self initializes r)
 enter_keeps within self initializes r none = λ s once. gives_require AnyOne 124 (nat_lt s.depth most_calls)
     (λ s. ok tt (record s {
       frames = record { within = within; self = self; initializes = initializes; variables = r; before = stop; result = stop } ∷ s.frames;
@@ -28,11 +28,11 @@ enter_keeps within self initializes r none = λ s once. gives_require AnyOne 124
       }) refl (λ p. omega (arith, sym (marks_mark p r) ∙ none p)) once,
     )
 
-rest_total : (p : ℕ) (fs : List Frame) → total p (frame_rows (rest_of fs)) ≤ total p (frame_rows fs)
+pub rest_total : (p : ℕ) (fs : List Frame) → total p (frame_rows (rest_of fs)) ≤ total p (frame_rows fs)
 rest_total p [] = omega arith
 rest_total p (f ∷ fs) = omega arith
 
-leave_keeps : Keeps AnyOne left
+pub leave_keeps : Keeps AnyOne left
 leave_keeps = keeps_bind AnyOne AnyOne (ended 0) _ (ending_keeps 0)
     (λ u w s once. (tt, fewer_stand s (record s { frames = rest_of s.frames; depth = s.depth - 1 }) refl (λ p. omega (arith, rest_total p s.frames)) once))
 
@@ -41,19 +41,19 @@ calls_keep = (enter_keeps, leave_keeps)
 
 -- ---- results
 
-result_total : (p d : ℕ) (g : Row → Row) (fs : List Frame) → ((r : Row) → mark p (g r) ≤ mark p r + d)
+pub result_total : (p d : ℕ) (g : Row → Row) (fs : List Frame) → ((r : Row) → mark p (g r) ≤ mark p r + d)
     → total p (frame_rows (on_newest (λ f. record f { result = g f.result }) fs)) ≤ total p (frame_rows fs) + d
 result_total p d g [] h = omega arith
 result_total p d g (f ∷ fs) h = omega (arith, h f.result)
 
-aside_keeps : (t : Tree) → HasNone t → Keeps AnyOne (result_aside t)
+pub aside_keeps : (t : Tree) → HasNone t → Keeps AnyOne (result_aside t)
 aside_keeps t none = λ s once. (
   tt,
   fewer_stand s (with_frame (λ f. record f { result = alone t }) s) refl
       (λ p. omega (arith, result_total p 0 (λ r. alone t) s.frames (λ r. omega (arith, no_mark t none p)))) once,
 )
 
-in_keeps : (o : Slot) → Keeps HasNone (result_in o)
+pub in_keeps : (o : Slot) → Keeps HasNone (result_in o)
 in_keeps (full t) = λ s once. (
   bare_has_none t,
   fewer_stand s (with_frame (λ f. record f { result = stop }) s) refl
@@ -62,10 +62,10 @@ in_keeps (full t) = λ s once. (
 in_keeps free = λ s once. tt
 in_keeps out = λ s once. tt
 
-taken_result_keeps : Keeps HasNone result_taken
+pub taken_result_keeps : Keeps HasNone result_taken
 taken_result_keeps = λ s once. in_keeps (slot 0 (result_row (newest s))) s once
 
-linked_keeps : (t : Tree) → Keeps HasNone (linked_result t)
+pub linked_keeps : (t : Tree) → Keeps HasNone (linked_result t)
 linked_keeps t = λ s once. (
   (λ p. refl),
   next_stands s (with_frame (λ f. record f { result = named 0 s.next_label f.result }) (record s { next_label = suc s.next_label })) refl
@@ -77,7 +77,7 @@ results_keep = (aside_keeps, taken_result_keeps, linked_keeps)
 
 -- ---- accounts
 
-account_total : (p d : ℕ) (g : Account → Account) (a : ℕ) (all : List Account) → ((x : Account) → mark p (g x).stored ≤ mark p x.stored + d)
+pub account_total : (p d : ℕ) (g : Account → Account) (a : ℕ) (all : List Account) → ((x : Account) → mark p (g x).stored ≤ mark p x.stored + d)
     → total p (account_rows (change_account a g all)) ≤ total p (account_rows all) + d
 account_total p d g zero all h = omega arith
 account_total p d g (suc zero) [] h = omega arith

@@ -1,5 +1,9 @@
+pub mod Accounts
+pub mod Ends
+pub mod Forms
 pub mod Frames
 pub mod Keeping
 pub mod Marks
+pub mod Members
 pub mod Places
 pub mod States

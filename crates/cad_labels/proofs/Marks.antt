@@ -57,7 +57,7 @@ has_no_label p (q ∷ qs) e = go (p == q) refl e (has_no_label p qs)
     go true h k i = absurd (true≢false k)
     go false h k i = omega (arith, ap {B = ℕ} (λ b. cond b 1 0) (equal_sym q p ∙ h), i k)
 
-times_last : (p q : ℕ) (l : List ℕ) → times p (l ++ q ∷ []) ≡ times p l + cond (q == p) 1 0
+pub times_last : (p q : ℕ) (l : List ℕ) → times p (l ++ q ∷ []) ≡ times p l + cond (q == p) 1 0
 times_last p q [] = omega arith
 times_last p q (x ∷ l) = omega (arith, times_last p q l)
 

@@ -50,10 +50,10 @@ naming_keeps (entry l k) = λ s once. (tt, named_gives (entry l k) s once)
 
 -- ---- what changes no row
 
-found_keeps : {A : Type 0} (P : A → Type 0) (l : ℕ) (f : Found → Action A) → ((x : Found) → Keeps P (f x)) → Keeps P (with_found l f)
+pub found_keeps : {A : Type 0} (P : A → Type 0) (l : ℕ) (f : Found → Action A) → ((x : Found) → Keeps P (f x)) → Keeps P (with_found l f)
 found_keeps P l f h = λ s once. gives_or_fail P 113 (at l s) f s (λ x e. h x s once)
 
-spot_keeps : (rights : Option Authorization) (l n : ℕ) → Keeps AnyOne (spot_at rights l n)
+pub spot_keeps : (rights : Option Authorization) (l n : ℕ) → Keeps AnyOne (spot_at rights l n)
 spot_keeps rights l n = found_keeps AnyOne l _ (λ f s once. (tt, once))
 
 stored_keeps : (a : Authorization) (type : PureType) (x : Location) (o : Slot) → Keeps AnyOne (stored_spot a type x o)
@@ -73,7 +73,7 @@ plain_keeps : (x : PureValue) → Keeps AnyOne (plain_spot x)
 plain_keeps (v.reference a type target) = by_keeps a type (v.reference a type target) target
 plain_keeps _ = λ s once. tt
 
-deref_keeps : (shape : NodeShape) → Keeps AnyOne (deref shape)
+pub deref_keeps : (shape : NodeShape) → Keeps AnyOne (deref shape)
 deref_keeps (link a l n) = spot_keeps (Some a) l n
 deref_keeps (plain x) = plain_keeps x
 deref_keeps _ = λ s once. tt
@@ -83,12 +83,12 @@ looks_keep (standing rights l n) = spot_keeps rights l n
 looks_keep (through shape) = deref_keeps shape
 looks_keep receivers.absent = λ s once. (tt, once)
 
-bounds_keep : (o : Slot) → Keeps AnyOne (or_out_of_bounds o)
+pub bounds_keep : (o : Slot) → Keeps AnyOne (or_out_of_bounds o)
 bounds_keep out = λ s once. tt
 bounds_keep free = λ s once. (tt, once)
 bounds_keep (full t) = λ s once. (tt, once)
 
-element_keeps : (i : _) (shape : NodeShape) (r : Row) → Keeps AnyOne (element_of i shape r)
+pub element_keeps : (i : _) (shape : NodeShape) (r : Row) → Keeps AnyOne (element_of i shape r)
 element_keeps i (array t) r = bounds_keep _
 element_keeps i (plain x) r = λ s once. tt
 element_keeps i (link a l n) r = λ s once. tt
@@ -111,7 +111,7 @@ slot_keeps (part l i) = found_keeps AnyOne l _ (λ f s once. (tt, once))
 slot_keeps (element l i) = found_keeps AnyOne l _ (λ f. element_keeps i f.tree.shape f.tree.parts)
 slot_keeps (entry l key) = found_keeps AnyOne l _ (λ f. key_keeps key f.tree.shape f.tree.parts)
 
-empty_keeps : {A : Type 0} (P : A → Type 0) (x : Location) → Keeps P (empty_error x)
+pub empty_keeps : {A : Type 0} (P : A → Type 0) (x : Location) → Keeps P (empty_error x)
 empty_keeps P (variable x) = λ s once. tt
 empty_keeps P (receiver l) = λ s once. tt
 empty_keeps P (contract id) = λ s once. tt
@@ -129,7 +129,7 @@ absent_keeps (stored a n) = λ s once. tt
 absent_keeps (part l i) = λ s once. tt
 absent_keeps (element l i) = λ s once. tt
 
-read_keeps : (x : Location) → Keeps AnyOne (read x)
+pub read_keeps : (x : Location) → Keeps AnyOne (read x)
 read_keeps x = keeps_bind AnyOne AnyOne (slot_of x) _ (slot_keeps x) (λ o u. go o)
   where
     go : (o : Slot) → Keeps AnyOne (read_slot x o)
@@ -137,11 +137,11 @@ read_keeps x = keeps_bind AnyOne AnyOne (slot_of x) _ (slot_keeps x) (λ o u. go
     go free = empty_keeps AnyOne x
     go out = absent_keeps x
 
-paid_keeps : (n : ℕ) (b : Bool) (s : State) → AreGivenOnce s → Gives AnyOne (paid n b s)
+pub paid_keeps : (n : ℕ) (b : Bool) (s : State) → AreGivenOnce s → Gives AnyOne (paid n b s)
 paid_keeps n true s once = (tt, once)
 paid_keeps n false s once = tt
 
-charged_keeps : (t : Tree) → Keeps AnyOne (charged t)
+pub charged_keeps : (t : Tree) → Keeps AnyOne (charged t)
 charged_keeps t = λ s once. gives_require AnyOne 123 (nat_le (tree_height t) most_high) (spend (tree_weight t - 1)) s
     (paid_keeps (tree_weight t - 1) (nat_le (tree_weight t - 1) s.units) s once)
 
@@ -153,7 +153,7 @@ transferred_keeps type t none = keeps_bind AnyOne HasNone (charged t) _ (charged
 pub bare_has_none : (t : Tree) → HasNone (bare_tree t)
 bare_has_none t p = marks_mark p (bare t.parts) ∙ mark_bare p t.parts
 
-cleared_stands : (x : Location) (s : State) → AreGivenOnce s → AreGivenOnce (changed_at clear x s)
+pub cleared_stands : (x : Location) (s : State) → AreGivenOnce s → AreGivenOnce (changed_at clear x s)
 cleared_stands x s once = fewer_stand s (changed_at clear x s) (place_next clear x s)
     (λ p. omega (arith, place_changed p 0 clear (λ i r. omega (arith, mark_clear p i r)) x s (stands_once s once))) once
 
@@ -179,7 +179,7 @@ taking_keeps x = keeps_bind AnyOne HasNone (slot_of x) (take_slot x) (slot_keeps
 pub no_mark : (t : Tree) → HasNone t → (p : ℕ) → mark p t.parts ≡ 0
 no_mark t none p = sym (marks_mark p t.parts) ∙ none p
 
-put_keeps : (x : Location) (t : Tree) → HasNone t → Keeps AnyOne (put_at x t)
+pub put_keeps : (x : Location) (t : Tree) → HasNone t → Keeps AnyOne (put_at x t)
 put_keeps x t none = λ s once. (
   tt,
   fewer_stand s (changed_at (λ i. put i t) x s) (place_next (λ i. put i t) x s)
@@ -187,12 +187,12 @@ put_keeps x t none = λ s once. (
 )
 
 -- the node with the label has other parts, whose labels stood in it
-node_stands : (l : ℕ) (shape : NodeShape) (k : Row) (s : State) (f : Found) → at l s ≡ Some f → ((p : ℕ) → mark p k ≤ mark p f.tree.parts)
+pub node_stands : (l : ℕ) (shape : NodeShape) (k : Row) (s : State) (f : Found) → at l s ≡ Some f → ((p : ℕ) → mark p k ≤ mark p f.tree.parts)
     → AreGivenOnce s → AreGivenOnce (with_node l shape k s)
 node_stands l shape k s f e h once = fewer_stand s (with_node l shape k s) refl
     (λ p. omega (arith, node_changed l p shape k s (stands_once s once l), ap (found_mark p) e, ap (gained p k) e, h p)) once
 
-type_gives : {A : Type 0} (P : A → Type 0) (type : PureType) (t : Tree) (p : Action A) (s : State) → Gives P (p s) → Gives P (of_type type t p s)
+pub type_gives : {A : Type 0} (P : A → Type 0) (type : PureType) (t : Tree) (p : Action A) (s : State) → Gives P (p s) → Gives P (of_type type t p s)
 type_gives P type t p s h = gives_or_fail P 113 (own_type s t) _ s (λ own e. gives_require P 129 (below (declarations s) own type) p s h)
 
 -- the content of an optional has the same parts
@@ -209,7 +209,7 @@ count_gives : {A : Type 0} (P : A → Type 0) (n : ℕ) (t : Tree) (p : Action A
 count_gives P zero t p f s h k = shape_gives P p f s t.shape h
 count_gives P (suc n) t p f s h k = k (record t { optionals = n }) refl
 
-content_gives : {A : Type 0} (P : A → Type 0) (t : Tree) (p : Action A) (f : Tree → Action A) (s : State)
+pub content_gives : {A : Type 0} (P : A → Type 0) (t : Tree) (p : Action A) (f : Tree → Action A) (s : State)
     → Gives P (p s) → ((x : Tree) → x.parts ≡ t.parts → Gives P (f x s)) → Gives P (opened t p f s)
 content_gives P t p f s h k = count_gives P t.optionals t p f s h k
 
@@ -284,7 +284,7 @@ assigning_keeps x t none = (
   keeps_bind AnyOne AnyOne _ _ (keeps_bind AnyOne AnyOne (slot_of x) _ (slot_keeps x) (λ o u. nil_keeps x o)) (λ o u. filling_keeps x t none),
 )
 
-taken_keeps : (x : Location) (type : PureType) → Keeps HasNone (take x >>= transferred type)
+pub taken_keeps : (x : Location) (type : PureType) → Keeps HasNone (take x >>= transferred type)
 taken_keeps x type = keeps_bind HasNone HasNone (take x) (transferred type) (taking_keeps x) (λ t none. transferred_keeps type t none)
 
 pub exchanging_keeps : ExchangingKeeps
@@ -316,7 +316,7 @@ ending_keeps n = λ s once. gives_guard AnyOne (not (owns (back n (variables s))
       (λ p. omega (arith, place_changed p 0 front (λ i r. omega (arith, mark_front p i r)) (variable n) s (stands_once s once))) once,
 )
 
-begins_keep : (id : TypeId) (i : ℕ) (names : List Name) → Keeps AnyOne (begin id i names)
+pub begins_keep : (id : TypeId) (i : ℕ) (names : List Name) → Keeps AnyOne (begin id i names)
 begins_keep id i names = λ s once. (
   tt,
   next_stands s
@@ -324,7 +324,7 @@ begins_keep id i names = λ s once. (
       (λ p. omega (arith, mark_empty p (length names))) once,
 )
 
-finish_keeps : Keeps HasNone finish
+pub finish_keeps : Keeps HasNone finish
 finish_keeps = λ s once. go s once s.making refl
   where
     go : (s : State) → AreGivenOnce s → (r : Row) → s.making ≡ r → Gives HasNone (finished r s)

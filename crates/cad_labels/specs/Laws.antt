@@ -1,20 +1,25 @@
 -- A label that was given is never given again, and stands on one node: of the actions that name nodes, take values out of places and
 -- bring values to places.
-use Rattle.std.specs.Prelude.{◌≡◌, ℕ, Bool, List, Option}
+use Rattle.std.specs.Prelude.{◌≡◌, ℕ, Bool, List, Option, Some}
 use Rattle.cad_syntax.specs.Types.{PureType}
+use Rattle.cad_syntax.specs.declared.address.Address.{Address}
 use Rattle.cad_syntax.specs.declared.text.Name.{Name}
 use Rattle.cad_syntax.specs.declared.type_id.TypeId.{TypeId}
 use Rattle.cad_world.specs.Locations.{Location, name}
 use Rattle.cad_world.specs.Marks.{marks, AreGivenOnce}
 use Rattle.cad_world.specs.Receivers.{Receiver, look_at}
-use Rattle.cad_world.specs.Labels.{with_account}
-use Rattle.cad_world.specs.Rows.{Row, Tree}
-use Rattle.cad_world.specs.State.{Program, World, State, Outcome, ok, failed, limit, ill, Action}
+use Rattle.cad_values.specs.Values.{PureValue}
+use Rattle.cad_world.specs.Labels.{at, with_account}
+use Rattle.cad_world.specs.Rows.{Row, Tree, Found}
+use Rattle.cad_world.specs.State.{Contract, Program, World, State, Outcome, ok, failed, limit, ill, Action}
 use Rattle.cad_world.specs.Begin.{begun, IsKept}
+use Rattle.cad_evaluation.specs.Adding.{install}
 use Rattle.cad_evaluation.specs.Bodies.{entered, left, result_aside, result_taken, linked_result}
-use Rattle.cad_evaluation.specs.Storage.{storing}
+use Rattle.cad_evaluation.specs.Callees.{Callee, Calls}
+use Rattle.cad_evaluation.specs.Containers.{array_concat, array_slice, array_reverse, array_append, array_append_all, array_insert, array_remove, array_remove_first, array_remove_last, dictionary_keys, dictionary_insert, dictionary_remove}
+use Rattle.cad_evaluation.specs.Storage.{storing, save, load, copy}
 use Rattle.cad_evaluation.specs.Changing.{take, fill, assigned, force_assigned, exchanged, swapped}
-use Rattle.cad_evaluation.specs.Ending.{ended}
+use Rattle.cad_evaluation.specs.Ending.{ended, destroyed}
 use Rattle.cad_evaluation.specs.Making.{begin, finish}
 
 -- a value in hand: no part of it has a label
@@ -84,3 +89,49 @@ ResultsKeep = ((t : Tree) → HasNone t → Keeps AnyOne (result_aside t)) × Ke
 -- a value comes to an account
 abbrev pub StoringKeeps : Type 0
 StoringKeeps = (a : ℕ) (identifier : Name) (t : Tree) → HasNone t → (s : State) → AreGivenOnce s → AreGivenOnce (with_account a (storing identifier t) s)
+
+-- ---- members of containers: of the node with the label l, as it stands in the state
+
+-- what an array gives is a copy
+abbrev pub ArraysGiveCopies : Type 0
+ArraysGiveCopies = (type : PureType) (r : Row)
+    → ((t : Tree) → Keeps HasNone (array_concat type r t)) × ((from up_to : Tree) → Keeps HasNone (array_slice type r from up_to)) × Keeps HasNone (array_reverse type r)
+
+-- values without labels come to an array, and what leaves it has none
+abbrev pub ArraysKeep : Type 0
+ArraysKeep = (l : ℕ) (f : Found) (type : PureType) (s : State) → at l s ≡ Some f → AreGivenOnce s
+    → ((t : Tree) → HasNone t → Gives HasNone (array_append l type f.tree.parts t s))
+    × ((t : Tree) → HasNone t → Gives HasNone (array_append_all l type f.tree.parts t s))
+    × ((i t : Tree) → HasNone t → Gives HasNone (array_insert l type f.tree.parts i t s))
+    × ((i : Tree) → Gives HasNone (array_remove l type f.tree.parts i s))
+    × Gives HasNone (array_remove_first l type f.tree.parts s)
+    × Gives HasNone (array_remove_last l type f.tree.parts s)
+
+abbrev pub KeysHaveNone : Type 0
+KeysHaveNone = (key : PureType) (ks : List PureValue) → Keeps HasNone (dictionary_keys key ks)
+
+-- and the same of a dictionary
+abbrev pub DictionariesKeep : Type 0
+DictionariesKeep = (l : ℕ) (f : Found) (key value : PureType) (ks : List PureValue) (s : State) → at l s ≡ Some f → AreGivenOnce s
+    → ((k t : Tree) → HasNone t → Gives HasNone (dictionary_insert l key value ks f.tree.parts k t s))
+    × ((k : Tree) → Gives HasNone (dictionary_remove l key value ks f.tree.parts k s))
+
+-- ---- what calls
+
+-- what is called keeps labels apart, over arguments without labels, and its result has none
+abbrev pub CalleesKeep : Calls → Type 0
+CalleesKeep calls = (callee : Callee) (r : Row) → HasNoneInRow r → Keeps HasNone (calls callee r)
+
+-- a resource ends: its nodes are named by labels that stand nowhere, while its events are made
+abbrev pub DestroyingKeeps : Type 0
+DestroyingKeeps = (calls : Calls) (t : Tree) → CalleesKeep calls → HasNone t → Keeps AnyOne (destroyed calls t)
+
+-- a contract is installed: its value has a label of its own
+abbrev pub InstallingKeeps : Type 0
+InstallingKeeps = (calls : Calls) (c : Contract) (r : Row) → CalleesKeep calls → HasNoneInRow r → Keeps HasNone (install calls c r)
+
+-- ---- accounts
+
+-- what is saved comes without labels, and what is loaded or copied has none
+abbrev pub LoadingKeeps : Type 0
+LoadingKeeps = (r : Row) (a : Address) → (HasNoneInRow r → Keeps HasNone (save r a)) × ((type : PureType) → Keeps HasNone (load type r a)) × ((type : PureType) → Keeps HasNone (copy type r a))

@@ -1,7 +1,7 @@
 //! Labels: one that was given is never given again, and stands on one node. Laws of the actions on places alone.
 #![tactic(auto)]
 
-ghost use Rattle.cad_labels.specs.Laws.{AssigningKeeps, BeginsWithout, CallsKeep, EndingKeeps, ExchangingKeeps, FillingKeeps, LooksKeep, MakingKeeps, NamingKeeps, ResultsKeep, StoringKeeps, SwappingKeeps, TakingKeeps};
+ghost use Rattle.cad_labels.specs.Laws.{ArraysGiveCopies, ArraysKeep, AssigningKeeps, BeginsWithout, CallsKeep, DestroyingKeeps, DictionariesKeep, EndingKeeps, ExchangingKeeps, FillingKeeps, InstallingKeeps, KeysHaveNone, LoadingKeeps, LooksKeep, MakingKeeps, NamingKeeps, ResultsKeep, StoringKeeps, SwappingKeeps, TakingKeeps};
 
 /// A run begins without labels.
 pub fn runs_begin_without_labels()
@@ -66,4 +66,39 @@ pub fn results_keep_labels()
 /// What comes to an account.
 pub fn storing_keeps_labels()
     ensures { StoringKeeps }
+{}
+
+/// What arrays give of themselves are copies.
+pub fn arrays_give_copies()
+    ensures { ArraysGiveCopies }
+{}
+
+/// Members that change an array.
+pub fn arrays_keep_labels()
+    ensures { ArraysKeep }
+{}
+
+/// The keys of a dictionary are values without labels.
+pub fn keys_have_no_labels()
+    ensures { KeysHaveNone }
+{}
+
+/// Members that change a dictionary.
+pub fn dictionaries_keep_labels()
+    ensures { DictionariesKeep }
+{}
+
+/// Resources that end.
+pub fn destroying_keeps_labels()
+    ensures { DestroyingKeeps }
+{}
+
+/// Values that are saved, loaded and copied.
+pub fn loading_keeps_labels()
+    ensures { LoadingKeeps }
+{}
+
+/// Contracts that are installed.
+pub fn installing_keeps_labels()
+    ensures { InstallingKeeps }
 {}
