@@ -1,0 +1,4 @@
+pub mod Around
+pub mod Rows
+pub mod Sums
+pub mod Told
