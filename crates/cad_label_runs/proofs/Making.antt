@@ -1,4 +1,5 @@
 -- Making: labels are kept apart, and values in hand have none.
+use Rattle.cad_labels.proofs.Keeping.{stays}
 use Rattle.std.specs.Prelude.{ℕ, nat_lt, option_and_then}
 use Rattle.cad_syntax.specs.declared.type_id.TypeId.{TypeId}
 use Rattle.cad_world.specs.Rows.{Row, Tree}
@@ -23,7 +24,7 @@ pub make_keeps : (calls : Calls) (x2 : TypeId) (x3 : ℕ) (x4 : Row) → Callees
 make_keeps calls id identity arguments keep n3 = λ s once. (keeps_some HasNone (entry_of s id) _ (λ entry. keeps_bind AnyOne HasNone (begin id identity (field_names entry.members)) _ (begins_keep id identity (field_names entry.members)) (λ l h_l. keeps_bind AnyOne HasNone _ _ (initialized_keeps calls keep id l arguments (initializer_of (bodies_of s id)) n3) (λ u1 h_u1. finish_keeps)))) s once
 
 pub draw_identity_keeps : Keeps AnyOne draw_identity
-draw_identity_keeps = λ s once. (keeps_require AnyOne 128 (nat_lt s.next_identity last_identity) _ (λ s once. (tt, once))) s once
+draw_identity_keeps = λ s once. (keeps_require AnyOne 128 (nat_lt s.next_identity last_identity) _ (λ s once. (tt, stays s once))) s once
 
 pub construct_keeps : (calls : Calls) (x2 : TypeId) (x3 : Row) → CalleesKeep calls → HasNoneInRow x3 → Keeps HasNone (construct calls x2 x3)
 construct_keeps calls id arguments keep n2 = make_keeps calls id 0 arguments keep n2

@@ -45,43 +45,43 @@ use Rattle.cad_label_runs.proofs.Builtins.{on_array_keeps, on_dictionary_keeps, 
 
 -- ---- arguments
 
-within_gives : {A : Type 0} (P : A → Type 0) (o : Option A) (f : A → Action Tree) (s : State) → Within P o → ((a : A) → P a → Gives HasNone (f a s)) → Gives HasNone (with_some o f s)
+within_gives : {A : Type 0} (P : A → Type 0) (o : Option A) (f : A → Action Tree) (s : State) → Within P o → ((a : A) → P a → Gives HasNone s (f a s)) → Gives HasNone s (with_some o f s)
 within_gives P None f s h k = tt
 within_gives P (Some a) f s h k = k a h
 
-argument_gives : (r : Row) (f : Tree → Action Tree) (s : State) → HasNoneInRow r → ((t : Tree) → HasNone t → Gives HasNone (f t s)) → Gives HasNone (with_argument r f s)
+argument_gives : (r : Row) (f : Tree → Action Tree) (s : State) → HasNoneInRow r → ((t : Tree) → HasNone t → Gives HasNone s (f t s)) → Gives HasNone s (with_argument r f s)
 argument_gives r f s none h = within_gives HasNone (argument 0 r) f s (argument_none 0 r none) h
 
-arguments_give : (r : Row) (f : Tree → Tree → Action Tree) (s : State) → HasNoneInRow r → ((a b : Tree) → HasNone b → Gives HasNone (f a b s)) → Gives HasNone (with_arguments r f s)
+arguments_give : (r : Row) (f : Tree → Tree → Action Tree) (s : State) → HasNoneInRow r → ((a b : Tree) → HasNone b → Gives HasNone s (f a b s)) → Gives HasNone s (with_arguments r f s)
 arguments_give r f s none h = within_gives HasNone (argument 0 r) _ s (argument_none 0 r none)
     (λ a h_a. within_gives HasNone (argument 1 r) (f a) s (argument_none 1 r none) (λ b h_b. h a b h_b))
 
 -- ---- the node with the receiver's label
 
 array_gives : (o : Option ℕ) (n : ℕ) (shape : NodeShape) (r : Row) (f : ℕ → PureType → Row → Action Tree) (s : State) → StandsNow o r s
-    → ((l : ℕ) (x : Found) (type : PureType) → at l s ≡ Some x → Gives HasNone (f l type x.tree.parts s)) → Gives HasNone (with_some o (λ l. by_array n shape r (f l)) s)
+    → ((l : ℕ) (x : Found) (type : PureType) → at l s ≡ Some x → Gives HasNone s (f l type x.tree.parts s)) → Gives HasNone s (with_some o (λ l. by_array n shape r (f l)) s)
 array_gives None n shape r f s now h = tt
-array_gives (Some l) zero (rows.array type) r f s now h = subst (λ (q : Row). Gives HasNone (f l type q s)) now.2 (h l now.0 type now.1)
+array_gives (Some l) zero (rows.array type) r f s now h = subst (λ (q : Row). Gives HasNone s (f l type q s)) now.2 (h l now.0 type now.1)
 array_gives (Some l) n shape r f s now h = tt
 
 at_array_gives : (spot : Spot) (f : ℕ → PureType → Row → Action Tree) (s : State) → StandsNow spot.label spot.tree.parts s
-    → ((l : ℕ) (x : Found) (type : PureType) → at l s ≡ Some x → Gives HasNone (f l type x.tree.parts s)) → Gives HasNone (on_array_at spot f s)
+    → ((l : ℕ) (x : Found) (type : PureType) → at l s ≡ Some x → Gives HasNone s (f l type x.tree.parts s)) → Gives HasNone s (on_array_at spot f s)
 at_array_gives spot f s now h = array_gives spot.label spot.tree.optionals spot.tree.shape spot.tree.parts f s now h
 
 dictionary_gives : (o : Option ℕ) (n : ℕ) (shape : NodeShape) (r : Row) (f : ℕ → PureType → PureType → List v.PureValue → Row → Action Tree) (s : State) → StandsNow o r s
-    → ((l : ℕ) (x : Found) (key value : PureType) (ks : List v.PureValue) → at l s ≡ Some x → Gives HasNone (f l key value ks x.tree.parts s))
-    → Gives HasNone (with_some o (λ l. by_dictionary n shape r (f l)) s)
+    → ((l : ℕ) (x : Found) (key value : PureType) (ks : List v.PureValue) → at l s ≡ Some x → Gives HasNone s (f l key value ks x.tree.parts s))
+    → Gives HasNone s (with_some o (λ l. by_dictionary n shape r (f l)) s)
 dictionary_gives None n shape r f s now h = tt
-dictionary_gives (Some l) zero (rows.dictionary key value ks) r f s now h = subst (λ (q : Row). Gives HasNone (f l key value ks q s)) now.2 (h l now.0 key value ks now.1)
+dictionary_gives (Some l) zero (rows.dictionary key value ks) r f s now h = subst (λ (q : Row). Gives HasNone s (f l key value ks q s)) now.2 (h l now.0 key value ks now.1)
 dictionary_gives (Some l) n shape r f s now h = tt
 
 at_dictionary_gives : (spot : Spot) (f : ℕ → PureType → PureType → List v.PureValue → Row → Action Tree) (s : State) → StandsNow spot.label spot.tree.parts s
-    → ((l : ℕ) (x : Found) (key value : PureType) (ks : List v.PureValue) → at l s ≡ Some x → Gives HasNone (f l key value ks x.tree.parts s)) → Gives HasNone (on_dictionary_at spot f s)
+    → ((l : ℕ) (x : Found) (key value : PureType) (ks : List v.PureValue) → at l s ≡ Some x → Gives HasNone s (f l key value ks x.tree.parts s)) → Gives HasNone s (on_dictionary_at spot f s)
 at_dictionary_gives spot f s now h = dictionary_gives spot.label spot.tree.optionals spot.tree.shape spot.tree.parts f s now h
 
 -- ---- members
 
-plain_member_gives : (b : Builtin) (spot : Spot) (r : Row) (s : State) → StandsNow spot.label spot.tree.parts s → HasNoneInRow r → AreGivenOnce s → Gives HasNone (plain_member b spot r s)
+plain_member_gives : (b : Builtin) (spot : Spot) (r : Row) (s : State) → StandsNow spot.label spot.tree.parts s → HasNoneInRow r → AreGivenOnce s → Gives HasNone s (plain_member b spot r s)
 plain_member_gives m.ArrayLength spot r s now none once = (on_array_keeps spot _ (λ type parts. given_int_keeps (rows.count_places parts))) s once
 plain_member_gives m.ArrayContains spot r s now none once = (on_array_keeps spot _ (λ type parts. keeps_some HasNone (argument 0 r) _ (λ v1. array_contains_keeps parts v1))) s once
 plain_member_gives m.ArrayFirstIndex spot r s now none once = (on_array_keeps spot _ (λ type parts. keeps_some HasNone (argument 0 r) _ (λ v1. array_first_index_keeps parts v1))) s once
@@ -120,10 +120,10 @@ plain_member_gives m.TypeIdentifier spot r s now none once = (keeps_some HasNone
 plain_member_gives m.EnumRawValue spot r s now none once = (raw_value_keeps spot) s once
 plain_member_gives _ spot r s now none once = tt
 
-paid_gives : (n : ℕ) (p : Action Tree) (s : State) → Gives HasNone (p s) → Gives HasNone (paid_for n p s)
-paid_gives n p s h = gives_bind HasNone HasNone (p s) _ h (λ t h_t. keeps_bind AnyOne HasNone _ (λ u. give t) (keeps_spend ((tree_weight t - 1) + n)) (λ u w. keeps_give HasNone t h_t))
+paid_gives : (n : ℕ) (p : Action Tree) (s : State) → Gives HasNone s (p s) → Gives HasNone s (paid_for n p s)
+paid_gives n p s h = gives_bind HasNone HasNone s (p s) _ h (λ t h_t. keeps_bind AnyOne HasNone _ (λ u. give t) (keeps_spend ((tree_weight t - 1) + n)) (λ u w. keeps_give HasNone t h_t))
 
-member_of_value_gives : (b : Builtin) (spot : Spot) (r : Row) (s : State) → StandsNow spot.label spot.tree.parts s → HasNoneInRow r → AreGivenOnce s → Gives HasNone (member_of_value b spot r s)
+member_of_value_gives : (b : Builtin) (spot : Spot) (r : Row) (s : State) → StandsNow spot.label spot.tree.parts s → HasNoneInRow r → AreGivenOnce s → Gives HasNone s (member_of_value b spot r s)
 member_of_value_gives m.ResourceUuid spot r s now none once = read_uuid_keeps spot s once
 member_of_value_gives m.ResourceOwner spot r s now none once = read_owner_keeps spot s once
 member_of_value_gives m.ContractAccount spot r s now none once = read_account_keeps spot s once

@@ -1,4 +1,5 @@
 -- Run: labels are kept apart, and values in hand have none.
+use Rattle.cad_labels.proofs.Keeping.{stays}
 use Rattle.cad_values.specs.Values.{PureValue}
 use Rattle.cad_label_runs.proofs.Changes.{frame_stands}
 use Rattle.std.proofs.Common.{arith, refl, ◌∷◌}
@@ -36,10 +37,10 @@ use Rattle.cad_labels.proofs.Keeping.{keeps_bind}
 use Rattle.cad_labels.proofs.Places.{ending_keeps}
 
 pub deeper_keeps : Keeps AnyOne deeper
-deeper_keeps = λ s once. (tt, once)
+deeper_keeps = λ s once. (tt, stays s once)
 
 pub shallower_keeps : Keeps AnyOne shallower
-shallower_keeps = λ s once. (tt, once)
+shallower_keeps = λ s once. (tt, stays s once)
 
 pub entry_keeps : (front : Front) (calls : Calls) (n : ℕ) (x4 : Option e.BlockTree) → CalleesKeep calls → Keeps AnyOne (entry front calls n x4)
 entry_keeps front calls n None keep = keeps_done

@@ -1,4 +1,6 @@
 -- Terms: labels are kept apart, and values in hand have none.
+use Rattle.cad_labels.proofs.Keeping.{gives_follow}
+use Rattle.cad_world.specs.State.{State}
 use Rattle.cad_evaluation.specs.Standing.{Standing}
 use Rattle.cad_syntax.specs.Types.{PureType}
 use Rattle.cad_types.specs.declared.builtin.Builtin.{Builtin}
@@ -64,13 +66,14 @@ chained_keeps wraps f (Some r) h_f = keeps_bind HasNone HasNone _ (λ t. give (w
 -- a receiver is looked at again, and the member is used on what it is then
 looked_member_keeps : (front : Front) (calls : Calls) (b : Builtin) (types : List PureType) (r : Receiver) (row : Row) → CalleesKeep calls → HasNoneInRow row
     → Keeps HasNone (tick >> look_at r >>= (λ spot. member front calls b types spot row))
-looked_member_keeps front calls b types r row keep none = λ s once. ticked (tick s) (keeps_spend 1 s once)
+looked_member_keeps front calls b types r row keep none = λ s once. ticked_member s (tick s) (keeps_spend 1 s once)
   where
-    ticked : (o : Outcome (Unit {0})) → Gives AnyOne o → Gives HasNone (bind (bind o (λ u. look_at r)) (λ spot. member front calls b types spot row))
-    ticked (ok u w) h = now_bind HasNone (look_at r w) _ (look_now r w h.1) (λ spot x now more. members_keep front calls b types spot row x keep none now more)
-    ticked (failed e) h = tt
-    ticked limit h = tt
-    ticked ill h = tt
+    ticked_member : (s : State) (o : Outcome (Unit {0})) → Gives AnyOne s o → Gives HasNone s (bind (bind o (λ u. look_at r)) (λ spot. member front calls b types spot row))
+    ticked_member s (ok u w) h = gives_follow HasNone s w (bind (look_at r w) (λ spot. member front calls b types spot row)) h.1
+        (now_bind HasNone w (look_at r w) _ (look_now r w h.1.0) (λ spot x now more. members_keep front calls b types spot row x keep none now more))
+    ticked_member s (failed e) h = tt
+    ticked_member s limit h = tt
+    ticked_member s ill h = tt
 
 mutual
   pub eval_place_keeps : (front : Front) (calls : Calls) (x3 : e.PlaceTree) (x4 : Bool) → CalleesKeep calls → Keeps AnyOne (eval_place front calls x3 x4)
@@ -85,7 +88,7 @@ mutual
   pub eval_use_keeps : (front : Front) (calls : Calls) (x3 : e.UseTree) (x4 : Receiver) → CalleesKeep calls → Keeps HasNone (eval_use front calls x3 x4)
   eval_use_keeps front calls (e.get n right) r keep = keeps_bind AnyOne HasNone _ _ (looks_keep r) (λ v1 h_v1. read_field_keeps n right v1)
   eval_use_keeps front calls (e.method n is_view is_never all) r keep = keeps_bind HasNoneInRow HasNone _ _ (keeps_bind AnyOne HasNoneInRow _ _ (keeps_bind AnyOne AnyOne _ _ (looks_keep r) (λ v1 h_v1. callable_keeps n v1)) (λ u2 h_u2. eval_arguments_keeps front calls all keep)) (λ row h_row. keeps_bind AnyOne HasNone _ _ (keeps_bind AnyOne AnyOne _ _ (keeps_spend 1) (λ u3 h_u3. looks_keep r)) (λ v4 h_v4. invoked_keeps calls n row v4 keep h_row))
-  eval_use_keeps front calls (e.builtin_field b) r keep = λ s once. now_bind HasNone (look_at r s) _ (look_now r s once)
+  eval_use_keeps front calls (e.builtin_field b) r keep = λ s once. now_bind HasNone s (look_at r s) _ (look_now r s once)
       (λ spot w now more. gives_guard HasNone (may_use b spot) (member front calls b [] spot stop) w (members_keep front calls b [] spot stop w keep stop_none now more))
   eval_use_keeps front calls (e.builtin_call b types all) r keep = keeps_bind AnyOne HasNone _ _ (looks_keep r) (λ first h_first. keeps_guard HasNone (may_use b first) _ (keeps_bind HasNoneInRow HasNone _ _ (eval_arguments_keeps front calls all keep) (λ row h_row. looked_member_keeps front calls b types r row keep h_row)))
 

@@ -24,7 +24,7 @@ use Rattle.cad_evaluation.specs.Callees.{initializer, Calls}
 use Rattle.cad_evaluation.specs.Casts.{with_type}
 use Rattle.cad_evaluation.specs.Making.{field_names, initialized, initializer_of}
 use Rattle.cad_evaluation.specs.Storage.{without_place, without, paid_parts, of_stored_type, saved, save, loaded, load, copy_of, copy}
-use Rattle.cad_labels.specs.Laws.{HasNone, HasNoneInRow, Keeps, AnyOne, CalleesKeep, LoadingKeeps, InstallingKeeps}
+use Rattle.cad_labels.specs.Laws.{Follows, HasNone, HasNoneInRow, Keeps, AnyOne, CalleesKeep, LoadingKeeps, InstallingKeeps}
 use Rattle.cad_labels.proofs.Marks.{mark, mark_cut, mark_empty}
 use Rattle.cad_labels.proofs.States.{contract_rows, total}
 use Rattle.cad_labels.proofs.Keeping.{keeps_bind, fewer_stand, next_stands}
@@ -69,7 +69,7 @@ place_gone : (p : ℕ) (o : Option ℕ) (x : Account) → mark p (without_place 
 place_gone p None x = omega arith
 place_gone p (Some i) x = mark_cut p i x.stored
 
-gone_stands : (a : ℕ) (name : Name) (s : State) → AreGivenOnce s → AreGivenOnce (with_account a (without name) s)
+gone_stands : (a : ℕ) (name : Name) (s : State) → AreGivenOnce s → Follows s (with_account a (without name) s)
 gone_stands a name s once = fewer_stand s (with_account a (without name) s) refl
     (λ p. omega (arith, account_total p 0 (without name) a s.accounts (λ x. omega (arith, place_gone p (position_of name x.identifiers) x)))) once
 

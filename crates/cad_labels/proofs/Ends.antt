@@ -1,16 +1,17 @@
 -- Labels as resources end: the nodes whose end is told are named while their events are made.
+use Rattle.cad_labels.proofs.Keeping.{stays}
 use Rattle.std.proofs.Common.{◌≡◌, ℕ, zero, suc, ◌+◌, ◌≤◌, ◌==◌, nat_lt, Bool, true, false, not, cond, if◌then◌else◌, List, [], ◌∷◌, ◌++◌, length, refl, arith}
 use Rattle.std.proofs.lemmas.List.{length-append}
 use Rattle.cad_syntax.specs.declared.type_id.TypeId.{TypeId}
 use Rattle.cad_values.specs.Forms.{is_told}
-use Rattle.cad_world.specs.Marks.{labels}
+use Rattle.cad_world.specs.Marks.{AreGivenOnce, labels}
 use Rattle.cad_world.specs.Rows.{NodeShape, plain, link, array, dictionary, composite, Row, stop, gap, node, Tree, alone, join, back, tree_owns, tree_identities}
 use Rattle.cad_world.specs.State.{State, give, done}
 use Rattle.cad_world.specs.Trees.{value_of}
 use Rattle.cad_world.specs.Transfers.{charged}
 use Rattle.cad_evaluation.specs.Callees.{Calls, destroyed_event}
 use Rattle.cad_evaluation.specs.Ending.{is_told_of, type_if, passing, label_if, one_if, numbered, events_of, emitted, all_emitted, dropped, set_aside, gone}
-use Rattle.cad_labels.specs.Laws.{HasNone, Keeps, AnyOne, CalleesKeep, DestroyingKeeps}
+use Rattle.cad_labels.specs.Laws.{Follows, HasNone, Keeps, AnyOne, CalleesKeep, DestroyingKeeps}
 use Rattle.cad_labels.proofs.Marks.{times, times_last, mark, mark_join, mark_back}
 use Rattle.cad_labels.proofs.States.{labels_whole, whole}
 use Rattle.cad_labels.proofs.Keeping.{keeps_bind, fewer_stand}
@@ -119,19 +120,29 @@ aside_whole t none s p = omega (
   no_mark t none p,
 )
 
-aside_keeps : (t : Tree) → HasNone t → Keeps AnyOne (set_aside t)
-aside_keeps t none = λ s once. (
-  tt,
-  λ p. aside_once p s.next_label (length (passing (is_told_of s) (alone t))) (labels p (aside_state t s))
+aside_follows : (t : Tree) → HasNone t → (s : State) → AreGivenOnce s → Follows s (aside_state t s)
+aside_follows t none s once = (
+  (λ p. aside_once p s.next_label (length (passing (is_told_of s) (alone t))) (labels p (aside_state t s))
       (nat_lt p s.next_label) (nat_lt p (s.next_label + length (passing (is_told_of s) (alone t)))) refl refl
       (add_among p s.next_label (length (passing (is_told_of s) (alone t))) (labels p (aside_state t s)) (labels p s) (nat_lt p s.next_label)
-      (omega (arith, labels_whole p s, labels_whole p (aside_state t s), aside_whole t none s p)) (once p)),
+      (omega (arith, labels_whole p s, labels_whole p (aside_state t s), aside_whole t none s p)) (once p))),
+  omega arith,
+  λ p l. omega (
+    arith,
+    labels_whole p s,
+    labels_whole p (aside_state t s),
+    aside_whole t none s p,
+    among_low p s.next_label (length (passing (is_told_of s) (alone t))) l,
+  ),
 )
+
+aside_keeps : (t : Tree) → HasNone t → Keeps AnyOne (set_aside t)
+aside_keeps t none = λ s once. (tt, aside_follows t none s once)
 
 -- ---- events
 
 pub emitted_keeps : (t : Tree) → Keeps AnyOne (emitted t)
-emitted_keeps t = keeps_require AnyOne 134 (is_told (value_of t)) _ (λ s once. (tt, once))
+emitted_keeps t = keeps_require AnyOne 134 (is_told (value_of t)) _ (λ s once. (tt, stays s once))
 
 all_emitted_keeps : (ts : List Tree) → Keeps AnyOne (all_emitted ts)
 all_emitted_keeps [] = keeps_done

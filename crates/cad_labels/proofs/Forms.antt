@@ -1,21 +1,22 @@
 -- Forms over actions that keep labels apart, and values in hand without labels.
+use Rattle.cad_labels.proofs.Keeping.{stays}
 use Rattle.std.proofs.Common.{◌≡◌, ℕ, zero, nat_le, Bool, true, false, List, Option, Some, None, option_map, refl, sym, ◌∙◌, arith}
 use Rattle.cad_world.specs.Rows.{NodeShape, array, Row, stop, node, Tree, Slot, out, free, full, slot, first, put, add_last, join, back, empty_places}
-use Rattle.cad_world.specs.State.{Outcome, ok, failed, limit, ill, Action, give, fail, stuck, done, guard, require, choose, by_truth, with_some, or_fail, spend}
+use Rattle.cad_world.specs.State.{Action, give, fail, stuck, done, guard, require, choose, by_truth, with_some, or_fail, spend}
 use Rattle.cad_evaluation.specs.Arguments.{in_slot, argument}
 use Rattle.cad_evaluation.specs.Containers.{elements_in_shape, elements_in}
 use Rattle.cad_evaluation.specs.Texts.{optional_tree}
-use Rattle.cad_labels.specs.Laws.{HasNone, HasNoneInRow, Gives, Keeps, AnyOne}
+use Rattle.cad_labels.specs.Laws.{HasNone, HasNoneInRow, Keeps, AnyOne}
 use Rattle.cad_labels.proofs.Marks.{mark, marks_mark, slot_mark, mark_slot, mark_put, mark_last, mark_join, mark_back, mark_empty}
 use Rattle.cad_labels.proofs.Places.{paid_keeps}
 
 -- ---- forms
 
 pub keeps_give : {A : Type 0} (P : A → Type 0) (a : A) → P a → Keeps P (give a)
-keeps_give P a h = λ s once. (h, once)
+keeps_give P a h = λ s once. (h, stays s once)
 
 pub keeps_done : Keeps AnyOne done
-keeps_done = λ s once. (tt, once)
+keeps_done = λ s once. (tt, stays s once)
 
 pub keeps_fail : {A : Type 0} (P : A → Type 0) (e : ℕ) → Keeps P (fail e)
 keeps_fail P e = λ s once. tt
@@ -50,16 +51,6 @@ keeps_or_fail P e (Some a) f h = h a
 
 pub keeps_spend : (n : ℕ) → Keeps AnyOne (spend n)
 keeps_spend n = λ s once. paid_keeps n (nat_le n s.units) s once
-
--- less is asked of what is given
-pub gives_less : {A : Type 0} (P Q : A → Type 0) (o : Outcome A) → ((a : A) → P a → Q a) → Gives P o → Gives Q o
-gives_less P Q (ok a s) h k = (h a k.0, k.1)
-gives_less P Q (failed e) h k = tt
-gives_less P Q limit h k = tt
-gives_less P Q ill h k = tt
-
-pub keeps_less : {A : Type 0} (P Q : A → Type 0) (p : Action A) → ((a : A) → P a → Q a) → Keeps P p → Keeps Q p
-keeps_less P Q p h k = λ s once. gives_less P Q (p s) h (k s once)
 
 -- ---- what may be there
 

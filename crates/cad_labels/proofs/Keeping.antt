@@ -8,38 +8,53 @@ use Rattle.cad_world.specs.Locations.{Location, variable, contract, stored, rece
 use Rattle.cad_world.specs.Marks.{labels, AreGivenOnce}
 use Rattle.cad_world.specs.Rows.{Row, Found}
 use Rattle.cad_world.specs.State.{Account, Contract, Frame, State, Outcome, ok, failed, limit, ill, bind, Action, ◌>>=◌, guard, require, choose, with_some, or_fail}
-use Rattle.cad_labels.specs.Laws.{Gives, Keeps}
+use Rattle.cad_labels.specs.Laws.{Follows, Gives, Keeps}
 use Rattle.cad_labels.proofs.Marks.{mark, found_mark, gained}
 use Rattle.cad_labels.proofs.States.{frame_rows, account_rows, contract_rows, total, whole, labels_whole, node_changed}
 
+-- ---- states that come behind another
+
+-- the same labels
+pub stays : (s : State) → AreGivenOnce s → Follows s s
+stays s once = (once, omega arith, λ p l. omega arith)
+
+pub behind : (s v w : State) → Follows s v → Follows v w → Follows s w
+behind s v w h k = (k.0, omega (arith, h.1, k.1), λ p l. omega (arith, h.2 p l, k.2 p (omega (arith, l, h.1))))
+
 -- ---- the monad
 
-pub gives_bind : {A B : Type 0} (P : A → Type 0) (Q : B → Type 0) (o : Outcome A) (f : A → Action B) → Gives P o → ((a : A) → P a → Keeps Q (f a)) → Gives Q (bind o f)
-gives_bind P Q (ok a s) f h k = k a h.0 s h.1
-gives_bind P Q (failed e) f h k = tt
-gives_bind P Q limit f h k = tt
-gives_bind P Q ill f h k = tt
+pub gives_follow : {A : Type 0} (P : A → Type 0) (s v : State) (o : Outcome A) → Follows s v → Gives P v o → Gives P s o
+gives_follow P s v (ok a w) h k = (k.0, behind s v w h k.1)
+gives_follow P s v (failed e) h k = tt
+gives_follow P s v limit h k = tt
+gives_follow P s v ill h k = tt
+
+pub gives_bind : {A B : Type 0} (P : A → Type 0) (Q : B → Type 0) (s : State) (o : Outcome A) (f : A → Action B) → Gives P s o → ((a : A) → P a → Keeps Q (f a)) → Gives Q s (bind o f)
+gives_bind P Q s (ok a v) f h k = gives_follow Q s v (f a v) h.1 (k a h.0 v h.1.0)
+gives_bind P Q s (failed e) f h k = tt
+gives_bind P Q s limit f h k = tt
+gives_bind P Q s ill f h k = tt
 
 pub keeps_bind : {A B : Type 0} (P : A → Type 0) (Q : B → Type 0) (p : Action A) (f : A → Action B) → Keeps P p → ((a : A) → P a → Keeps Q (f a)) → Keeps Q (p >>= f)
-keeps_bind P Q p f h k = λ s once. gives_bind P Q (p s) f (h s once) k
+keeps_bind P Q p f h k = λ s once. gives_bind P Q s (p s) f (h s once) k
 
-pub gives_guard : {A : Type 0} (P : A → Type 0) (b : Bool) (p : Action A) (s : State) → Gives P (p s) → Gives P (guard b p s)
+pub gives_guard : {A : Type 0} (P : A → Type 0) (b : Bool) (p : Action A) (s : State) → Gives P s (p s) → Gives P s (guard b p s)
 gives_guard P true p s h = h
 gives_guard P false p s h = tt
 
-pub gives_require : {A : Type 0} (P : A → Type 0) (e : ℕ) (b : Bool) (p : Action A) (s : State) → Gives P (p s) → Gives P (require e b p s)
+pub gives_require : {A : Type 0} (P : A → Type 0) (e : ℕ) (b : Bool) (p : Action A) (s : State) → Gives P s (p s) → Gives P s (require e b p s)
 gives_require P e true p s h = h
 gives_require P e false p s h = tt
 
-pub gives_choose : {A : Type 0} (P : A → Type 0) (b : Bool) (p q : Action A) (s : State) → Gives P (p s) → Gives P (q s) → Gives P (choose b p q s)
+pub gives_choose : {A : Type 0} (P : A → Type 0) (b : Bool) (p q : Action A) (s : State) → Gives P s (p s) → Gives P s (q s) → Gives P s (choose b p q s)
 gives_choose P true p q s h k = h
 gives_choose P false p q s h k = k
 
-pub gives_some : {A B : Type 0} (P : B → Type 0) (o : Option A) (f : A → Action B) (s : State) → ((a : A) → o ≡ Some a → Gives P (f a s)) → Gives P (with_some o f s)
+pub gives_some : {A B : Type 0} (P : B → Type 0) (o : Option A) (f : A → Action B) (s : State) → ((a : A) → o ≡ Some a → Gives P s (f a s)) → Gives P s (with_some o f s)
 gives_some P None f s h = tt
 gives_some P (Some a) f s h = h a refl
 
-pub gives_or_fail : {A B : Type 0} (P : B → Type 0) (e : ℕ) (o : Option A) (f : A → Action B) (s : State) → ((a : A) → o ≡ Some a → Gives P (f a s)) → Gives P (or_fail e o f s)
+pub gives_or_fail : {A B : Type 0} (P : B → Type 0) (e : ℕ) (o : Option A) (f : A → Action B) (s : State) → ((a : A) → o ≡ Some a → Gives P s (f a s)) → Gives P s (or_fail e o f s)
 gives_or_fail P e None f s h = tt
 gives_or_fail P e (Some a) f s h = h a refl
 
@@ -58,9 +73,13 @@ if_more m n true h k = omega arith
 if_more m n false h k = omega arith
 
 -- no label more
-pub fewer_stand : (s s' : State) → s'.next_label ≡ s.next_label → ((p : ℕ) → whole p s' ≤ whole p s) → AreGivenOnce s → AreGivenOnce s'
-fewer_stand s s' e h once p = subst (λ (n : ℕ). labels p s' ≤ (if nat_lt p n then 1 else 0)) (sym e)
-    (if_more (labels p s') (labels p s) (nat_lt p s.next_label) (omega (arith, h p, labels_whole p s, labels_whole p s')) (once p))
+pub fewer_stand : (s s' : State) → s'.next_label ≡ s.next_label → ((p : ℕ) → whole p s' ≤ whole p s) → AreGivenOnce s → Follows s s'
+fewer_stand s s' e h once = (
+  (λ p. subst (λ (n : ℕ). labels p s' ≤ (if nat_lt p n then 1 else 0)) (sym e)
+      (if_more (labels p s') (labels p s) (nat_lt p s.next_label) (omega (arith, h p, labels_whole p s, labels_whole p s')) (once p))),
+  omega (arith, e),
+  λ p l. omega (arith, h p, labels_whole p s, labels_whole p s'),
+)
 
 next_once : (p n m : ℕ) (a b c : Bool) → (n == p) ≡ a → nat_lt p n ≡ b → nat_lt p (suc n) ≡ c → m ≤ (if b then 1 else 0) + cond a 1 0 → m ≤ (if c then 1 else 0)
 next_once p n m a true true e f g h = go a e h
@@ -74,12 +93,27 @@ next_once p n m true b false e f g h = absurd (grind (arith, e, g))
 next_once p n m false true false e f g h = absurd (grind (arith, f, g))
 next_once p n m false false false e f g h = omega arith
 
--- the next label once more
-pub next_stands : (s s' : State) → s'.next_label ≡ suc s.next_label → ((p : ℕ) → whole p s' ≤ whole p s + cond (s.next_label == p) 1 0) → AreGivenOnce s → AreGivenOnce s'
-next_stands s s' e h once p = subst (λ (n : ℕ). labels p s' ≤ (if nat_lt p n then 1 else 0)) (sym e)
-    (next_once p s.next_label (labels p s') (s.next_label == p) (nat_lt p s.next_label) (nat_lt p (suc s.next_label)) refl refl refl
-    (add_more (labels p s') (labels p s) (cond (s.next_label == p) 1 0) (nat_lt p s.next_label) (omega (arith, h p, labels_whole p s, labels_whole p s')) (once p)))
+-- the next label stood nowhere
+not_next : (p n m l : ℕ) → suc p ≤ n → m ≤ l + cond (n == p) 1 0 → m ≤ l
+not_next p n m l low h = go (n == p) refl h
   where
+    go : (b : Bool) → (n == p) ≡ b → m ≤ l + cond b 1 0 → m ≤ l
+    go true e h = absurd (grind (arith, e, low))
+    go false e h = omega arith
+
+-- the next label once more
+pub next_stands : (s s' : State) → s'.next_label ≡ suc s.next_label → ((p : ℕ) → whole p s' ≤ whole p s + cond (s.next_label == p) 1 0) → AreGivenOnce s → Follows s s'
+next_stands s s' e h once = (
+  (λ p. subst (λ (n : ℕ). labels p s' ≤ (if nat_lt p n then 1 else 0)) (sym e)
+      (next_once p s.next_label (labels p s') (s.next_label == p) (nat_lt p s.next_label) (nat_lt p (suc s.next_label)) refl refl refl
+      (add_more (labels p s') (labels p s) (cond (s.next_label == p) 1 0) (nat_lt p s.next_label) (more p) (once p)))),
+  omega (arith, e),
+  λ p l. not_next p s.next_label (labels p s') (labels p s) l (more p),
+)
+  where
+    more : (p : ℕ) → labels p s' ≤ labels p s + cond (s.next_label == p) 1 0
+    more p = omega (arith, h p, labels_whole p s, labels_whole p s')
+
     add_more : (m n d : ℕ) (b : Bool) → m ≤ n + d → n ≤ (if b then 1 else 0) → m ≤ (if b then 1 else 0) + d
     add_more m n d true h k = omega arith
     add_more m n d false h k = omega arith

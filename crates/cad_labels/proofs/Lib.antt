@@ -2,6 +2,7 @@ pub mod Accounts
 pub mod Ends
 pub mod Forms
 pub mod Frames
+pub mod Gone
 pub mod Keeping
 pub mod Marks
 pub mod Members

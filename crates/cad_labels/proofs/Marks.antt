@@ -139,6 +139,13 @@ mark_named p q (suc i) (node l n s k r) = omega (arith, mark_named p q i r)
 
 -- ---- the node with a label
 
+abbrev is_there : Option Found → Bool
+is_there None = false
+is_there (Some f) = true
+
+pub some_is_there : (f : Found) → Some f ≡ None → ⊥
+some_is_there f e = true≢false (ap is_there e)
+
 pub nothing_found : (p : ℕ) (r : Row) → mark p r ≡ 0 → found p r ≡ None
 nothing_found p stop h = refl
 nothing_found p (gap r) h = nothing_found p r h
@@ -148,6 +155,19 @@ nothing_found p (node l n s k r) h = go (is_one_of p l) refl (nothing_found p k 
         → (if b then Some (record { labels = l; tree = record { optionals = n; shape = s; parts = k } }) else either (found p k) (found p r)) ≡ None
     go true e i j = absurd (omega (arith, h, has_label p l e))
     go false e i j = ap (λ o. either o (found p r)) i ∙ j
+
+-- and none stands where nothing is found
+pub nothing_marked : (p : ℕ) (r : Row) → found p r ≡ None → mark p r ≡ 0
+nothing_marked p stop h = refl
+nothing_marked p (gap r) h = nothing_marked p r h
+nothing_marked p (node l n s k r) h = go (is_one_of p l) refl h (found p k) refl (nothing_marked p k) (nothing_marked p r)
+  where
+    go : (b : Bool) → is_one_of p l ≡ b
+        → (if b then Some (record { labels = l; tree = record { optionals = n; shape = s; parts = k } }) else either (found p k) (found p r)) ≡ None
+        → (o : Option Found) → found p k ≡ o → (found p k ≡ None → mark p k ≡ 0) → (found p r ≡ None → mark p r ≡ 0) → times p l + (mark p k + mark p r) ≡ 0
+    go true e h o f i j = absurd (some_is_there _ h)
+    go false e h None f i j = omega (arith, has_no_label p l e, i f, j (sym (ap (λ x. either x (found p r)) f) ∙ h))
+    go false e h (Some x) f i j = absurd (some_is_there x (sym (ap (λ y. either y (found p r)) f) ∙ h))
 
 abbrev pub found_mark : ℕ → Option Found → ℕ
 found_mark q None = 0

@@ -1,4 +1,5 @@
 -- Labels as members of arrays and dictionaries change a node.
+use Rattle.cad_labels.proofs.Keeping.{stays}
 use Rattle.std.proofs.Common.{◌≡◌, ℕ, suc, ◌+◌, ◌-◌, ◌≤◌, nat_le, not, List, [], ◌∷◌, ◌++◌, Option, Some, None, refl, arith, ℤ, pos, negsuc}
 use Rattle.std.specs.Prelude.{unsigned_abs}
 use Rattle.cad_syntax.specs.Types.{PureType}
@@ -30,15 +31,15 @@ array_copy_keeps type r = copied_keeps (whole (array type) r)
 
 -- ---- tests
 
-pub all_type_gives : {A : Type 0} (P : A → Type 0) (type : PureType) (r : Row) (p : Action A) (s : State) → Gives P (p s) → Gives P (all_of_type type r p s)
+pub all_type_gives : {A : Type 0} (P : A → Type 0) (type : PureType) (r : Row) (p : Action A) (s : State) → Gives P s (p s) → Gives P s (all_of_type type r p s)
 all_type_gives P type stop p s h = h
 all_type_gives P type (gap r) p s h = all_type_gives P type r p s h
 all_type_gives P type (node l n sh k r) p s h = type_gives P type (record { optionals = n; shape = sh; parts = k }) _ s (all_type_gives P type r p s h)
 
-room_gives : {A : Type 0} (P : A → Type 0) (n : ℕ) (p : Action A) (s : State) → Gives P (p s) → Gives P (room n p s)
+room_gives : {A : Type 0} (P : A → Type 0) (n : ℕ) (p : Action A) (s : State) → Gives P s (p s) → Gives P s (room n p s)
 room_gives P n p s h = gives_require P 123 (nat_le n most_elements) p s h
 
-within_gives : {A B : Type 0} (P : A → Type 0) (Q : B → Type 0) (o : Option A) (f : A → Action B) (s : State) → Within P o → ((a : A) → P a → Gives Q (f a s)) → Gives Q (with_some o f s)
+within_gives : {A B : Type 0} (P : A → Type 0) (Q : B → Type 0) (o : Option A) (f : A → Action B) (s : State) → Within P o → ((a : A) → P a → Gives Q s (f a s)) → Gives Q s (with_some o f s)
 within_gives P Q None f s h k = tt
 within_gives P Q (Some a) f s h k = k a h
 
@@ -60,43 +61,43 @@ arrays_give_copies type r = (concat_keeps type r, slice_keeps type r, reverse_ke
 -- ---- what changes the node
 
 module _ (l : ℕ) (f : Found) (s : State) (e : at l s ≡ Some f) (once : AreGivenOnce s) where
-  becomes_gives : (shape : NodeShape) (k : Row) → ((p : ℕ) → mark p k ≤ mark p f.tree.parts) → Gives HasNone (becomes l shape k s)
+  becomes_gives : (shape : NodeShape) (k : Row) → ((p : ℕ) → mark p k ≤ mark p f.tree.parts) → Gives HasNone s (becomes l shape k s)
   becomes_gives shape k h = ((λ p. refl), node_stands l shape k s f e h once)
 
   -- and something is given
-  becomes_then : (shape : NodeShape) (k : Row) (q : Action Tree) → ((p : ℕ) → mark p k ≤ mark p f.tree.parts) → Keeps HasNone q → Gives HasNone ((becomes l shape k >> q) s)
-  becomes_then shape k q h g = gives_bind HasNone HasNone (becomes l shape k s) (λ t. q) (becomes_gives shape k h) (λ t none. g)
+  becomes_then : (shape : NodeShape) (k : Row) (q : Action Tree) → ((p : ℕ) → mark p k ≤ mark p f.tree.parts) → Keeps HasNone q → Gives HasNone s ((becomes l shape k >> q) s)
+  becomes_then shape k q h g = gives_bind HasNone HasNone s (becomes l shape k s) (λ t. q) (becomes_gives shape k h) (λ t none. g)
 
-  append_gives : (type : PureType) (t : Tree) → HasNone t → Gives HasNone (array_append l type f.tree.parts t s)
+  append_gives : (type : PureType) (t : Tree) → HasNone t → Gives HasNone s (array_append l type f.tree.parts t s)
   append_gives type t none = type_gives HasNone type t _ s (room_gives HasNone (suc (count_places f.tree.parts)) _ s
       (becomes_gives (array type) (add_last t f.tree.parts) (λ p. omega (arith, mark_last p t f.tree.parts, no_mark t none p))))
 
-  append_all_gives : (type : PureType) (t : Tree) → HasNone t → Gives HasNone (array_append_all l type f.tree.parts t s)
+  append_all_gives : (type : PureType) (t : Tree) → HasNone t → Gives HasNone s (array_append_all l type f.tree.parts t s)
   append_all_gives type t none = within_gives HasNoneInRow HasNone (elements_in t) _ s (elements_none t none) (λ q h. all_type_gives HasNone type q _ s
       (room_gives HasNone (count_places f.tree.parts + count_places q) _ s
       (becomes_gives (array type) (join f.tree.parts q) (λ p. omega (arith, mark_join p f.tree.parts q, no_mark_in q h p)))))
 
-  insert_gives : (type : PureType) (i t : Tree) → HasNone t → Gives HasNone (array_insert l type f.tree.parts i t s)
+  insert_gives : (type : PureType) (i t : Tree) → HasNone t → Gives HasNone s (array_insert l type f.tree.parts i t s)
   insert_gives type i t none = gives_some HasNone (integer_in i) _ s (λ z u. gives_require HasNone 104 (is_index z (suc (count_places f.tree.parts))) _ s
       (type_gives HasNone type t _ s (room_gives HasNone (suc (count_places f.tree.parts)) _ s
       (becomes_gives (array type) (wedge (unsigned_abs z) t f.tree.parts) (λ p. omega (arith, mark_wedge p (unsigned_abs z) t f.tree.parts, no_mark t none p))))))
 
-  cut_gives : (type : PureType) (i : ℕ) (o : Slot) → Gives HasNone (array_cut l type f.tree.parts i o s)
+  cut_gives : (type : PureType) (i : ℕ) (o : Slot) → Gives HasNone s (array_cut l type f.tree.parts i o s)
   cut_gives type i (full t) = becomes_then (array type) (cut i f.tree.parts) (give (bare_tree t)) (λ p. mark_cut p i f.tree.parts) (keeps_give HasNone (bare_tree t) (bare_has_none t))
   cut_gives type i free = tt
   cut_gives type i out = tt
 
-  remove_at_gives : (type : PureType) (z : ℤ) → Gives HasNone (array_remove_at l type f.tree.parts z s)
+  remove_at_gives : (type : PureType) (z : ℤ) → Gives HasNone s (array_remove_at l type f.tree.parts z s)
   remove_at_gives type (pos i) = cut_gives type i (slot i f.tree.parts)
   remove_at_gives type (negsuc i) = tt
 
-  remove_gives : (type : PureType) (i : Tree) → Gives HasNone (array_remove l type f.tree.parts i s)
+  remove_gives : (type : PureType) (i : Tree) → Gives HasNone s (array_remove l type f.tree.parts i s)
   remove_gives type i = gives_some HasNone (integer_in i) _ s (λ z u. remove_at_gives type z)
 
-  remove_first_gives : (type : PureType) → Gives HasNone (array_remove_first l type f.tree.parts s)
+  remove_first_gives : (type : PureType) → Gives HasNone s (array_remove_first l type f.tree.parts s)
   remove_first_gives type = cut_gives type 0 (slot 0 f.tree.parts)
 
-  remove_last_gives : (type : PureType) → Gives HasNone (array_remove_last l type f.tree.parts s)
+  remove_last_gives : (type : PureType) → Gives HasNone s (array_remove_last l type f.tree.parts s)
   remove_last_gives type = remove_at_gives type (last_index (count_places f.tree.parts))
 
   taken_gives : (o : Slot) → Keeps HasNone (taken_value o)
@@ -104,21 +105,21 @@ module _ (l : ℕ) (f : Found) (s : State) (e : at l s ≡ Some f) (once : AreGi
   taken_gives free = keeps_fail HasNone 113
   taken_gives out = keeps_fail HasNone 113
 
-  put_gives : (key value : PureType) (ks : List PureValue) (k t : Tree) (o : Option ℕ) → HasNone t → Gives HasNone (key_put l key value ks f.tree.parts k t o s)
+  put_gives : (key value : PureType) (ks : List PureValue) (k t : Tree) (o : Option ℕ) → HasNone t → Gives HasNone s (key_put l key value ks f.tree.parts k t o s)
   put_gives key value ks k t (Some i) none = becomes_then (dictionary key value ks) (put i t f.tree.parts) (taken_value (slot i f.tree.parts))
       (λ p. omega (arith, mark_put p i t f.tree.parts, no_mark t none p)) (taken_gives (slot i f.tree.parts))
   put_gives key value ks k t None none = room_gives HasNone (suc (count_places f.tree.parts)) _ s
       (becomes_then (dictionary key value (ks ++ value_of k ∷ [])) (add_last t f.tree.parts) (give nil_tree)
       (λ p. omega (arith, mark_last p t f.tree.parts, no_mark t none p)) (keeps_give HasNone nil_tree (λ p. refl)))
 
-  dictionary_insert_gives : (key value : PureType) (ks : List PureValue) (k t : Tree) → HasNone t → Gives HasNone (dictionary_insert l key value ks f.tree.parts k t s)
+  dictionary_insert_gives : (key value : PureType) (ks : List PureValue) (k t : Tree) → HasNone t → Gives HasNone s (dictionary_insert l key value ks f.tree.parts k t s)
   dictionary_insert_gives key value ks k t none = type_gives HasNone key k _ s (type_gives HasNone value t _ s (put_gives key value ks k t (key_position (value_of k) ks) none))
 
-  key_cut_gives : (key value : PureType) (ks : List PureValue) (o : Option ℕ) → Gives HasNone (key_cut l key value ks f.tree.parts o s)
-  key_cut_gives key value ks None = ((λ p. refl), once)
+  key_cut_gives : (key value : PureType) (ks : List PureValue) (o : Option ℕ) → Gives HasNone s (key_cut l key value ks f.tree.parts o s)
+  key_cut_gives key value ks None = ((λ p. refl), stays s once)
   key_cut_gives key value ks (Some i) = becomes_then (dictionary key value (without_key i ks)) (cut i f.tree.parts) (taken_value (slot i f.tree.parts)) (λ p. mark_cut p i f.tree.parts) (taken_gives (slot i f.tree.parts))
 
-  dictionary_remove_gives : (key value : PureType) (ks : List PureValue) (k : Tree) → Gives HasNone (dictionary_remove l key value ks f.tree.parts k s)
+  dictionary_remove_gives : (key value : PureType) (ks : List PureValue) (k : Tree) → Gives HasNone s (dictionary_remove l key value ks f.tree.parts k s)
   dictionary_remove_gives key value ks k = key_cut_gives key value ks (key_position (value_of k) ks)
 
 pub arrays_keep : ArraysKeep

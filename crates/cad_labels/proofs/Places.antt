@@ -1,4 +1,5 @@
 -- Labels as places are named, emptied and filled.
+use Rattle.cad_labels.proofs.Keeping.{stays}
 use Rattle.std.proofs.Common.{◌≡◌, ℕ, zero, suc, ◌-◌, ◌≤◌, ◌==◌, nat_le, Bool, true, false, not, cond, List, [], ◌∷◌, ◌++◌, map, length, Option, Some, None, refl, sym, ap, ◌∙◌, arith}
 use Rattle.cad_syntax.specs.Types.{PureType}
 use Rattle.cad_syntax.specs.declared.text.Name.{Name}
@@ -27,20 +28,20 @@ use Rattle.cad_world.specs.Trees.{tree_of, tree_height, tree_weight}
 use Rattle.cad_evaluation.specs.Changing.{content_in_value, content_in_shape, content_in, by_content, opened, nothing_there, take_slot, take, put_at, fill_variable, fill_part, fill_place, element_type, fill_element, fill_key, drop_key, fill_entry, cleared, empty_if_nil, same_location, still_there}
 use Rattle.cad_evaluation.specs.Containers.{of_type, without_key}
 use Rattle.cad_evaluation.specs.Making.{begin, finished, finish}
-use Rattle.cad_labels.specs.Laws.{HasNone, Gives, Keeps, AnyOne, BeginsWithout, NamingKeeps, LooksKeep, TakingKeeps, FillingKeeps, AssigningKeeps, ExchangingKeeps, SwappingKeeps, EndingKeeps, MakingKeeps}
+use Rattle.cad_labels.specs.Laws.{Follows, HasNone, Gives, Keeps, AnyOne, BeginsWithout, NamingKeeps, LooksKeep, TakingKeeps, FillingKeeps, AssigningKeeps, ExchangingKeeps, SwappingKeeps, EndingKeeps, MakingKeeps}
 use Rattle.cad_labels.proofs.Marks.{mark, marks_mark, found_mark, gained, mark_put, mark_clear, mark_cut, mark_front, mark_last, mark_bare, mark_empty, mark_named}
 use Rattle.cad_labels.proofs.States.{account_rows, contract_rows, total, labels_whole, node_changed}
 use Rattle.cad_labels.proofs.Keeping.{keeps_bind, gives_guard, gives_require, gives_choose, gives_or_fail, stands_once, fewer_stand, next_stands, place_changed, place_next}
 
 -- ---- names
 
-named_gives : (x : Location) (s : State) → AreGivenOnce s → AreGivenOnce (changed_at (λ i. named i s.next_label) x (record s { next_label = suc s.next_label }))
+named_gives : (x : Location) (s : State) → AreGivenOnce s → Follows s (changed_at (λ i. named i s.next_label) x (record s { next_label = suc s.next_label }))
 named_gives x s once = next_stands s (changed_at (λ i. named i s.next_label) x (record s { next_label = suc s.next_label }))
     (place_next (λ i. named i s.next_label) x (record s { next_label = suc s.next_label }))
     (λ p. place_changed p (cond (s.next_label == p) 1 0) (λ i. named i s.next_label) (λ i r. mark_named p s.next_label i r) x (record s { next_label = suc s.next_label }) (stands_once s once)) once
 
 pub naming_keeps : NamingKeeps
-naming_keeps (receiver l) = λ s once. (tt, once)
+naming_keeps (receiver l) = λ s once. (tt, stays s once)
 naming_keeps (variable x) = λ s once. (tt, named_gives (variable x) s once)
 naming_keeps (contract id) = λ s once. (tt, named_gives (contract id) s once)
 naming_keeps (stored a n) = λ s once. (tt, named_gives (stored a n) s once)
@@ -54,7 +55,7 @@ pub found_keeps : {A : Type 0} (P : A → Type 0) (l : ℕ) (f : Found → Actio
 found_keeps P l f h = λ s once. gives_or_fail P 113 (at l s) f s (λ x e. h x s once)
 
 pub spot_keeps : (rights : Option Authorization) (l n : ℕ) → Keeps AnyOne (spot_at rights l n)
-spot_keeps rights l n = found_keeps AnyOne l _ (λ f s once. (tt, once))
+spot_keeps rights l n = found_keeps AnyOne l _ (λ f s once. (tt, stays s once))
 
 stored_keeps : (a : Authorization) (type : PureType) (x : Location) (o : Slot) → Keeps AnyOne (stored_spot a type x o)
 stored_keeps a type x out = λ s once. tt
@@ -65,9 +66,9 @@ stored_keeps a type x (full t) = λ s once. gives_or_fail AnyOne 113 (own_type s
 by_keeps : (a : Authorization) (type : PureType) (own : PureValue) (target : Target) → Keeps AnyOne (spot_by a type own target)
 by_keeps a type own (to.Node l) = λ s once. tt
 by_keeps a type own (to.Stored address n) = λ s once. stored_keeps a type (stored address.0 n) (stored_slot s address.0 n) s once
-by_keeps a type own (to.Account address) = λ s once. (tt, once)
+by_keeps a type own (to.Account address) = λ s once. (tt, stays s once)
 by_keeps a type own (to.Controller address n) = λ s once. gives_require AnyOne 113 (is_some (controller_at s address.0 n))
-    (give (record { rights = Some a; label = None; tree = record { optionals = 0; shape = plain own; parts = stop } })) s (tt, once)
+    (give (record { rights = Some a; label = None; tree = record { optionals = 0; shape = plain own; parts = stop } })) s (tt, stays s once)
 
 plain_keeps : (x : PureValue) → Keeps AnyOne (plain_spot x)
 plain_keeps (v.reference a type target) = by_keeps a type (v.reference a type target) target
@@ -81,12 +82,12 @@ deref_keeps _ = λ s once. tt
 pub looks_keep : LooksKeep
 looks_keep (standing rights l n) = spot_keeps rights l n
 looks_keep (through shape) = deref_keeps shape
-looks_keep receivers.absent = λ s once. (tt, once)
+looks_keep receivers.absent = λ s once. (tt, stays s once)
 
 pub bounds_keep : (o : Slot) → Keeps AnyOne (or_out_of_bounds o)
 bounds_keep out = λ s once. tt
-bounds_keep free = λ s once. (tt, once)
-bounds_keep (full t) = λ s once. (tt, once)
+bounds_keep free = λ s once. (tt, stays s once)
+bounds_keep (full t) = λ s once. (tt, stays s once)
 
 pub element_keeps : (i : _) (shape : NodeShape) (r : Row) → Keeps AnyOne (element_of i shape r)
 element_keeps i (array t) r = bounds_keep _
@@ -96,18 +97,18 @@ element_keeps i (dictionary k t ks) r = λ s once. tt
 element_keeps i (composite id n ns) r = λ s once. tt
 
 key_keeps : (key : PureValue) (shape : NodeShape) (r : Row) → Keeps AnyOne (entry_of_key key shape r)
-key_keeps key (dictionary k t ks) r = λ s once. (tt, once)
+key_keeps key (dictionary k t ks) r = λ s once. (tt, stays s once)
 key_keeps key (plain x) r = λ s once. tt
 key_keeps key (link a l n) r = λ s once. tt
 key_keeps key (array t) r = λ s once. tt
 key_keeps key (composite id n ns) r = λ s once. tt
 
 pub slot_keeps : (x : Location) → Keeps AnyOne (slot_of x)
-slot_keeps (variable x) = λ s once. (tt, once)
-slot_keeps (receiver l) = found_keeps AnyOne l _ (λ f s once. (tt, once))
-slot_keeps (contract id) = λ s once. (tt, once)
-slot_keeps (stored a n) = λ s once. (tt, once)
-slot_keeps (part l i) = found_keeps AnyOne l _ (λ f s once. (tt, once))
+slot_keeps (variable x) = λ s once. (tt, stays s once)
+slot_keeps (receiver l) = found_keeps AnyOne l _ (λ f s once. (tt, stays s once))
+slot_keeps (contract id) = λ s once. (tt, stays s once)
+slot_keeps (stored a n) = λ s once. (tt, stays s once)
+slot_keeps (part l i) = found_keeps AnyOne l _ (λ f s once. (tt, stays s once))
 slot_keeps (element l i) = found_keeps AnyOne l _ (λ f. element_keeps i f.tree.shape f.tree.parts)
 slot_keeps (entry l key) = found_keeps AnyOne l _ (λ f. key_keeps key f.tree.shape f.tree.parts)
 
@@ -121,7 +122,7 @@ empty_keeps P (element l i) = λ s once. tt
 empty_keeps P (entry l k) = λ s once. tt
 
 absent_keeps : (x : Location) → Keeps AnyOne (absent x)
-absent_keeps (entry l k) = λ s once. (tt, once)
+absent_keeps (entry l k) = λ s once. (tt, stays s once)
 absent_keeps (variable x) = λ s once. tt
 absent_keeps (receiver l) = λ s once. tt
 absent_keeps (contract id) = λ s once. tt
@@ -133,12 +134,12 @@ pub read_keeps : (x : Location) → Keeps AnyOne (read x)
 read_keeps x = keeps_bind AnyOne AnyOne (slot_of x) _ (slot_keeps x) (λ o u. go o)
   where
     go : (o : Slot) → Keeps AnyOne (read_slot x o)
-    go (full t) = λ s once. (tt, once)
+    go (full t) = λ s once. (tt, stays s once)
     go free = empty_keeps AnyOne x
     go out = absent_keeps x
 
-pub paid_keeps : (n : ℕ) (b : Bool) (s : State) → AreGivenOnce s → Gives AnyOne (paid n b s)
-paid_keeps n true s once = (tt, once)
+pub paid_keeps : (n : ℕ) (b : Bool) (s : State) → AreGivenOnce s → Gives AnyOne s (paid n b s)
+paid_keeps n true s once = (tt, stays s once)
 paid_keeps n false s once = tt
 
 pub charged_keeps : (t : Tree) → Keeps AnyOne (charged t)
@@ -146,19 +147,19 @@ charged_keeps t = λ s once. gives_require AnyOne 123 (nat_le (tree_height t) mo
     (paid_keeps (tree_weight t - 1) (nat_le (tree_weight t - 1) s.units) s once)
 
 pub transferred_keeps : (type : PureType) (t : Tree) → HasNone t → Keeps HasNone (transferred type t)
-transferred_keeps type t none = keeps_bind AnyOne HasNone (charged t) _ (charged_keeps t) (λ u w s once. (none, once))
+transferred_keeps type t none = keeps_bind AnyOne HasNone (charged t) _ (charged_keeps t) (λ u w s once. (none, stays s once))
 
 -- ---- a value leaves its place
 
 pub bare_has_none : (t : Tree) → HasNone (bare_tree t)
 bare_has_none t p = marks_mark p (bare t.parts) ∙ mark_bare p t.parts
 
-pub cleared_stands : (x : Location) (s : State) → AreGivenOnce s → AreGivenOnce (changed_at clear x s)
+pub cleared_stands : (x : Location) (s : State) → AreGivenOnce s → Follows s (changed_at clear x s)
 cleared_stands x s once = fewer_stand s (changed_at clear x s) (place_next clear x s)
     (λ p. omega (arith, place_changed p 0 clear (λ i r. omega (arith, mark_clear p i r)) x s (stands_once s once))) once
 
 nothing_keeps : (x : Location) → Keeps HasNone (nothing_there x)
-nothing_keeps (entry l k) = λ s once. ((λ p. refl), once)
+nothing_keeps (entry l k) = λ s once. ((λ p. refl), stays s once)
 nothing_keeps (variable x) = λ s once. tt
 nothing_keeps (receiver l) = λ s once. tt
 nothing_keeps (contract id) = λ s once. tt
@@ -188,29 +189,29 @@ put_keeps x t none = λ s once. (
 
 -- the node with the label has other parts, whose labels stood in it
 pub node_stands : (l : ℕ) (shape : NodeShape) (k : Row) (s : State) (f : Found) → at l s ≡ Some f → ((p : ℕ) → mark p k ≤ mark p f.tree.parts)
-    → AreGivenOnce s → AreGivenOnce (with_node l shape k s)
+    → AreGivenOnce s → Follows s (with_node l shape k s)
 node_stands l shape k s f e h once = fewer_stand s (with_node l shape k s) refl
     (λ p. omega (arith, node_changed l p shape k s (stands_once s once l), ap (found_mark p) e, ap (gained p k) e, h p)) once
 
-pub type_gives : {A : Type 0} (P : A → Type 0) (type : PureType) (t : Tree) (p : Action A) (s : State) → Gives P (p s) → Gives P (of_type type t p s)
+pub type_gives : {A : Type 0} (P : A → Type 0) (type : PureType) (t : Tree) (p : Action A) (s : State) → Gives P s (p s) → Gives P s (of_type type t p s)
 type_gives P type t p s h = gives_or_fail P 113 (own_type s t) _ s (λ own e. gives_require P 129 (below (declarations s) own type) p s h)
 
 -- the content of an optional has the same parts
-value_gives : {A : Type 0} (P : A → Type 0) (p : Action A) (f : Tree → Action A) (s : State) (x : PureValue) → Gives P (p s) → Gives P (by_content (content_in_value x) p f s)
+value_gives : {A : Type 0} (P : A → Type 0) (p : Action A) (f : Tree → Action A) (s : State) (x : PureValue) → Gives P s (p s) → Gives P s (by_content (content_in_value x) p f s)
 value_gives P p f s nil h = h
 value_gives P p f s _ h = tt
 
-shape_gives : {A : Type 0} (P : A → Type 0) (p : Action A) (f : Tree → Action A) (s : State) (shape : NodeShape) → Gives P (p s) → Gives P (by_content (content_in_shape shape) p f s)
+shape_gives : {A : Type 0} (P : A → Type 0) (p : Action A) (f : Tree → Action A) (s : State) (shape : NodeShape) → Gives P s (p s) → Gives P s (by_content (content_in_shape shape) p f s)
 shape_gives P p f s (plain x) h = value_gives P p f s x h
 shape_gives P p f s _ h = tt
 
 count_gives : {A : Type 0} (P : A → Type 0) (n : ℕ) (t : Tree) (p : Action A) (f : Tree → Action A) (s : State)
-    → Gives P (p s) → ((x : Tree) → x.parts ≡ t.parts → Gives P (f x s)) → Gives P (by_content (content_in n t) p f s)
+    → Gives P s (p s) → ((x : Tree) → x.parts ≡ t.parts → Gives P s (f x s)) → Gives P s (by_content (content_in n t) p f s)
 count_gives P zero t p f s h k = shape_gives P p f s t.shape h
 count_gives P (suc n) t p f s h k = k (record t { optionals = n }) refl
 
 pub content_gives : {A : Type 0} (P : A → Type 0) (t : Tree) (p : Action A) (f : Tree → Action A) (s : State)
-    → Gives P (p s) → ((x : Tree) → x.parts ≡ t.parts → Gives P (f x s)) → Gives P (opened t p f s)
+    → Gives P s (p s) → ((x : Tree) → x.parts ≡ t.parts → Gives P s (f x s)) → Gives P s (opened t p f s)
 content_gives P t p f s h k = count_gives P t.optionals t p f s h k
 
 variable_keeps : (x : ℕ) (t : Tree) (o : Slot) → HasNone t → Keeps AnyOne (fill_variable x t o)
@@ -233,20 +234,20 @@ fill_element_keeps x t o None none = λ s once. tt
 fill_element_keeps x t o (Some type) none = place_keeps x type t o none
 
 key_gives : (l : ℕ) (key value : PureType) (ks : List PureValue) (k : PureValue) (t : Tree) (o : Option ℕ) (s : State) (f : Found) → at l s ≡ Some f → HasNone t
-    → AreGivenOnce s → Gives AnyOne (fill_key l key value ks f.tree.parts k t o s)
+    → AreGivenOnce s → Gives AnyOne s (fill_key l key value ks f.tree.parts k t o s)
 key_gives l key value ks k t (Some i) s f e none once = part_keeps (entry l k) t (slot i f.tree.parts) none s once
 key_gives l key value ks k t None s f e none once = gives_require AnyOne 123 (nat_le (suc (count_places f.tree.parts)) most_elements)
     (λ s. ok tt (with_node l (dictionary key value (ks ++ k ∷ [])) (add_last t f.tree.parts) s)) s
     (tt, node_stands l (dictionary key value (ks ++ k ∷ [])) (add_last t f.tree.parts) s f e (λ p. omega (arith, mark_last p t f.tree.parts, no_mark t none p)) once)
 
 drop_gives : (l : ℕ) (key value : PureType) (ks : List PureValue) (o : Option ℕ) (s : State) (f : Found) → at l s ≡ Some f
-    → AreGivenOnce s → Gives AnyOne (drop_key l key value ks f.tree.parts o s)
+    → AreGivenOnce s → Gives AnyOne s (drop_key l key value ks f.tree.parts o s)
 drop_gives l key value ks (Some i) s f e once =
     (tt, node_stands l (dictionary key value (without_key i ks)) (cut i f.tree.parts) s f e (λ p. mark_cut p i f.tree.parts) once)
-drop_gives l key value ks None s f e once = (tt, once)
+drop_gives l key value ks None s f e once = (tt, stays s once)
 
 entry_gives : (l : ℕ) (k : PureValue) (t : Tree) (shape : NodeShape) (s : State) (f : Found) → at l s ≡ Some f → HasNone t
-    → AreGivenOnce s → Gives AnyOne (fill_entry l k t shape f.tree.parts s)
+    → AreGivenOnce s → Gives AnyOne s (fill_entry l k t shape f.tree.parts s)
 entry_gives l k t (dictionary key value ks) s f e none once = content_gives AnyOne t _ _ s
     (drop_gives l key value ks (key_position k ks) s f e once)
     (λ x same. type_gives AnyOne key (tree_of k) _ s (type_gives AnyOne value x _ s
@@ -270,13 +271,13 @@ filling_keeps (receiver l) t none = λ s once. tt
 
 cleared_keeps : (x : Location) (o : Slot) → Keeps AnyOne (cleared x o)
 cleared_keeps x (full t) = λ s once. gives_guard AnyOne (not (tree_owns t)) _ s (tt, cleared_stands x s once)
-cleared_keeps x free = λ s once. (tt, once)
-cleared_keeps x out = λ s once. (tt, once)
+cleared_keeps x free = λ s once. (tt, stays s once)
+cleared_keeps x out = λ s once. (tt, stays s once)
 
 nil_keeps : (x : Location) (o : Slot) → Keeps AnyOne (empty_if_nil x o)
 nil_keeps x (full t) = λ s once. content_gives AnyOne (as_read x t) _ _ s (tt, cleared_stands x s once) (λ u e. tt)
 nil_keeps x free = empty_keeps AnyOne x
-nil_keeps x out = keeps_bind HasNone AnyOne (nothing_there x) _ (nothing_keeps x) (λ t u s once. (tt, once))
+nil_keeps x out = keeps_bind HasNone AnyOne (nothing_there x) _ (nothing_keeps x) (λ t u s once. (tt, stays s once))
 
 pub assigning_keeps : AssigningKeeps
 assigning_keeps x t none = (
@@ -289,20 +290,20 @@ taken_keeps x type = keeps_bind HasNone HasNone (take x) (transferred type) (tak
 
 pub exchanging_keeps : ExchangingKeeps
 exchanging_keeps x type t none = keeps_bind HasNone HasNone _ _ (taken_keeps x type)
-    (λ old h. keeps_bind AnyOne HasNone _ _ (filling_keeps x t none) (λ u w s once. (h, once)))
+    (λ old h. keeps_bind AnyOne HasNone _ _ (filling_keeps x t none) (λ u w s once. (h, stays s once)))
 
 there_keeps : (x : Location) → Keeps AnyOne (still_there x)
-there_keeps (part l i) = found_keeps AnyOne l _ (λ f s once. (tt, once))
-there_keeps (element l i) = found_keeps AnyOne l _ (λ f s once. (tt, once))
-there_keeps (entry l k) = found_keeps AnyOne l _ (λ f s once. (tt, once))
-there_keeps (variable x) = λ s once. (tt, once)
-there_keeps (receiver l) = λ s once. (tt, once)
-there_keeps (contract id) = λ s once. (tt, once)
-there_keeps (stored a n) = λ s once. (tt, once)
+there_keeps (part l i) = found_keeps AnyOne l _ (λ f s once. (tt, stays s once))
+there_keeps (element l i) = found_keeps AnyOne l _ (λ f s once. (tt, stays s once))
+there_keeps (entry l k) = found_keeps AnyOne l _ (λ f s once. (tt, stays s once))
+there_keeps (variable x) = λ s once. (tt, stays s once)
+there_keeps (receiver l) = λ s once. (tt, stays s once)
+there_keeps (contract id) = λ s once. (tt, stays s once)
+there_keeps (stored a n) = λ s once. (tt, stays s once)
 
 pub swapping_keeps : SwappingKeeps
 swapping_keeps x xtype y ytype = λ s once. gives_choose AnyOne (same_location s x y) _ _ s
-    (keeps_bind AnyOne AnyOne (read x) _ (read_keeps x) (λ t u s once. (tt, once)) s once)
+    (keeps_bind AnyOne AnyOne (read x) _ (read_keeps x) (λ t u s once. (tt, stays s once)) s once)
     (keeps_bind HasNone AnyOne _ _ (taken_keeps x ytype) (λ a h. keeps_bind HasNone AnyOne _ _ (taken_keeps y xtype)
     (λ b k. keeps_bind AnyOne AnyOne _ _ (keeps_bind AnyOne AnyOne _ _ (keeps_bind AnyOne AnyOne _ _ (there_keeps x) (λ u w. there_keeps y))
     (λ u w. filling_keeps x b k)) (λ u w. filling_keeps y a h))) s once)
@@ -327,7 +328,7 @@ begins_keep id i names = λ s once. (
 pub finish_keeps : Keeps HasNone finish
 finish_keeps = λ s once. go s once s.making refl
   where
-    go : (s : State) → AreGivenOnce s → (r : Row) → s.making ≡ r → Gives HasNone (finished r s)
+    go : (s : State) → AreGivenOnce s → (r : Row) → s.making ≡ r → Gives HasNone s (finished r s)
     go s once stop e = tt
     go s once (gap r) e = tt
     go s once (node l n shape k r) e = gives_guard HasNone (is_full k) _ s

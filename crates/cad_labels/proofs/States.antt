@@ -1,12 +1,12 @@
 -- How often a label stands in a state: in a list of rows.
-use Rattle.std.proofs.Common.{◌≡◌, ℕ, ◌+◌, ◌≤◌, List, [], ◌∷◌, map, Option, None, refl, ap, arith}
+use Rattle.std.proofs.Common.{◌≡◌, ℕ, ◌+◌, ◌≤◌, List, [], ◌∷◌, map, Option, Some, None, refl, sym, ap, ◌∙◌, arith}
 use Rattle.std.specs.Prelude.{sum_by}
 use Rattle.std.proofs.lemmas.List.Sums.{sum_by-cons}
 use Rattle.cad_world.specs.Labels.{found_in_frames, found_in_accounts, found_in_contracts, at, on_frame, on_account, on_contract, on_rows, with_node}
 use Rattle.cad_world.specs.Marks.{marks, frame_marks, labels}
 use Rattle.cad_world.specs.Rows.{NodeShape, Row, Found, either, found, changed}
 use Rattle.cad_world.specs.State.{Account, Contract, Frame, State}
-use Rattle.cad_labels.proofs.Marks.{mark, marks_mark, found_mark, gained, Counts, counts_either, both_changed, found_counts, mark_changed}
+use Rattle.cad_labels.proofs.Marks.{mark, marks_mark, found_mark, gained, Counts, counts_either, some_is_there, nothing_marked, both_changed, found_counts, mark_changed}
 
 -- ---- the rows of a state
 
@@ -66,7 +66,7 @@ contracts_found p (c ∷ all) = ap (either (found p c.value)) (contracts_found p
 abbrev found_whole : ℕ → State → Option Found
 found_whole p s = either (found_rows p (frame_rows s.frames)) (either (found p s.making) (either (found_rows p (account_rows s.accounts)) (found_rows p (contract_rows s.contracts))))
 
-at_whole : (p : ℕ) (s : State) → at p s ≡ found_whole p s
+pub at_whole : (p : ℕ) (s : State) → at p s ≡ found_whole p s
 at_whole p s = λ i. either (frames_found p s.frames i) (either (found p s.making) (either (accounts_found p s.accounts i) (contracts_found p s.contracts i)))
 
 rows_count : (p : ℕ) (rs : List Row) → Counts (total p rs) (found_rows p rs)
@@ -124,3 +124,43 @@ node_changed p q sh k s h = omega (
       (total q (contract_rows s.contracts)) (total q (map (changed p sh k) (contract_rows s.contracts))) k (found_rows p (account_rows s.accounts)) (found_rows p (contract_rows s.contracts)) (omega (arith, h))
       (rows_count p (account_rows s.accounts)) (rows_count p (contract_rows s.contracts)) (rows_changed p q sh k (account_rows s.accounts) (omega (arith, h))) (rows_changed p q sh k (contract_rows s.contracts) (omega (arith, h))))),
 )
+
+-- ---- a label that stands nowhere
+
+either_none : (a b : Option Found) → either a b ≡ None → (a ≡ None) × (b ≡ None)
+either_none None b h = (refl, h)
+either_none (Some f) b h = absurd (some_is_there f h)
+
+rows_marked : (p : ℕ) (rs : List Row) → found_rows p rs ≡ None → total p rs ≡ 0
+rows_marked p [] h = refl
+rows_marked p (r ∷ rs) h = omega (arith, nothing_marked p r (either_none (found p r) (found_rows p rs) h).0, rows_marked p rs (either_none (found p r) (found_rows p rs) h).1)
+
+-- no node is found by it
+pub nowhere_marked : (p : ℕ) (s : State) → at p s ≡ None → labels p s ≡ 0
+nowhere_marked p s h =
+    let a = either_none (found_rows p (frame_rows s.frames)) (either (found p s.making) (either (found_rows p (account_rows s.accounts)) (found_rows p (contract_rows s.contracts)))) (sym (at_whole p s) ∙ h) in
+    let b = either_none (found p s.making) (either (found_rows p (account_rows s.accounts)) (found_rows p (contract_rows s.contracts))) a.1 in
+    let c = either_none (found_rows p (account_rows s.accounts)) (found_rows p (contract_rows s.contracts)) b.1 in
+    omega (
+      arith,
+      labels_whole p s,
+      rows_marked p (frame_rows s.frames) a.0,
+      nothing_marked p s.making b.0,
+      rows_marked p (account_rows s.accounts) c.0,
+      rows_marked p (contract_rows s.contracts) c.1,
+    )
+
+none_counted : (o : Option Found) (n : ℕ) → n ≡ 0 → Counts n o → o ≡ None
+none_counted None n e h = refl
+none_counted (Some f) n e h = absurd (omega (arith, e, h))
+
+pub whole_counts : (p : ℕ) (s : State) → Counts (whole p s) (found_whole p s)
+whole_counts p s = counts_either (total p (frame_rows s.frames)) (mark p s.making + (total p (account_rows s.accounts) + total p (contract_rows s.contracts)))
+    (found_rows p (frame_rows s.frames)) (either (found p s.making) (either (found_rows p (account_rows s.accounts)) (found_rows p (contract_rows s.contracts))))
+    (rows_count p (frame_rows s.frames))
+    (counts_either (mark p s.making) (total p (account_rows s.accounts) + total p (contract_rows s.contracts)) (found p s.making) (either (found_rows p (account_rows s.accounts)) (found_rows p (contract_rows s.contracts)))
+    (found_counts p s.making) (counts_either (total p (account_rows s.accounts)) (total p (contract_rows s.contracts)) (found_rows p (account_rows s.accounts)) (found_rows p (contract_rows s.contracts)) (rows_count p (account_rows s.accounts)) (rows_count p (contract_rows s.contracts))))
+
+-- and the other way
+pub unmarked_nowhere : (p : ℕ) (s : State) → labels p s ≡ 0 → at p s ≡ None
+unmarked_nowhere p s h = at_whole p s ∙ none_counted (found_whole p s) (whole p s) (omega (arith, labels_whole p s, h)) (whole_counts p s)

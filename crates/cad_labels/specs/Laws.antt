@@ -1,12 +1,12 @@
 -- A label that was given is never given again, and stands on one node: of the actions that name nodes, take values out of places and
 -- bring values to places.
-use Rattle.std.specs.Prelude.{◌≡◌, ℕ, Bool, List, Option, Some}
+use Rattle.std.specs.Prelude.{◌≡◌, ℕ, suc, ◌≤◌, Bool, List, Option, Some, None}
 use Rattle.cad_syntax.specs.Types.{PureType}
 use Rattle.cad_syntax.specs.declared.address.Address.{Address}
 use Rattle.cad_syntax.specs.declared.text.Name.{Name}
 use Rattle.cad_syntax.specs.declared.type_id.TypeId.{TypeId}
 use Rattle.cad_world.specs.Locations.{Location, name}
-use Rattle.cad_world.specs.Marks.{marks, AreGivenOnce}
+use Rattle.cad_world.specs.Marks.{marks, labels, AreGivenOnce}
 use Rattle.cad_world.specs.Receivers.{Receiver, look_at}
 use Rattle.cad_values.specs.Values.{PureValue}
 use Rattle.cad_world.specs.Labels.{at, with_account}
@@ -26,15 +26,32 @@ use Rattle.cad_evaluation.specs.Making.{begin, finish}
 abbrev pub HasNone : Tree → Type 0
 HasNone t = (p : ℕ) → marks p t.parts ≡ 0
 
--- where the action gives a value, no label stands twice after it, and the value is so
-abbrev pub Gives : {A : Type 0} → (A → Type 0) → Outcome A → Type 0
-Gives P (ok a s) = P a × AreGivenOnce s
-Gives P (failed e) = Unit {0}
-Gives P limit = Unit {0}
-Gives P ill = Unit {0}
+-- The state v comes behind s: no label stands twice in it, and one that had been given by then stands no more often than it did.
+-- So one that was gone stands nowhere again.
+abbrev pub Follows : State → State → Type 0
+Follows s v = AreGivenOnce v × (s.next_label ≤ v.next_label) × ((p : ℕ) → suc p ≤ s.next_label → labels p v ≤ labels p s)
+
+-- a label that had been given and was gone leads nowhere
+abbrev pub GoneStaysGone : Type 0
+GoneStaysGone = (s v : State) (p : ℕ) → Follows s v → suc p ≤ s.next_label → at p s ≡ None → at p v ≡ None
+
+-- what is found was named by a label that had been given
+abbrev pub FoundWasGiven : Type 0
+FoundWasGiven = (s : State) (p : ℕ) (f : Found) → AreGivenOnce s → at p s ≡ Some f → suc p ≤ s.next_label
+
+-- So a reference that led to a node, and leads nowhere since, never leads anywhere again.
+abbrev pub ReferencesEndOnce : Type 0
+ReferencesEndOnce = (s v w : State) (p : ℕ) (f : Found) → AreGivenOnce s → at p s ≡ Some f → Follows s v → at p v ≡ None → Follows v w → at p w ≡ None
+
+-- where a value is given, the state comes behind s, and the value is so
+abbrev pub Gives : {A : Type 0} → (A → Type 0) → State → Outcome A → Type 0
+Gives P s (ok a v) = P a × Follows s v
+Gives P s (failed e) = Unit {0}
+Gives P s limit = Unit {0}
+Gives P s ill = Unit {0}
 
 abbrev pub Keeps : {A : Type 0} → (A → Type 0) → Action A → Type 0
-Keeps P f = (s : State) → AreGivenOnce s → Gives P (f s)
+Keeps P f = (s : State) → AreGivenOnce s → Gives P s (f s)
 
 abbrev pub AnyOne : {A : Type 0} → A → Type 0
 AnyOne a = Unit {0}
@@ -88,7 +105,7 @@ ResultsKeep = ((t : Tree) → HasNone t → Keeps AnyOne (result_aside t)) × Ke
 
 -- a value comes to an account
 abbrev pub StoringKeeps : Type 0
-StoringKeeps = (a : ℕ) (identifier : Name) (t : Tree) → HasNone t → (s : State) → AreGivenOnce s → AreGivenOnce (with_account a (storing identifier t) s)
+StoringKeeps = (a : ℕ) (identifier : Name) (t : Tree) → HasNone t → (s : State) → AreGivenOnce s → Follows s (with_account a (storing identifier t) s)
 
 -- ---- members of containers: of the node with the label l, as it stands in the state
 
@@ -100,12 +117,12 @@ ArraysGiveCopies = (type : PureType) (r : Row)
 -- values without labels come to an array, and what leaves it has none
 abbrev pub ArraysKeep : Type 0
 ArraysKeep = (l : ℕ) (f : Found) (type : PureType) (s : State) → at l s ≡ Some f → AreGivenOnce s
-    → ((t : Tree) → HasNone t → Gives HasNone (array_append l type f.tree.parts t s))
-    × ((t : Tree) → HasNone t → Gives HasNone (array_append_all l type f.tree.parts t s))
-    × ((i t : Tree) → HasNone t → Gives HasNone (array_insert l type f.tree.parts i t s))
-    × ((i : Tree) → Gives HasNone (array_remove l type f.tree.parts i s))
-    × Gives HasNone (array_remove_first l type f.tree.parts s)
-    × Gives HasNone (array_remove_last l type f.tree.parts s)
+    → ((t : Tree) → HasNone t → Gives HasNone s (array_append l type f.tree.parts t s))
+    × ((t : Tree) → HasNone t → Gives HasNone s (array_append_all l type f.tree.parts t s))
+    × ((i t : Tree) → HasNone t → Gives HasNone s (array_insert l type f.tree.parts i t s))
+    × ((i : Tree) → Gives HasNone s (array_remove l type f.tree.parts i s))
+    × Gives HasNone s (array_remove_first l type f.tree.parts s)
+    × Gives HasNone s (array_remove_last l type f.tree.parts s)
 
 abbrev pub KeysHaveNone : Type 0
 KeysHaveNone = (key : PureType) (ks : List PureValue) → Keeps HasNone (dictionary_keys key ks)
@@ -113,8 +130,8 @@ KeysHaveNone = (key : PureType) (ks : List PureValue) → Keeps HasNone (diction
 -- and the same of a dictionary
 abbrev pub DictionariesKeep : Type 0
 DictionariesKeep = (l : ℕ) (f : Found) (key value : PureType) (ks : List PureValue) (s : State) → at l s ≡ Some f → AreGivenOnce s
-    → ((k t : Tree) → HasNone t → Gives HasNone (dictionary_insert l key value ks f.tree.parts k t s))
-    × ((k : Tree) → Gives HasNone (dictionary_remove l key value ks f.tree.parts k s))
+    → ((k t : Tree) → HasNone t → Gives HasNone s (dictionary_insert l key value ks f.tree.parts k t s))
+    × ((k : Tree) → Gives HasNone s (dictionary_remove l key value ks f.tree.parts k s))
 
 -- ---- what calls
 

@@ -1,7 +1,7 @@
 //! Labels: one that was given is never given again, and stands on one node. Laws of the actions on places alone.
 #![tactic(auto)]
 
-ghost use Rattle.cad_labels.specs.Laws.{ArraysGiveCopies, ArraysKeep, AssigningKeeps, BeginsWithout, CallsKeep, DestroyingKeeps, DictionariesKeep, EndingKeeps, ExchangingKeeps, FillingKeeps, InstallingKeeps, KeysHaveNone, LoadingKeeps, LooksKeep, MakingKeeps, NamingKeeps, ResultsKeep, StoringKeeps, SwappingKeeps, TakingKeeps};
+ghost use Rattle.cad_labels.specs.Laws.{ArraysGiveCopies, ArraysKeep, AssigningKeeps, BeginsWithout, CallsKeep, DestroyingKeeps, DictionariesKeep, EndingKeeps, ExchangingKeeps, FillingKeeps, FoundWasGiven, GoneStaysGone, InstallingKeeps, KeysHaveNone, LoadingKeeps, LooksKeep, MakingKeeps, NamingKeeps, ReferencesEndOnce, ResultsKeep, StoringKeeps, SwappingKeeps, TakingKeeps};
 
 /// A run begins without labels.
 pub fn runs_begin_without_labels()
@@ -101,4 +101,19 @@ pub fn loading_keeps_labels()
 /// Contracts that are installed.
 pub fn installing_keeps_labels()
     ensures { InstallingKeeps }
+{}
+
+/// What was gone isn't found again.
+pub fn what_is_gone_stays_gone()
+    ensures { GoneStaysGone }
+{}
+
+/// What is found has a label that had been given.
+pub fn what_is_found_was_given()
+    ensures { FoundWasGiven }
+{}
+
+/// A reference that leads nowhere any more never leads anywhere again.
+pub fn references_end_once()
+    ensures { ReferencesEndOnce }
 {}
