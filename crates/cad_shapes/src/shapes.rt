@@ -64,7 +64,8 @@ impl DeclaredShapes {
     /// The declared types, by which types are ordered.
     #[tactic(auto, using(crate::proofs::Told::tells))]
     pub fn types(&self) -> &DeclaredTypes
-        ensures { declarations result.now ≡ spec.declarations (shapes_of self.now) }
+        ensures same { result.now ≡ self.now.types }
+        ensures declared { declarations result.now ≡ spec.declarations (shapes_of self.now) }
     {
         &self.types
     }
