@@ -1,5 +1,5 @@
 -- Which value a JSON text stands for where a type is expected.
-use Rattle.std.specs.Prelude.{◌≡◌, ◌≢◌, ◌≤◌, ℕ, Bool, true, List, [], ◌∷◌, ◌++◌, Option, Some, None, codes, option_map}
+use Rattle.std.specs.Prelude.{◌≡◌, ◌≢◌, ◌≤◌, ◌<◌, ◌^◌, ℕ, Bool, true, List, [], ◌∷◌, ◌++◌, Option, Some, None, codes, option_map}
 use Rattle.serde_json.specs.Data.{Data, null, boolean, string, array, Items, no_items, item}
 use Rattle.serde_json.specs.View.{items_of}
 use Rattle.cad_num.specs.Decimal.{read_of}
@@ -46,8 +46,8 @@ mutual
     any_nil : Reads k any_struct (typed (codes "Optional") null) v.nil
     any_some : {json : Data} {x : PureValue} → Reads k any_struct json x → Reads k any_struct (typed (codes "Optional") json) (v.some x)
     any_array : {all : Items} {vs : Values} → ReadsAll k any_struct all vs → Reads k any_struct (typed (codes "Array") (array all)) (v.array any_struct vs)
-    -- a struct or enum that an argument can have
-    composite : {want : PureType} {text : List ℕ} {id : TypeId} {shape : Shape} {all : List Data} {fs : Fields} → Spells text id → shape_of k id ≡ Some shape → is_data_sort shape.sort ≡ true → Importable (declarations k) (declared id)
+    -- a struct or enum that an argument can have; its identifier's address has 64 bits
+    composite : {want : PureType} {text : List ℕ} {id : TypeId} {shape : Shape} {all : List Data} {fs : Fields} → Spells text id → id.address.0 < 2 ^ 64 → shape_of k id ≡ Some shape → is_data_sort shape.sort ≡ true → Importable (declarations k) (declared id)
         → ReadsFields k shape.fields all fs → Reads k want (typed (sort_word shape.sort) (composite_json (array (items_of all)) text)) (v.composite id 0 fs)
 
   pub data ReadsAll (k : Shapes) : PureType → Items → Values → Type 0 where

@@ -1,2 +1,12 @@
 pub mod Lists
 pub mod Pairs
+pub mod Numbers
+pub mod Identifiers
+pub mod Steps
+pub mod Options
+pub mod Forming
+pub mod FieldLaws
+pub mod Known
+pub mod Sound
+pub mod Complete
+pub mod Whole

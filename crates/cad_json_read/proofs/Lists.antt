@@ -28,15 +28,15 @@ pub goes_on : {X A B : Type 0} (f : X → A) (g : A → Option B) (front : List 
 goes_on {X} {A} {B} f g front xs i x y front1 lt is e pushed so =
     let rest = each g (map f (drop (i + 1) xs)) in
     ap (λ (w : List B). with_front w rest) pushed
-        ∙ (one_more front y rest
-        ∙ (ap (λ (o : Option B). with_front front (o >>= λ z. rest >>= λ ys. Some (z ∷ ys))) e
-        ∙ (ap (λ (w : List X). with_front front (each g (map f w))) (sym (drop_at xs i x lt is)) ∙ so)))
+    ∙ (one_more front y rest
+    ∙ (ap (λ (o : Option B). with_front front (o >>= λ z. rest >>= λ ys. Some (z ∷ ys))) e
+    ∙ (ap (λ (w : List X). with_front front (each g (map f w))) (sym (drop_at xs i x lt is)) ∙ so)))
 
 pub ends : {X A B : Type 0} (f : X → A) (g : A → Option B) (front : List B) (xs : List X) (i : ℕ) (x : X) → i < length xs → x ≡ get_or xs i x → None ≡ g (f x)
     → with_front front (each g (map f (drop i xs))) ≡ each g (map f xs) → None ≡ each g (map f xs)
 ends {X} {A} {B} f g front xs i x lt is e so =
     ap (λ (o : Option B). with_front front (o >>= λ z. each g (map f (drop (i + 1) xs)) >>= λ ys. Some (z ∷ ys))) e
-        ∙ (ap (λ (w : List X). with_front front (each g (map f w))) (sym (drop_at xs i x lt is)) ∙ so)
+    ∙ (ap (λ (w : List X). with_front front (each g (map f w))) (sym (drop_at xs i x lt is)) ∙ so)
 
 pub is_done : {X A B : Type 0} (f : X → A) (g : A → Option B) (front : List B) (xs : List X) (i : ℕ) → length xs ≤ i
     → with_front front (each g (map f (drop i xs))) ≡ each g (map f xs) → Some front ≡ each g (map f xs)

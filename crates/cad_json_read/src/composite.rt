@@ -1,5 +1,5 @@
 // The types of structs and enums, and their fields.
-ghost use Rattle.std.specs.Prelude.{◌≡◌, IfOk, map, option_map};
+ghost use Rattle.std.specs.Prelude.{◌≡◌, ◌<◌, ◌^◌, IfOk, map, option_map};
 ghost use Rattle.serde_json.specs.View.{view};
 ghost use Rattle.cad_shapes.specs.Views.{pure_shape};
 ghost use Rattle.cad_json_read.specs.Judged.{known_of};
@@ -13,12 +13,25 @@ use cad_types::{Sort, is_importable};
 use serde_json::Value as Json;
 use std::alloc::{AllocError, Global};
 
+/// The number of an identifier's address.
+fn address_number(id: &TypeId) -> u64
+    ensures number { result ≡ id.now.address.0 }
+    ensures in_range { id.now.address.0 < 2 ^ 64 }
+{
+    id.address.0
+}
+
 /// The identifier with a text.
-#[tactic(auto, unfolding(crate::specs::Reading::id_at))]
 pub fn id_at(alloc: Global, text: &str) -> Result<Option<TypeId>, AllocError>
     ensures { IfOk result (λ id. id ≡ spec.id_at text.now) }
 {
-    TypeId::from_text(alloc, text)
+    match TypeId::from_text(alloc, text)? {
+        Some(id) => {
+            let _number = address_number(&id);
+            Ok(Some(id))
+        }
+        None => Ok(None),
+    }
 }
 
 /// Whether values of this form are of types of this sort.
@@ -33,14 +46,11 @@ fn is_of_sort(form: Form, sort: Sort) -> bool
 }
 
 /// Whether arguments can have a declared type.
-fn is_importable_id(
-    alloc: Global,
-    shapes: &DeclaredShapes,
-    id: &TypeId,
-) -> Result<bool, AllocError>
+fn is_importable_id(alloc: Global, shapes: &DeclaredShapes, id: &TypeId) -> Result<bool, AllocError>
     ensures { IfOk result (λ b. b ≡ (known_of shapes.now).importable id.now) }
 {
-    let t = CadType::Declared(id.clone()?);
+    let copy = id.clone()?;
+    let t = CadType::Declared(copy);
     Ok(is_importable(shapes.types(), &t))
 }
 

@@ -78,10 +78,10 @@ pub fn read_address(content: &Json) -> Option<Value>
 fn number_of(kind: Kind, text: &str) -> Option<Num>
     ensures { result ≡ spec.number_of kind text.now }
 {
-    if matches!(kind, Kind::Address) {
-        return None;
+    match kind {
+        Kind::Address => None,
+        _ => read_decimal(kind, text),
     }
-    read_decimal(kind, text)
 }
 
 /// A number as a value.

@@ -1,10 +1,12 @@
 // JSON to values.
-ghost use Rattle.std.specs.Prelude.{◌≡◌, IfOk, map, option_map};
+ghost use Rattle.std.specs.Prelude.{◌≡◌, ◌≤◌, IfOk, IfSome, Some, map, option_map};
 ghost use Rattle.serde_json.specs.View.{view};
+ghost use Rattle.cad_json.specs.Read.{Reads};
+ghost use Rattle.cad_shapes.specs.Held.{shapes_of};
 ghost use Rattle.cad_shapes.specs.Views.{pure_field};
 ghost use Rattle.cad_syntax.specs.Types.{pure_type};
-ghost use Rattle.cad_values.specs.Sizes.{most_high};
-ghost use Rattle.cad_values.specs.Values.{pure_value, pure_entry};
+ghost use Rattle.cad_values.specs.Sizes.{height, most_high};
+ghost use Rattle.cad_values.specs.Values.{PureValue, pure_value, pure_entry};
 ghost use Rattle.cad_values.specs.Values as v;
 ghost use Rattle.cad_json_read.specs.Judged.{known_of};
 ghost use Rattle.cad_json_read.specs.Reading as spec;
@@ -325,7 +327,7 @@ fn read_each_field(
 }
 
 /// The value that a JSON stands for where a type is expected, as a function.
-pub fn read(
+fn read_whole(
     alloc: Global,
     shapes: &DeclaredShapes,
     want: &CadType,
@@ -334,4 +336,21 @@ pub fn read(
     ensures { IfOk result (λ o. option_map pure_value o ≡ spec.value_of (known_of shapes.now) most_high (pure_type want.now) (view json.now)) }
 {
     read_value(alloc, shapes, MOST_HIGH, want, json)
+}
+
+/// The value that a JSON is read as where a type is expected, 256 high at most. None exactly where there is none. Whether the
+/// value is of the type isn't looked at.
+pub fn read(
+    alloc: Global,
+    shapes: &DeclaredShapes,
+    want: &CadType,
+    json: &Json,
+) -> Result<Option<Value>, AllocError>
+    // What is given is read by the relation.
+    ensures found { IfOk result (λ o. IfSome o (λ value. Reads (shapes_of shapes.now) (pure_type want.now) (view json.now) (pure_value value))) }
+    ensures low { IfOk result (λ o. IfSome o (λ value. height (pure_value value) ≤ most_high)) }
+    // What is read by the relation is given.
+    ensures only { (x : PureValue) → Reads (shapes_of shapes.now) (pure_type want.now) (view json.now) x → height x ≤ most_high → IfOk result (λ o. option_map pure_value o ≡ Some x) }
+{
+    read_whole(alloc, shapes, want, json)
 }
