@@ -4,3 +4,4 @@ mod Lists
 mod Plain
 mod Reach
 mod Turns
+mod Made

@@ -17,7 +17,7 @@ use crate::mappings::push_own_mappings;
 use crate::members::function_entry;
 use crate::types::push_types_in;
 use cad_contracts::{Own, push_copied_mappings, push_linked_types};
-use cad_declarations::{Installed, Link, MappingDeclaration, Member, Tables, TypeDeclaration};
+use cad_declarations::{Installed, Links, MappingDeclaration, Member, Tables, TypeDeclaration, TypeDeclarations};
 use cad_grammar::{Decl, Program};
 use cad_scopes::Scope;
 use cad_syntax::{Address, Names, TypeId};
@@ -26,7 +26,7 @@ use std::alloc::{AllocError, Global};
 /// Copies of the types that deployed contracts declare, with all interfaces that they have by these links.
 pub fn linked_types(
     alloc: Global,
-    links: &[Link],
+    links: &Links,
     contracts: &[&Installed],
 ) -> Result<Vec<TypeDeclaration>, AllocError>
     ensures { IfOk result (λ all. map type_entry_of all.items ≡ map (linked_type links.now) (flat_map (λ c. c.types) (map (λ c. entry_of c.now) contracts.now))) }
@@ -38,11 +38,11 @@ pub fn linked_types(
     Ok(all)
 }
 
-/// The types of a program and its imports.
-fn all_types(
+/// The types of a program and its imports, in order.
+fn listed_types(
     alloc: Global,
     scope: Scope<'_>,
-    links: &[Link],
+    links: &Links,
     imports: &[&Installed],
     own: &Option<Own<'_>>,
 ) -> Result<Vec<TypeDeclaration>, AllocError>
@@ -53,6 +53,20 @@ fn all_types(
         push_types_in(&mut all, alloc, scope, links, own)?;
     }
     Ok(all)
+}
+
+/// The types of a program and its imports.
+fn all_types(
+    alloc: Global,
+    scope: Scope<'_>,
+    links: &Links,
+    imports: &[&Installed],
+    own: &Option<Own<'_>>,
+) -> Result<TypeDeclarations, AllocError>
+    ensures { IfOk result (λ all. map type_entry_of all ≡ map (linked_type links.now) (flat_map (λ c. c.types) (map (λ c. entry_of c.now) imports.now)) ++ flat_map (entries.types_in (scope_of scope.entry) links.now) (option_to_list (option_map own_of own.now))) }
+{
+    let all = listed_types(alloc, scope, links, imports, own)?;
+    TypeDeclarations::new(alloc, all)
 }
 
 /// The mappings of a program and its imports.
@@ -135,22 +149,25 @@ pub fn made_tables(
     place: Option<Address>,
     program: &Program,
     known: &Known<'_>,
-    links: &[Link],
+    links: &Links,
 ) -> Result<Tables, AllocError>
     requires linked { links.now ≡ links_of (imports_of known.now) (known_scope known.now) (option_map own_of known.now.own) }
     requires imported { known.now.imported ≡ all_imported program.now.imports.items }
     ensures { IfOk result (λ t. tables_of t ≡ spec.tables_by place (program_of program.now) (spec.setting_in (imports_of known.now) (option_map own_of known.now.own) (known_scope known.now))) }
 {
     let within = scope(known);
-    let types = all_types(alloc, within, links, known.imports.as_slice(), &known.own)?;
+    let contract = copied_id(own_id(&known.own))?;
+    let imports = known.imported.clone()?;
+    let entitlements = known.entitlements.clone()?;
     let mappings = all_mappings(alloc, within, known.imports.as_slice(), &known.own)?;
     let functions = top_functions(alloc, within, program.declarations.as_slice())?;
+    let types = all_types(alloc, within, links, known.imports.as_slice(), &known.own)?;
     Ok(Tables {
         place,
-        contract: copied_id(own_id(&known.own))?,
-        imports: known.imported.clone()?,
+        contract,
+        imports,
         types,
-        entitlements: known.entitlements.clone()?,
+        entitlements,
         mappings,
         functions,
     })

@@ -18,7 +18,7 @@ use crate::members::{
     interface_members,
 };
 use cad_contracts::{Own, parents_of};
-use cad_declarations::{Link, Member, Signature, TypeDeclaration, linearised};
+use cad_declarations::{Links, Member, Signature, TypeDeclaration, linearised};
 use cad_grammar::{
     Composite, CompositeMember, ContractMember, Enum, EnumCase, Event, Interface, TypeExpr,
 };
@@ -30,7 +30,7 @@ use std::alloc::{AllocError, Global};
 /// A declared type without cases.
 fn plain_type(
     alloc: Global,
-    links: &[Link],
+    links: &Links,
     id: TypeId,
     sort: Sort,
     parents: TypeIds,
@@ -56,7 +56,7 @@ fn plain_type(
 fn event_type(
     alloc: Global,
     scope: Scope<'_>,
-    links: &[Link],
+    links: &Links,
     id: TypeId,
     x: &Event,
 ) -> Result<TypeDeclaration, AllocError>
@@ -80,7 +80,7 @@ fn push_nested_event(
     all: &mut Vec<TypeDeclaration>,
     alloc: Global,
     scope: Scope<'_>,
-    links: &[Link],
+    links: &Links,
     id: &TypeId,
     member: &CompositeMember,
 ) -> Result<(), AllocError>
@@ -102,7 +102,7 @@ fn push_nested_events(
     all: &mut Vec<TypeDeclaration>,
     alloc: Global,
     scope: Scope<'_>,
-    links: &[Link],
+    links: &Links,
     id: &TypeId,
     members: &[CompositeMember],
 ) -> Result<(), AllocError>
@@ -118,7 +118,7 @@ fn push_nested_events(
 fn composite_type(
     alloc: Global,
     scope: Scope<'_>,
-    links: &[Link],
+    links: &Links,
     id: TypeId,
     x: &Composite,
 ) -> Result<TypeDeclaration, AllocError>
@@ -143,7 +143,7 @@ fn push_composite_type(
     all: &mut Vec<TypeDeclaration>,
     alloc: Global,
     scope: Scope<'_>,
-    links: &[Link],
+    links: &Links,
     id: &TypeId,
     x: &Composite,
 ) -> Result<(), AllocError>
@@ -158,7 +158,7 @@ fn push_composite_types(
     all: &mut Vec<TypeDeclaration>,
     alloc: Global,
     scope: Scope<'_>,
-    links: &[Link],
+    links: &Links,
     id: &TypeId,
     x: &Composite,
 ) -> Result<(), AllocError>
@@ -173,7 +173,7 @@ fn push_composite_types(
 fn interface_type(
     alloc: Global,
     scope: Scope<'_>,
-    links: &[Link],
+    links: &Links,
     id: TypeId,
     x: &Interface,
 ) -> Result<TypeDeclaration, AllocError>
@@ -237,7 +237,7 @@ fn case_names(alloc: Global, cases: &[EnumCase]) -> Result<Names, AllocError>
 fn enum_type(
     alloc: Global,
     scope: Scope<'_>,
-    links: &[Link],
+    links: &Links,
     id: TypeId,
     x: &Enum,
 ) -> Result<TypeDeclaration, AllocError>
@@ -262,7 +262,7 @@ fn push_interface(
     all: &mut Vec<TypeDeclaration>,
     alloc: Global,
     scope: Scope<'_>,
-    links: &[Link],
+    links: &Links,
     contract: &TypeId,
     x: &Interface,
 ) -> Result<(), AllocError>
@@ -278,7 +278,7 @@ fn push_event(
     all: &mut Vec<TypeDeclaration>,
     alloc: Global,
     scope: Scope<'_>,
-    links: &[Link],
+    links: &Links,
     contract: &TypeId,
     x: &Event,
 ) -> Result<(), AllocError>
@@ -294,7 +294,7 @@ fn push_enum(
     all: &mut Vec<TypeDeclaration>,
     alloc: Global,
     scope: Scope<'_>,
-    links: &[Link],
+    links: &Links,
     contract: &TypeId,
     x: &Enum,
 ) -> Result<(), AllocError>
@@ -310,7 +310,7 @@ fn push_types_by(
     all: &mut Vec<TypeDeclaration>,
     alloc: Global,
     scope: Scope<'_>,
-    links: &[Link],
+    links: &Links,
     contract: &TypeId,
     member: &ContractMember,
 ) -> Result<(), AllocError>
@@ -332,7 +332,7 @@ fn push_types_by(
 fn contract_type(
     alloc: Global,
     scope: Scope<'_>,
-    links: &[Link],
+    links: &Links,
     own: &Own<'_>,
 ) -> Result<TypeDeclaration, AllocError>
     ensures { IfOk result (λ t. type_entry_of t ≡ spec.plain_type links.now (own_of own.now).id sorts.Contract [] (filter_map (spec.contract_member (scope_of scope.entry) (own_of own.now).id) (own_of own.now).members) (spec.contract_init (scope_of scope.entry) (own_of own.now).members)) }
@@ -355,7 +355,7 @@ pub(crate) fn push_types_in(
     all: &mut Vec<TypeDeclaration>,
     alloc: Global,
     scope: Scope<'_>,
-    links: &[Link],
+    links: &Links,
     own: &Own<'_>,
 ) -> Result<(), AllocError>
     ensures { OnOk result (map type_entry_of all.new.items ≡ map type_entry_of all.old.items ++ spec.types_in (scope_of scope.entry) links.now (own_of own.now)) }

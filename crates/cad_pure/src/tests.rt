@@ -2,8 +2,8 @@
 use crate::fields::{field_rules, rules_in};
 use crate::initialisation::initialised;
 use cad_declarations::{
-    Argument, Member, MemberAccess, MemberKind, Place, Tables, Term, TypedBlock, TypedBody,
-    TypedFunction, TypedStatement,
+    Argument, Member, MemberAccess, MemberKind, Place, Tables, Term, TypeDeclarations, TypedBlock,
+    TypedBody, TypedFunction, TypedStatement,
 };
 use cad_grammar::VariableKind;
 use cad_paths::FieldRule;
@@ -100,16 +100,16 @@ fn type_id(alloc: Global) -> TypeId {
 }
 
 /// Tables that declare nothing.
-fn no_tables(alloc: Global) -> Tables {
-    Tables {
+fn no_tables(alloc: Global) -> Result<Tables, AllocError> {
+    Ok(Tables {
         place: None,
         contract: None,
         imports: TypeIds::new(alloc),
-        types: Vec::new(alloc),
+        types: TypeDeclarations::new(alloc, Vec::new(alloc))?,
         entitlements: TypeIds::new(alloc),
         mappings: Vec::new(alloc),
         functions: Vec::new(alloc),
-    }
+    })
 }
 
 fn field_member(alloc: Global, kind: VariableKind, t: Basic) -> Result<Member, AllocError> {
@@ -127,7 +127,7 @@ fn field_member(alloc: Global, kind: VariableKind, t: Basic) -> Result<Member, A
 #[test]
 fn let_fields_and_resources_are_set_once(rt: HostRuntime) -> Result<(), Fail> {
     let alloc = rt.alloc();
-    let tables = no_tables(alloc);
+    let tables = no_tables(alloc)?;
     let mut members = Vec::new(alloc);
     members.push(field_member(alloc, VariableKind::Let, Basic::Void)?)?;
     members.push(field_member(alloc, VariableKind::Var, Basic::Void)?)?;
