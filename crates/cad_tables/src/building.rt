@@ -97,13 +97,13 @@ fn build_within(
     let stop = declarations_stop(
         alloc,
         within,
-        links.as_slice(),
+        &links,
         place.is_some(),
         &known.own,
         program,
     )?;
     match stop {
         Some(stop) => Ok(Err(stop)),
-        None => Ok(Ok(made_tables(alloc, place, program, known, links.as_slice())?)),
+        None => Ok(Ok(made_tables(alloc, place, program, known, &links)?)),
     }
 }

@@ -8,17 +8,17 @@ ghost use Rattle.cad_declarations.specs.Points as spec;
 ghost use Rattle.cad_declarations.specs.Scopes as scopes;
 ghost use Rattle.cad_scopes.specs.Views.{scope_of};
 
-use cad_declarations::{Link, Stop};
+use cad_declarations::{Links, Stop};
 use cad_grammar::{
     Contract, ContractMember, Entitlement, Enum, EnumCase, Interface, Mapping, MappingItem,
 };
 use cad_scopes::{Scope, inside};
 use cad_stop_points::{
-    access_is_there, composite_stop, contract_member_name, entitlement_is_there, event_stop,
+    NamesBefore,     access_is_there, composite_stop, contract_member_name, entitlement_is_there, event_stop,
     field_is_right, function_stop, init_stop, interface_stop, is_destroyed_event, is_new,
     name_is_there, names_of_contract, unless_right,
 };
-use cad_syntax::{Name, Names, TypeId};
+use cad_syntax::{Name, TypeId};
 use std::alloc::{AllocError, Global};
 
 /// Whether the names of cases differ.
@@ -26,9 +26,9 @@ use std::alloc::{AllocError, Global};
 fn cases_are_new(alloc: Global, cases: &[EnumCase]) -> Result<bool, AllocError>
     ensures { IfOk result (λ b. b ≡ spec.are_new [] (map (λ c. c.name) cases.now)) }
 {
-    let mut before = Names::new(alloc);
+    let mut before = NamesBefore::new(alloc);
     for case in cases {
-        if !is_new(before.as_slice(), &case.name) {
+        if !is_new(&before, &case.name) {
             return Ok(false);
         }
         before.push(case.name.clone()?)?;
@@ -122,7 +122,7 @@ fn enum_stop(
     alloc: Global,
     scope: Scope<'_>,
     id: &TypeId,
-    before: &[Name],
+    before: &NamesBefore,
     x: &Enum,
 ) -> Result<Option<Stop>, AllocError>
     ensures { IfOk result (λ s. s ≡ build.point_stop (scope_of scope.entry) (spec.declaration_point (spec.below id.now.names x.now.name) (spec.is_new (reverse before.now) x.now.name && spec.enum_is_right (scope_of scope.entry) (enum_of x.now)))) }
@@ -137,7 +137,7 @@ fn entitlement_stop(
     alloc: Global,
     scope: Scope<'_>,
     id: &TypeId,
-    before: &[Name],
+    before: &NamesBefore,
     x: &Entitlement,
 ) -> Result<Option<Stop>, AllocError>
     ensures { IfOk result (λ s. s ≡ build.point_stop (scope_of scope.entry) (spec.declaration_point (spec.below id.now.names x.now.name) (spec.is_new (reverse before.now) x.now.name && spec.access_is_there (scope_of scope.entry) x.now.access))) }
@@ -152,7 +152,7 @@ fn mapping_stop(
     alloc: Global,
     scope: Scope<'_>,
     id: &TypeId,
-    before: &[Name],
+    before: &NamesBefore,
     x: &Mapping,
 ) -> Result<Option<Stop>, AllocError>
     ensures { IfOk result (λ s. s ≡ build.point_stop (scope_of scope.entry) (spec.declaration_point (spec.below id.now.names x.now.name) (spec.is_new (reverse before.now) x.now.name && (spec.access_is_there (scope_of scope.entry) (mapping_of x.now).access && list_all (spec.item_is_right (scope_of scope.entry)) (mapping_of x.now).items)))) }
@@ -166,7 +166,7 @@ fn mapping_stop(
 fn contract_field_is_right(
     alloc: Global,
     scope: Scope<'_>,
-    before: &[Name],
+    before: &NamesBefore,
     member: &ContractMember,
 ) -> Result<bool, AllocError>
     ensures { IfOk result (λ b. b ≡ spec.contract_field_is_right (scope_of scope.entry) (reverse before.now) (contract_member_of member.now)) }
@@ -188,7 +188,7 @@ fn contract_fields_are_right(
 {
     let mut before = names_of_contract(alloc)?;
     for member in members {
-        if !contract_field_is_right(alloc, scope, before.as_slice(), member)? {
+        if !contract_field_is_right(alloc, scope, &before, member)? {
             return Ok(false);
         }
         before.push(contract_member_name(alloc, member)?)?;
@@ -200,9 +200,9 @@ fn contract_fields_are_right(
 fn own_interface_stop(
     alloc: Global,
     scope: Scope<'_>,
-    links: &[Link],
+    links: &Links,
     id: &TypeId,
-    before: &[Name],
+    before: &NamesBefore,
     x: &Interface,
 ) -> Result<Option<Stop>, AllocError>
     ensures { IfOk result (λ s. s ≡ build.first_stop (scope_of scope.entry) (spec.interface_points (scope_of scope.entry) links.now (scopes.inside id.now x.now.name) id.now.names (reverse before.now) (interface_of x.now))) }
@@ -223,9 +223,9 @@ fn own_interface_stop(
 fn contract_member_stop(
     alloc: Global,
     scope: Scope<'_>,
-    links: &[Link],
+    links: &Links,
     id: &TypeId,
-    before: &[Name],
+    before: &NamesBefore,
     member: &ContractMember,
 ) -> Result<Option<Stop>, AllocError>
     ensures { IfOk result (λ s. s ≡ build.first_stop (scope_of scope.entry) (spec.contract_member_points (scope_of scope.entry) links.now id.now (reverse before.now) (contract_member_of member.now))) }
@@ -251,7 +251,7 @@ fn contract_member_stop(
 fn contract_members_stop(
     alloc: Global,
     scope: Scope<'_>,
-    links: &[Link],
+    links: &Links,
     id: &TypeId,
     members: &[ContractMember],
 ) -> Result<Option<Stop>, AllocError>
@@ -264,7 +264,7 @@ fn contract_members_stop(
             scope,
             links,
             id,
-            before.as_slice(),
+            &before,
             member,
         )? {
             return Ok(Some(stop));
@@ -278,7 +278,7 @@ fn contract_members_stop(
 fn contract_is_right(
     alloc: Global,
     scope: Scope<'_>,
-    before: &[Name],
+    before: &NamesBefore,
     x: &Contract,
 ) -> Result<bool, AllocError>
     ensures { IfOk result (λ b. b ≡ (spec.is_new (reverse before.now) x.now.name && (spec.access_is_there (scope_of scope.entry) x.now.access && spec.contract_fields_are_right (scope_of scope.entry) spec.names_of_contract (map contract_member_of x.now.members.items)))) }
@@ -292,9 +292,9 @@ fn contract_is_right(
 pub(crate) fn contract_stop(
     alloc: Global,
     scope: Scope<'_>,
-    links: &[Link],
+    links: &Links,
     id: &TypeId,
-    before: &[Name],
+    before: &NamesBefore,
     x: &Contract,
 ) -> Result<Option<Stop>, AllocError>
     ensures { IfOk result (λ s. s ≡ build.first_stop (scope_of scope.entry) (spec.contract_points (scope_of scope.entry) links.now id.now (reverse before.now) (contract_of x.now))) }

@@ -8,7 +8,7 @@ ghost use Rattle.cad_contracts.specs.Views.{entry_of};
 ghost use Rattle.cad_tables.specs.Views.{contracts_of, with_entry};
 
 use cad_contracts::imported_links;
-use cad_declarations::{Deployed, Installed, Tables, TypeDeclaration, is_same_name};
+use cad_declarations::{Deployed, Installed, Tables, TypeDeclarations, is_same_name};
 use cad_entries::linked_types;
 use cad_syntax::TypeIds;
 use cad_types::DeclaredTypes;
@@ -105,18 +105,19 @@ fn each_contract<'a>(
 fn deployed_types(
     alloc: Global,
     contracts: &[Installed],
-) -> Result<Vec<TypeDeclaration>, AllocError>
-    ensures { IfOk result (λ all. map type_entry_of all.items ≡ spec.deployed_types (map entry_of contracts.now)) }
+) -> Result<TypeDeclarations, AllocError>
+    ensures { IfOk result (λ all. map type_entry_of all ≡ spec.deployed_types (map entry_of contracts.now)) }
 {
     let all = each_contract(alloc, contracts)?;
     let links = imported_links(alloc, all.as_slice())?;
-    linked_types(alloc, links.as_slice(), all.as_slice())
+    let types = linked_types(alloc, &links, all.as_slice())?;
+    TypeDeclarations::new(alloc, types)
 }
 
 /// Tables that have these types alone.
 #[tactic(auto, using(crate::proofs::Closed::deployed_closed))]
 fn type_tables(alloc: Global, contracts: &[Installed]) -> Result<Tables, AllocError>
-    ensures { IfOk result (λ t. map type_entry_of t.types.items ≡ spec.deployed_types (map entry_of contracts.now)) }
+    ensures { IfOk result (λ t. map type_entry_of t.types ≡ spec.deployed_types (map entry_of contracts.now)) }
 {
     let types = deployed_types(alloc, contracts)?;
     Ok(Tables {

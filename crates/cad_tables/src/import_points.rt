@@ -8,16 +8,16 @@ ghost use Rattle.cad_contracts.specs.Views.{entry_of, own_of};
 ghost use Rattle.cad_tables.specs.Code.Beside.{no_scope};
 
 use cad_contracts::{Own, contract_id, find_contract_at, import_address, import_links as links_of};
-use cad_declarations::{Installed, Link, Stop, reached_from};
+use cad_declarations::{Installed, Links, Stop, reached_from};
 use cad_grammar::Import;
-use cad_stop_points::{is_new, push_names, unless_right};
-use cad_syntax::{Name, Names, TypeId, contains};
+use cad_stop_points::{NamesBefore, is_new, push_names, unless_right};
+use cad_syntax::{Name, TypeId, contains};
 use std::alloc::{AllocError, Global};
 
 /// Whether a contract is reached by links from another one.
 fn is_reached(
     alloc: Global,
-    links: &[Link],
+    links: &Links,
     contract: &TypeId,
     from: TypeId,
 ) -> Result<bool, AllocError>
@@ -33,7 +33,7 @@ fn is_reached(
 fn leads_to(
     alloc: Global,
     contracts: &[Installed],
-    links: &[Link],
+    links: &Links,
     own: &Option<Own<'_>>,
     id: TypeId,
 ) -> Result<bool, AllocError>
@@ -61,7 +61,7 @@ fn is_deployed_at(contracts: &[Installed], address: u128, name: &Name) -> bool
 fn is_importable(
     alloc: Global,
     contracts: &[Installed],
-    links: &[Link],
+    links: &Links,
     own: &Option<Own<'_>>,
     address: u128,
     name: &Name,
@@ -80,9 +80,9 @@ fn is_importable(
 fn import_stop(
     alloc: Global,
     contracts: &[Installed],
-    links: &[Link],
+    links: &Links,
     own: &Option<Own<'_>>,
-    before: &[Name],
+    before: &NamesBefore,
     address: u128,
     name: &Name,
 ) -> Result<Option<Stop>, AllocError>
@@ -97,22 +97,22 @@ fn import_stop(
 fn names_stop(
     alloc: Global,
     contracts: &[Installed],
-    links: &[Link],
+    links: &Links,
     own: &Option<Own<'_>>,
-    before: &Names,
+    before: &NamesBefore,
     import: &Import,
 ) -> Result<Option<Stop>, AllocError>
     requires linked { links.now ≡ import_links (map entry_of contracts.now) }
     ensures { IfOk result (λ s. s ≡ spec.first_stop no_scope (spec.name_points (map entry_of contracts.now) (option_map own_of own.now) (reverse before.now) import.now.address import.now.names)) }
 {
-    let mut seen = before.clone()?;
+    let mut seen = before.copy(alloc)?;
     for name in import.names.as_slice() {
         if let Some(stop) = import_stop(
             alloc,
             contracts,
             links,
             own,
-            seen.as_slice(),
+            &seen,
             import.address,
             name,
         )? {
@@ -128,14 +128,14 @@ fn names_stop(
 fn linked_stop(
     alloc: Global,
     contracts: &[Installed],
-    links: &[Link],
+    links: &Links,
     own: &Option<Own<'_>>,
     imports: &[Import],
 ) -> Result<Option<Stop>, AllocError>
     requires linked { links.now ≡ import_links (map entry_of contracts.now) }
     ensures { IfOk result (λ s. s ≡ spec.first_stop no_scope (spec.import_points (map entry_of contracts.now) (option_map own_of own.now) [] imports.now)) }
 {
-    let mut before = Names::new(alloc);
+    let mut before = NamesBefore::new(alloc);
     for import in imports {
         if let Some(stop) = names_stop(alloc, contracts, links, own, &before, import)? {
             return Ok(Some(stop));
@@ -155,5 +155,5 @@ pub(crate) fn imports_stop(
     ensures { IfOk result (λ s. s ≡ spec.first_stop no_scope (spec.import_points (map entry_of contracts.now) (option_map own_of own.now) [] imports.now)) }
 {
     let links = links_of(alloc, contracts)?;
-    linked_stop(alloc, contracts, links.as_slice(), own, imports)
+    linked_stop(alloc, contracts, &links, own, imports)
 }

@@ -10,17 +10,17 @@ ghost use Rattle.cad_contracts.specs.Views.{own_of};
 
 use crate::contract_points::contract_stop;
 use cad_contracts::Own;
-use cad_declarations::{Link, Stop};
+use cad_declarations::{Links, Stop};
 use cad_grammar::{
     Conditions, Contract, Decl, Function, Import, Parameter, Prepare, Program, Stmt, Transaction,
     TransactionField,
 };
 use cad_scopes::Scope;
 use cad_stop_points::{
-    annotation_is_there, declaration_name, function_stop, import_names, is_new, missing_in_body,
+    NamesBefore,     annotation_is_there, declaration_name, function_stop, import_names, is_new, missing_in_body,
     missing_in_conditions, parameters_are_there, told_stop, unless_right, word,
 };
-use cad_syntax::{Name, Names};
+use cad_syntax::Name;
 use std::alloc::{AllocError, Global};
 
 /// Whether the names of fields differ.
@@ -28,9 +28,9 @@ use std::alloc::{AllocError, Global};
 fn fields_are_new(alloc: Global, fields: &[TransactionField]) -> Result<bool, AllocError>
     ensures { IfOk result (λ b. b ≡ points.are_new [] (map (λ f. f.name) (map transaction_field_of fields.now))) }
 {
-    let mut before = Names::new(alloc);
+    let mut before = NamesBefore::new(alloc);
     for field in fields {
-        if !is_new(before.as_slice(), &field.name) {
+        if !is_new(&before, &field.name) {
             return Ok(false);
         }
         before.push(field.name.clone()?)?;
@@ -168,7 +168,7 @@ fn parts_stop(alloc: Global, scope: Scope<'_>, x: &Transaction) -> Result<Option
 fn transaction_head_stop(
     alloc: Global,
     scope: Scope<'_>,
-    before: &[Name],
+    before: &NamesBefore,
     x: &Transaction,
 ) -> Result<Option<Stop>, AllocError>
     ensures { IfOk result (λ s. s ≡ spec.point_stop (scope_of scope.entry) (points.declaration_point (points.transaction_name ∷ []) (points.is_new (reverse before.now) points.transaction_name && (points.types_are_there (scope_of scope.entry) (types_of_parameters (points.option_parameters (transaction_of x.now).parameters)) && (points.are_new [] (map (λ f. f.name) (transaction_of x.now).fields) && list_all (points.transaction_field_is_right (scope_of scope.entry)) (transaction_of x.now).fields))))) }
@@ -197,7 +197,7 @@ fn prepared_parts_stop(
 fn transaction_stop(
     alloc: Global,
     scope: Scope<'_>,
-    before: &[Name],
+    before: &NamesBefore,
     x: &Transaction,
 ) -> Result<Option<Stop>, AllocError>
     ensures { IfOk result (λ s. s ≡ spec.first_stop (scope_of scope.entry) (points.transaction_points (scope_of scope.entry) (reverse before.now) (transaction_of x.now))) }
@@ -219,10 +219,10 @@ fn misplaced(alloc: Global, name: &Name) -> Result<Option<Stop>, AllocError>
 fn contract_declaration_stop(
     alloc: Global,
     scope: Scope<'_>,
-    links: &[Link],
+    links: &Links,
     own: &Option<Own<'_>>,
     is_first: bool,
-    before: &[Name],
+    before: &NamesBefore,
     x: &Contract,
 ) -> Result<Option<Stop>, AllocError>
     ensures { IfOk result (λ s. s ≡ spec.first_stop (scope_of scope.entry) (spec.contract_declaration_points (scope_of scope.entry) links.now (option_map own_of own.now) is_first (reverse before.now) (contract_of x.now))) }
@@ -244,7 +244,7 @@ fn transaction_declaration_stop(
     alloc: Global,
     scope: Scope<'_>,
     is_placed: bool,
-    before: &[Name],
+    before: &NamesBefore,
     x: &Transaction,
 ) -> Result<Option<Stop>, AllocError>
     ensures { IfOk result (λ s. s ≡ spec.first_stop (scope_of scope.entry) (if is_placed then points.misplaced (points.transaction_name ∷ []) ∷ [] else points.transaction_points (scope_of scope.entry) (reverse before.now) (transaction_of x.now))) }
@@ -262,7 +262,7 @@ fn function_declaration_stop(
     alloc: Global,
     scope: Scope<'_>,
     is_placed: bool,
-    before: &[Name],
+    before: &NamesBefore,
     x: &Function,
 ) -> Result<Option<Stop>, AllocError>
     ensures { IfOk result (λ s. s ≡ spec.first_stop (scope_of scope.entry) (if is_placed then points.misplaced (x.now.name ∷ []) ∷ [] else points.function_point (scope_of scope.entry) [] (reverse before.now) (function_of x.now) ∷ [])) }
@@ -278,11 +278,11 @@ fn function_declaration_stop(
 fn declaration_stop(
     alloc: Global,
     scope: Scope<'_>,
-    links: &[Link],
+    links: &Links,
     is_placed: bool,
     own: &Option<Own<'_>>,
     is_first: bool,
-    before: &[Name],
+    before: &NamesBefore,
     declaration: &Decl,
 ) -> Result<Option<Stop>, AllocError>
     ensures { IfOk result (λ s. s ≡ spec.first_stop (scope_of scope.entry) (spec.declaration_points (scope_of scope.entry) links.now is_placed (option_map own_of own.now) is_first (reverse before.now) (decl_of declaration.now))) }
@@ -314,7 +314,7 @@ fn stays_first(is_first: bool, declaration: &Decl) -> bool
 fn each_declaration_stop(
     alloc: Global,
     scope: Scope<'_>,
-    links: &[Link],
+    links: &Links,
     is_placed: bool,
     own: &Option<Own<'_>>,
     imports: &[Import],
@@ -332,7 +332,7 @@ fn each_declaration_stop(
             is_placed,
             own,
             is_first,
-            before.as_slice(),
+            &before,
             declaration,
         )? {
             return Ok(Some(stop));
@@ -347,7 +347,7 @@ fn each_declaration_stop(
 pub(crate) fn declarations_stop(
     alloc: Global,
     scope: Scope<'_>,
-    links: &[Link],
+    links: &Links,
     is_placed: bool,
     own: &Option<Own<'_>>,
     program: &Program,
