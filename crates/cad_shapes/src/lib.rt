@@ -7,4 +7,4 @@ mod well_formed;
 
 pub use shape::{Shape, ShapeField, all_names_differ};
 pub use shapes::DeclaredShapes;
-pub use well_formed::{is_reference_type, is_type};
+pub use well_formed::{is_key_type, is_lent_type, is_reference_type, is_type};

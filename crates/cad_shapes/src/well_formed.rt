@@ -1,5 +1,5 @@
 // Which types are well formed.
-ghost use Rattle.std.specs.Prelude.{◌≡◌};
+ghost use Rattle.std.specs.Prelude.{◌≡◌, ◌&&◌};
 ghost use Rattle.std.specs.List.{list_all};
 ghost use Rattle.cad_syntax.specs.TypeIds.{has};
 ghost use Rattle.cad_syntax.specs.Types.{pure_type};
@@ -130,7 +130,7 @@ fn is_key_basic(basic: Basic) -> bool
 }
 
 /// Whether keys of dictionaries can be of a type.
-fn is_key_type(shapes: &DeclaredShapes, t: &CadType) -> bool
+pub fn is_key_type(shapes: &DeclaredShapes, t: &CadType) -> bool
     ensures { result ≡ spec.is_key_type (shapes_of shapes.now) (pure_type t.now) }
 {
     match t {
@@ -145,6 +145,17 @@ pub fn is_reference_type(t: &CadType) -> bool
     ensures { result ≡ spec.is_reference_type (pure_type t.now) }
 {
     matches!(t, CadType::Reference(_, _))
+}
+
+/// Whether a program can write the type of references that may do this and lead to a target of this type.
+pub fn is_lent_type(
+    shapes: &DeclaredShapes,
+    authorization: &Authorization,
+    target: &CadType,
+) -> bool
+    ensures { result ≡ (spec.are_entitlements (shapes_of shapes.now) authorization.now && spec.is_type (shapes_of shapes.now) (pure_type target.now)) }
+{
+    are_entitlements(shapes, authorization) && is_type(shapes, target)
 }
 
 /// Whether a program can write a type: what it names is declared, keys are of types of keys, and what is lent is a

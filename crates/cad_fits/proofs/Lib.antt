@@ -1,0 +1,4 @@
+pub mod Lengths
+pub mod Below
+pub mod Each
+pub mod Laws

@@ -1,0 +1,11 @@
+//! Whether values are of a type, and which can be stored.
+#![tactic(auto)]
+
+mod fit;
+mod held;
+mod keys;
+mod part;
+mod storable;
+
+pub use fit::fits;
+pub use storable::is_storable;

@@ -1,0 +1,8 @@
+//! JSON to values.
+#![tactic(auto)]
+
+mod importing;
+mod laws;
+
+pub use importing::import;
+pub use laws::one_value;
