@@ -5,6 +5,6 @@ mod shape;
 mod shapes;
 mod well_formed;
 
-pub use shape::{Shape, ShapeField, all_names_differ};
+pub use shape::{Shape, ShapeField, all_names_differ, are_closed};
 pub use shapes::DeclaredShapes;
 pub use well_formed::{is_key_type, is_lent_type, is_reference_type, is_type};

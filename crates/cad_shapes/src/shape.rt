@@ -1,14 +1,14 @@
 // The shapes of declared types.
-ghost use Rattle.std.specs.Prelude.{◌≡◌, not, map, IfOk};
+ghost use Rattle.std.specs.Prelude.{◌≡◌, ◌↔◌, not, map, IsTrue, IfOk};
 ghost use Rattle.cad_syntax.specs.Types.{pure_type};
-ghost use Rattle.cad_types.specs.Declarations.{declaration_of};
+ghost use Rattle.cad_types.specs.Declarations.{declaration_of, IsClosed};
 ghost use Rattle.cad_values.specs.Shapes.{declaration};
 ghost use Rattle.cad_shapes.specs.Views as views;
 ghost use Rattle.cad_shapes.specs.Views.{pure_field, pure_shape, same_name};
 ghost use Rattle.std.specs.List.{list_all};
 
 use cad_syntax::{CadType, Kind, Name, TypeId, TypeIds, Types};
-use cad_types::{Declared, Sort};
+use cad_types::{Declared, Sort, is_closed};
 use std::alloc::{AllocError, Global};
 
 /// A field of a declared type.
@@ -63,6 +63,15 @@ pub fn all_declared(alloc: Global, shapes: &[Shape]) -> Result<Vec<Declared>, Al
         all.push(declared)?;
     }
     Ok(all)
+}
+
+/// Whether the interfaces of an interface that a type has are its own too.
+pub fn are_closed(alloc: Global, shapes: &[Shape]) -> Result<bool, AllocError>
+    ensures { IfOk result (λ b. IsTrue b ↔ IsClosed (map declaration (map pure_shape shapes.now))) }
+{
+    let declared = all_declared(alloc, shapes)?;
+    let closed = is_closed(declared.as_slice());
+    Ok(closed)
 }
 
 /// The identifiers of shapes.
