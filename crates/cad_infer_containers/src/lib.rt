@@ -1,0 +1,10 @@
+//! Arrays, dictionaries and arguments: their types and elaborated trees, by those of their parts.
+#![tactic(auto)]
+
+mod arguments;
+mod containers;
+
+pub use arguments::{Next, argument, expected_argument, may_end, next_parameter};
+pub use containers::{
+    array_typed, dictionary_typed, element, expected_element, expected_key, expected_value,
+};
