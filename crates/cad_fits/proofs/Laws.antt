@@ -28,14 +28,14 @@ Tells k = (t u : PureType) → (below (declarations k) t u ≡ true) ↔ Sub (de
 
 -- ---- single parts
 
-number_so : (k : Kind) → is_number k ≡ true → k ≢ kind.Address
+pub number_so : (k : Kind) → is_number k ≡ true → k ≢ kind.Address
 number_so k e same = let wrong : true ≡ false = sym e ∙ ap is_number same in absurd cc
 
 so_number : (k : Kind) → k ≢ kind.Address → is_number k ≡ true
 so_number kind.Address other = absurd (other refl)
 so_number _ other = refl
 
-low_so : (a b : ℕ) → nat_le a b ≡ true → a ≤ b
+pub low_so : (a b : ℕ) → nat_le a b ≡ true → a ≤ b
 low_so a b e = grind arith
 
 so_low : (a b : ℕ) → a ≤ b → nat_le a b ≡ true

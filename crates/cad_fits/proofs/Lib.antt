@@ -2,3 +2,4 @@ pub mod Lengths
 pub mod Below
 pub mod Each
 pub mod Laws
+pub mod Simple

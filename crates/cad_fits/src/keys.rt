@@ -5,6 +5,7 @@ ghost use Rattle.cad_values.specs.Keys.{key_form, KeysDiffer};
 ghost use Rattle.cad_values.specs.Values.{pure_value, pure_field, pure_entry, values_of, entries_of, fields_of, keys};
 ghost use Rattle.cad_fits.specs.Keys as spec;
 
+use crate::table::{are_simple, bytes_differ};
 use cad_values::{CompositeField, DictionaryEntry, Value, same_key};
 use std::alloc::{AllocError, Global};
 
@@ -36,8 +37,8 @@ fn lacks(
     Ok(true)
 }
 
-/// Whether no two entries have one key.
-fn differ(alloc: Global, entries: &[DictionaryEntry]) -> Result<bool, AllocError>
+/// Whether no two entries have one key, by pairs.
+fn pairs_differ(alloc: Global, entries: &[DictionaryEntry]) -> Result<bool, AllocError>
     ensures { IfOk result (λ b. IsTrue b ↔ KeysDiffer (keys (entries_of (map pure_entry entries.now)))) }
 {
     for i in 0..entries.len() {
@@ -46,6 +47,17 @@ fn differ(alloc: Global, entries: &[DictionaryEntry]) -> Result<bool, AllocError
         }
     }
     Ok(true)
+}
+
+/// Whether no two entries have one key: by their bytes where those tell, else by pairs.
+fn differ(alloc: Global, entries: &[DictionaryEntry]) -> Result<bool, AllocError>
+    ensures { IfOk result (λ b. IsTrue b ↔ KeysDiffer (keys (entries_of (map pure_entry entries.now)))) }
+{
+    if are_simple(entries) {
+        let differ = bytes_differ(alloc, entries)?;
+        return Ok(differ);
+    }
+    pairs_differ(alloc, entries)
 }
 
 /// Whether the keys of each dictionary in a value differ.

@@ -6,6 +6,7 @@ mod held;
 mod keys;
 mod part;
 mod storable;
+mod table;
 
 pub use fit::fits;
 pub use storable::is_storable;

@@ -4,7 +4,7 @@ use Rattle.cad_values.specs.Keys.{key_form, KeysDiffer}
 use Rattle.cad_values.specs.Values.{pure_entry, entries_of, keys}
 use Rattle.cad_values.specs.declared.value.DictionaryEntry.{DictionaryEntry}
 use Rattle.cad_fits.specs.Keys.{Lacks}
-use Rattle.cad_fits.proofs.keys.differ.Given as goal
+use Rattle.cad_fits.proofs.keys.pairs_differ.Given as goal
 
 abbrev pub invariant-loop-i : goal.invariant-loop-i
 invariant-loop-i l = KeysDiffer (keys (entries_of (map pure_entry (drop l.i l.entries)))) ↔ KeysDiffer (keys (entries_of (map pure_entry l.entries)))
