@@ -10,8 +10,8 @@ ghost use Rattle.cad_conform.specs.Refusals.{Refuses, IsStop};
 
 use crate::meets::member_meets;
 use cad_declarations::{
-    Member, Refused, Stop, Tables, TypeDeclaration, TypeDeclarations, default_in, find_type, interface_member,
-    is_interface_sort, is_same_name, own_member,
+    Member, Refused, Stop, Tables, TypeDeclaration, TypeDeclarations, default_in, find_type,
+    interface_member, is_interface_sort, is_same_name, own_member,
 };
 use cad_syntax::{Name, TypeId};
 use cad_types::DeclaredTypes;

@@ -6,7 +6,10 @@ ghost use Rattle.cad_contracts.specs.Views.{entry_of};
 
 use crate::contracts::{is_part, tables_in};
 use cad_auth::Mapping;
-use cad_declarations::{Installed, Links, MappingDeclaration, Member, MemberAccess, MemberKind, Parameter, Signature, TypeDeclaration, linearised};
+use cad_declarations::{
+    Installed, Links, MappingDeclaration, Member, MemberAccess, MemberKind, Parameter, Signature,
+    TypeDeclaration, linearised,
+};
 use cad_syntax::{Name, Pairs, TypeId};
 use std::alloc::{AllocError, Global};
 

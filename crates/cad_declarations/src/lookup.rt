@@ -189,11 +189,7 @@ fn first_own<'a>(types: &'a TypeDeclarations, name: &Name, ids: &[TypeId]) -> Op
 }
 
 /// The first body of a function of this name in these interfaces.
-fn first_default<'a>(
-    types: &'a TypeDeclarations,
-    name: &Name,
-    ids: &[TypeId],
-) -> Option<&'a Member>
+fn first_default<'a>(types: &'a TypeDeclarations, name: &Name, ids: &[TypeId]) -> Option<&'a Member>
     ensures { option_map (λ m. member_of m.now) result ≡ spec.first_some (spec.default_in (map type_entry_of types.now) name.now) ids.now }
 {
     for id in ids {
@@ -235,11 +231,7 @@ fn first_interface_member<'a>(
 }
 
 /// The member of a composite: its own, else the first body in its interfaces.
-fn composite_member<'a>(
-    types: &'a TypeDeclarations,
-    name: &Name,
-    id: &TypeId,
-) -> Option<&'a Member>
+fn composite_member<'a>(types: &'a TypeDeclarations, name: &Name, id: &TypeId) -> Option<&'a Member>
     ensures { option_map (λ m. member_of m.now) result ≡ spec.composite_member (map type_entry_of types.now) name.now id.now }
 {
     if let Some(member) = own_member(types, name, id) {

@@ -17,8 +17,8 @@ pub same_tables : (place : Option Address) (contract contract' : Option TypeId) 
     (mappings mappings' : List MappingEntry) (functions functions' : List MemberEntry)
     → contract ≡ contract' → imports ≡ imports' → types ≡ types' → entitlements ≡ entitlements' → mappings ≡ mappings' → functions ≡ functions'
     → ◌≡◌ {A = ProgramTables}
-        (record { place = place; contract = contract; imports = imports; types = types; entitlements = entitlements; mappings = mappings; functions = functions })
-        (record { place = place; contract = contract'; imports = imports'; types = types'; entitlements = entitlements'; mappings = mappings'; functions = functions' })
+    (record { place = place; contract = contract; imports = imports; types = types; entitlements = entitlements; mappings = mappings; functions = functions })
+    (record { place = place; contract = contract'; imports = imports'; types = types'; entitlements = entitlements'; mappings = mappings'; functions = functions' })
 same_tables place contract contract' imports imports' types types' entitlements entitlements' mappings mappings' functions functions' a b c d e f = rw a (rw b (rw c (rw d (rw e (rw f refl)))))
 
 pub types_made : (l l' : List Link) (i i' : List ContractEntry) (s s' : Scope) (own : Option OwnContract) (types : List TypeEntry)

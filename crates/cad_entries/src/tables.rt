@@ -17,7 +17,9 @@ use crate::mappings::push_own_mappings;
 use crate::members::function_entry;
 use crate::types::push_types_in;
 use cad_contracts::{Own, push_copied_mappings, push_linked_types};
-use cad_declarations::{Installed, Links, MappingDeclaration, Member, Tables, TypeDeclaration, TypeDeclarations};
+use cad_declarations::{
+    Installed, Links, MappingDeclaration, Member, Tables, TypeDeclaration, TypeDeclarations,
+};
 use cad_grammar::{Decl, Program};
 use cad_scopes::Scope;
 use cad_syntax::{Address, Names, TypeId};

@@ -102,14 +102,7 @@ fn composite_members_stop(
 {
     let mut before = names_of_composite(alloc, kind)?;
     for member in members {
-        if let Some(stop) = composite_member_stop(
-            alloc,
-            scope,
-            kind,
-            names,
-            &before,
-            member,
-        )? {
+        if let Some(stop) = composite_member_stop(alloc, scope, kind, names, &before, member)? {
             return Ok(Some(stop));
         }
         before.push(composite_member_name(alloc, member)?)?;

@@ -79,7 +79,10 @@ pub fn names_of_contract(alloc: Global) -> Result<NamesBefore, AllocError>
 
 /// The built-in members of structs or resources.
 #[tactic(auto, using(crate::proofs::Lists::reversed_one))]
-pub(crate) fn names_of_composite(alloc: Global, kind: CompositeKind) -> Result<NamesBefore, AllocError>
+pub(crate) fn names_of_composite(
+    alloc: Global,
+    kind: CompositeKind,
+) -> Result<NamesBefore, AllocError>
     ensures { IfOk result (λ all. reverse all ≡ spec.names_of_composite kind) }
 {
     match kind {

@@ -6,8 +6,8 @@ ghost use Rattle.cad_declarations.specs.Points as spec;
 ghost use Rattle.cad_scopes.specs.Views.{scope_of};
 ghost use Rattle.cad_stop_points.specs.Code.Stops as stops;
 
-use crate::body_rows::{missing_in_block, missing_in_option};
 use crate::before::NamesBefore;
+use crate::body_rows::{missing_in_block, missing_in_option};
 use crate::names::{below, is_new, word};
 use crate::right::{event_is_right, head_is_there, parameters_are_there};
 use cad_declarations::Stop;

@@ -9,8 +9,8 @@ ghost use Rattle.cad_declarations.specs.Scopes as scopes;
 ghost use Rattle.cad_declarations.specs.Written as written_types;
 ghost use Rattle.cad_scopes.specs.Views.{meaning_view, scope_of};
 
-use crate::expression_types::types_in_option;
 use crate::before::NamesBefore;
+use crate::expression_types::types_in_option;
 use crate::names::is_new;
 use cad_grammar::{
     Access, CompositeKind, Dotted, Event, EventParameter, Field, Function, Parameter,

@@ -94,14 +94,7 @@ fn build_within(
 {
     let within = scope(known);
     let links = parent_links(alloc, within, known.imports.as_slice(), &known.own)?;
-    let stop = declarations_stop(
-        alloc,
-        within,
-        &links,
-        place.is_some(),
-        &known.own,
-        program,
-    )?;
+    let stop = declarations_stop(alloc, within, &links, place.is_some(), &known.own, program)?;
     match stop {
         Some(stop) => Ok(Err(stop)),
         None => Ok(Ok(made_tables(alloc, place, program, known, &links)?)),

@@ -14,9 +14,9 @@ use cad_grammar::{
 };
 use cad_scopes::{Scope, inside};
 use cad_stop_points::{
-    NamesBefore,     access_is_there, composite_stop, contract_member_name, entitlement_is_there, event_stop,
-    field_is_right, function_stop, init_stop, interface_stop, is_destroyed_event, is_new,
-    name_is_there, names_of_contract, unless_right,
+    NamesBefore, access_is_there, composite_stop, contract_member_name, entitlement_is_there,
+    event_stop, field_is_right, function_stop, init_stop, interface_stop, is_destroyed_event,
+    is_new, name_is_there, names_of_contract, unless_right,
 };
 use cad_syntax::{Name, TypeId};
 use std::alloc::{AllocError, Global};
@@ -259,14 +259,7 @@ fn contract_members_stop(
 {
     let mut before = names_of_contract(alloc)?;
     for member in members {
-        if let Some(stop) = contract_member_stop(
-            alloc,
-            scope,
-            links,
-            id,
-            &before,
-            member,
-        )? {
+        if let Some(stop) = contract_member_stop(alloc, scope, links, id, &before, member)? {
             return Ok(Some(stop));
         }
         before.push(contract_member_name(alloc, member)?)?;

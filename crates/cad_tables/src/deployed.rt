@@ -102,10 +102,7 @@ fn each_contract<'a>(
 }
 
 /// The types that contracts declare, with all interfaces that they have.
-fn deployed_types(
-    alloc: Global,
-    contracts: &[Installed],
-) -> Result<TypeDeclarations, AllocError>
+fn deployed_types(alloc: Global, contracts: &[Installed]) -> Result<TypeDeclarations, AllocError>
     ensures { IfOk result (λ all. map type_entry_of all ≡ spec.deployed_types (map entry_of contracts.now)) }
 {
     let all = each_contract(alloc, contracts)?;

@@ -17,8 +17,8 @@ use cad_grammar::{
 };
 use cad_scopes::Scope;
 use cad_stop_points::{
-    NamesBefore,     annotation_is_there, declaration_name, function_stop, import_names, is_new, missing_in_body,
-    missing_in_conditions, parameters_are_there, told_stop, unless_right, word,
+    NamesBefore, annotation_is_there, declaration_name, function_stop, import_names, is_new,
+    missing_in_body, missing_in_conditions, parameters_are_there, told_stop, unless_right, word,
 };
 use cad_syntax::Name;
 use std::alloc::{AllocError, Global};
