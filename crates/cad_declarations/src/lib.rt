@@ -3,6 +3,8 @@
 #![tactic(auto)]
 
 mod body;
+mod boxes;
+mod discard;
 mod link;
 mod lookup;
 mod member;
@@ -16,6 +18,12 @@ mod type_declarations;
 pub use body::{
     Bodies, DestroyedEvent, TypedBefore, TypedBody, TypedCondition, TypedFunction, TypedMember,
     TypedTransaction, TypedType,
+};
+pub use boxes::{boxed_place, boxed_term, boxed_terms, boxed_type, boxed_use};
+pub use discard::{
+    discard_arguments, discard_block, discard_boxed_place, discard_boxed_term, discard_entries,
+    discard_place, discard_statement, discard_term, discard_type, discard_types, discard_use,
+    discard_variable,
 };
 pub use link::{Link, Links, linearised, reached_from};
 pub use lookup::{

@@ -7,8 +7,8 @@ ghost use Rattle.cad_environment.specs.Views.{environment_of, typing_of, hidden_
 
 use crate::environment::{Environment, more};
 use crate::trees::{contract_place, hold_term, target_place, variable_place};
-use crate::typing::Typing;
-use cad_declarations::{Place, Term};
+use crate::typing::{Typing, discard_typing};
+use cad_declarations::{Place, Term, discard_place, discard_term, discard_type};
 use cad_syntax::{Authorization, CadType, TypeId};
 use std::alloc::{AllocError, Global};
 
@@ -47,6 +47,35 @@ pub enum Base {
     Chained(Receiver, bool),
 }
 
+/// Lets a hidden variable go, where there is one.
+pub fn discard_hidden(hidden: Option<Hidden>) {
+    match hidden {
+        Some(hidden) => {
+            discard_type(hidden.declared);
+            discard_term(hidden.value)
+        }
+        None => {}
+    }
+}
+
+/// Lets a receiver go.
+pub fn discard_receiver(receiver: Receiver) {
+    discard_hidden(receiver.hidden);
+    discard_place(receiver.place);
+    discard_type(receiver.declared)
+}
+
+/// Lets go what stands before `.`.
+pub fn discard_base(base: Base) {
+    match base {
+        Base::Value(receiver) => discard_receiver(receiver),
+        Base::Contract(id) => drop(id),
+        Base::TypeName(declared) => discard_type(declared),
+        Base::Transaction => {}
+        Base::Chained(receiver, _) => discard_receiver(receiver),
+    }
+}
+
 /// A form whose parts are taken of a hidden variable.
 pub fn closed(alloc: Global, hidden: Option<Hidden>, term: Term) -> Result<Term, AllocError>
     ensures { IfOk result (λ x. term_of x ≡ spec.closed (option_map hidden_of hidden) (term_of term)) }
@@ -66,13 +95,18 @@ pub fn through(
 ) -> Result<Receiver, AllocError>
     ensures { IfOk result (λ r. receiver_of r ≡ spec.through (term_of term) grant (pure_type declared)) }
 {
-    let place = target_place(alloc, term)?;
-    Ok(Receiver {
-        hidden: None,
-        place,
-        declared,
-        grant: Some(grant),
-    })
+    match target_place(alloc, term) {
+        Ok(place) => Ok(Receiver {
+            hidden: None,
+            place,
+            declared,
+            grant: Some(grant),
+        }),
+        Err(error) => {
+            discard_type(declared);
+            Err(error)
+        }
+    }
 }
 
 /// A place that is met as its owner.
@@ -99,10 +133,19 @@ pub fn receiver_at(
 {
     match declared {
         CadType::Reference(grant, target) => {
-            let term = closed(alloc, hidden, term)?;
-            through(alloc, term, grant, Box::into_inner(target))
+            discard_place(place);
+            match closed(alloc, hidden, term) {
+                Ok(term) => through(alloc, term, grant, Box::into_inner(target)),
+                Err(error) => {
+                    discard_type(Box::into_inner(target));
+                    Err(error)
+                }
+            }
         }
-        declared => Ok(owned(hidden, place, declared)),
+        declared => {
+            discard_term(term);
+            Ok(owned(hidden, place, declared))
+        }
     }
 }
 
@@ -117,14 +160,21 @@ pub fn held_at(
 {
     match declared {
         CadType::Reference(grant, target) => through(alloc, term, grant, Box::into_inner(target)),
-        declared => {
-            let hidden = Hidden {
-                number,
-                declared: declared.clone()?,
-                value: term,
-            };
-            Ok(owned(Some(hidden), variable_place(number), declared))
-        }
+        declared => match declared.clone() {
+            Ok(copied) => {
+                let hidden = Hidden {
+                    number,
+                    declared: copied,
+                    value: term,
+                };
+                Ok(owned(Some(hidden), variable_place(number), declared))
+            }
+            Err(error) => {
+                discard_term(term);
+                discard_type(declared);
+                Err(error)
+            }
+        },
     }
 }
 
@@ -133,6 +183,7 @@ pub fn held(alloc: Global, env: Environment<'_>, x: Typing) -> Result<Option<Bas
     ensures { IfOk result (λ b. option_map base_of b ≡ spec.held (environment_of env.entry) (typing_of x)) }
 {
     if env.is_resource(&x.declared) {
+        discard_typing(x);
         return Ok(None);
     }
     let receiver = held_at(alloc, env.in_use, x.term, x.declared)?;
@@ -154,7 +205,15 @@ pub fn receiver_in(base: Base) -> Result<Option<Receiver>, AllocError>
     match base {
         Base::Value(receiver) => Ok(Some(receiver)),
         Base::Contract(id) => Ok(Some(of_contract(id)?)),
-        _ => Ok(None),
+        Base::TypeName(declared) => {
+            discard_type(declared);
+            Ok(None)
+        }
+        Base::Transaction => Ok(None),
+        Base::Chained(receiver, _) => {
+            discard_receiver(receiver);
+            Ok(None)
+        }
     }
 }
 

@@ -5,7 +5,7 @@ ghost use Rattle.cad_declarations.specs.Views.{term_of};
 ghost use Rattle.cad_typing.specs.Environments as spec;
 ghost use Rattle.cad_environment.specs.Views.{typing_of};
 
-use cad_declarations::Term;
+use cad_declarations::{Term, discard_term, discard_type};
 use cad_syntax::CadType;
 
 /// How deep the type of a form may nest.
@@ -27,12 +27,22 @@ pub struct Typing {
     pub declared: CadType,
 }
 
+/// Lets an elaborated expression go.
+pub fn discard_typing(typing: Typing) {
+    discard_term(typing.term);
+    discard_type(typing.declared)
+}
+
 /// A form with its type; None where that nests more than 128 deep.
 pub fn typed(term: Term, declared: CadType) -> Option<Typing>
     ensures { option_map typing_of result ≡ spec.typed (term_of term) (pure_type declared) }
 {
     match declared.nesting(DEEPEST) {
         Some(_) => Some(Typing { term, declared }),
-        None => None,
+        None => {
+            discard_term(term);
+            discard_type(declared);
+            None
+        }
     }
 }

@@ -2,6 +2,7 @@
 ghost use Rattle.std.specs.Prelude.{◌≡◌, IfOk, option_map};
 ghost use Rattle.cad_syntax.specs.Types.{pure_type};
 ghost use Rattle.cad_declarations.specs.Typed as tree;
+ghost use Rattle.cad_declarations.specs.Views.{term_of};
 ghost use Rattle.cad_typing.specs.Environments as typing;
 ghost use Rattle.cad_typing.specs.Names as spec;
 ghost use Rattle.cad_environment.specs.Views.{local_of, part_of, environment_of, position_of, typing_of, base_of, head_of};
@@ -12,6 +13,7 @@ use crate::local::{Local, find_local};
 use crate::names::{Head, is_contract_sort};
 use crate::trees::{copy_term, self_place, take_term, variable_place};
 use crate::typing::{Position, Typing, typed};
+use cad_declarations::{Term, discard_term, discard_type};
 use cad_syntax::{CadType, Name};
 use std::alloc::{AllocError, Global};
 
@@ -60,12 +62,25 @@ pub fn may_leave(env: Environment<'_>, position: Position) -> bool
     }
 }
 
+/// A form with the type of a variable.
+fn typed_as(term: Term, declared: &CadType) -> Result<Option<Typing>, AllocError>
+    ensures { IfOk result (λ x. option_map typing_of x ≡ typing.typed (term_of term) (pure_type declared.now)) }
+{
+    match declared.clone() {
+        Ok(declared) => Ok(typed(term, declared)),
+        Err(error) => {
+            discard_term(term);
+            Err(error)
+        }
+    }
+}
+
 /// The value of a variable, which leaves it.
 fn taken_value(alloc: Global, v: &Local) -> Result<Option<Typing>, AllocError>
     ensures { IfOk result (λ x. option_map typing_of x ≡ typing.typed (tree.take (tree.variable v.now.number)) (pure_type v.now.declared)) }
 {
     let term = take_term(alloc, variable_place(v.number))?;
-    Ok(typed(term, v.declared.clone()?))
+    typed_as(term, &v.declared)
 }
 
 /// The value of a variable, which stays.
@@ -73,7 +88,7 @@ fn copied_value(alloc: Global, v: &Local) -> Result<Option<Typing>, AllocError>
     ensures { IfOk result (λ x. option_map typing_of x ≡ typing.typed (tree.copy (tree.variable v.now.number)) (pure_type v.now.declared)) }
 {
     let term = copy_term(alloc, variable_place(v.number))?;
-    Ok(typed(term, v.declared.clone()?))
+    typed_as(term, &v.declared)
 }
 
 /// The value of a variable: a resource only where it is moved.
@@ -106,10 +121,17 @@ pub fn variable_base(
     if !may_be_named(env, &v.declared) {
         return Ok(None);
     }
-    let term = copy_term(alloc, variable_place(v.number))?;
     let declared = v.declared.clone()?;
-    let receiver = receiver_at(alloc, None, variable_place(v.number), term, declared)?;
-    Ok(Some(Base::Value(receiver)))
+    match copy_term(alloc, variable_place(v.number)) {
+        Ok(term) => {
+            let receiver = receiver_at(alloc, None, variable_place(v.number), term, declared)?;
+            Ok(Some(Base::Value(receiver)))
+        }
+        Err(error) => {
+            discard_type(declared);
+            Err(error)
+        }
+    }
 }
 
 /// What a name stands for, as a value: a variable alone.
@@ -174,10 +196,16 @@ pub fn self_value(alloc: Global, env: Environment<'_>) -> Result<Option<Typing>,
         return Ok(None);
     };
     if env.is_resource(&declared) || is_contract_type(env, &declared) {
+        discard_type(declared);
         return Ok(None);
     }
-    let term = copy_term(alloc, self_place())?;
-    Ok(typed(term, declared))
+    match copy_term(alloc, self_place()) {
+        Ok(term) => Ok(typed(term, declared)),
+        Err(error) => {
+            discard_type(declared);
+            Err(error)
+        }
+    }
 }
 
 /// `self` of a type before `.`.

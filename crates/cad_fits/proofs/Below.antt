@@ -1,12 +1,11 @@
 -- The order of types as a test.
-use Rattle.std.proofs.Common.{◌≡◌, Bool, true, false, List, map, refl, sym, ap, ◌∙◌, subst}
+use Rattle.std.proofs.Common.{◌≡◌, Bool, true, false, List, map, refl, sym, subst}
 use Rattle.std.specs.Prelude.{IsTrue, ◌↔◌}
 use Rattle.cad_syntax.specs.Types.{PureType}
 use Rattle.cad_types.specs.Below.{below}
 use Rattle.cad_types.specs.Declarations.{Declaration, IsClosed}
 use Rattle.cad_types.specs.Sub.{Sub}
 use Rattle.cad_types.specs.Views as types
-use Rattle.cad_types.specs.declared.declared_types.DeclaredTypes.{DeclaredTypes}
 use Rattle.cad_types.proofs.Decision.{answer_tells}
 use Rattle.cad_values.specs.Shapes.{declaration, declarations}
 use Rattle.cad_shapes.specs.Held.{shapes_of}

@@ -1,9 +1,9 @@
 -- The tests tell which values are of a type.
-use Rattle.std.proofs.Common.{◌≡◌, ◌≢◌, ◌≤◌, ℕ, Bool, true, false, not, List, [], ◌∷◌, length, Option, Some, None, refl, sym, ap, ◌∙◌, subst, arith}
+use Rattle.std.proofs.Common.{◌≡◌, ◌≢◌, ◌≤◌, ℕ, Bool, true, false, not, List, [], ◌∷◌, length, Option, Some, None, refl, sym, ap, ◌∙◌, arith}
 use Rattle.std.specs.Prelude.{IsTrue, ◌↔◌, ◌&&◌, ◌||◌, ◌==◌, nat_le}
 use Rattle.std.proofs.lemmas.Bool.{and_parts, and_from, eqb-true, eq-eqb, not-true, not_from_false}
 use Rattle.std.proofs.lemmas.Str.{IsUtf8-from_is_utf8, is_utf8-from_IsUtf8}
-use Rattle.std.specs.Str.{IsUtf8, is_utf8}
+use Rattle.std.specs.Str.{is_utf8}
 use Rattle.cad_syntax.specs.Types.{PureType}
 use Rattle.cad_syntax.specs.declared.kind.Kind.{Kind}
 use Rattle.cad_syntax.specs.declared.kind.Kind.TheVariants as kind
@@ -14,8 +14,8 @@ use Rattle.cad_types.specs.Sub.{Sub}
 use Rattle.cad_types.specs.declared.declared.Sort.{Sort}
 use Rattle.cad_types.specs.declared.declared.Sort.TheVariants as s
 use Rattle.cad_shapes.specs.Views.{same_name}
-use Rattle.cad_values.specs.Fits.{Fits, Holds, AllFit, EntriesFit, FieldsFit, IsBelow, IsOf, HasIdentity, HasCase, is_value_sort, is_case, most_elements}
-use Rattle.cad_values.specs.Shapes.{Shape, ShapeField, Shapes, declarations, shape_of, shape_fields, is_type, is_key_type, is_reference_type, are_entitlements, is_enum}
+use Rattle.cad_values.specs.Fits.{Fits, Holds, AllFit, EntriesFit, FieldsFit, IsOf, HasIdentity, HasCase, is_value_sort, is_case, most_elements}
+use Rattle.cad_values.specs.Shapes.{Shape, ShapeField, Shapes, declarations, shape_of, shape_fields, is_type, is_key_type, is_reference_type, is_enum}
 use Rattle.cad_values.specs.Types.{type_of_value}
 use Rattle.cad_values.specs.Values.{PureValue, void, nil, some, bool, number, string, character, address, path, meta, capability, array, dictionary, composite, reference, Values, no_values, values, Entries, no_entries, entries, keys, elements, Fields, no_fields, fields}
 use Rattle.cad_fits.specs.Keys.{Apart, ValuesApart, EntriesApart, FieldsApart}

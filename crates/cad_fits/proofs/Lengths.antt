@@ -1,5 +1,5 @@
 -- Numbers of parts.
-use Rattle.std.proofs.Common.{◌≡◌, ◌≢◌, ◌≤◌, ℕ, suc, Bool, true, false, List, [], ◌∷◌, length, map, refl, ap, sym, ◌∙◌, arith}
+use Rattle.std.proofs.Common.{◌≡◌, ◌≢◌, ◌≤◌, suc, Bool, true, false, List, [], ◌∷◌, length, map, refl, ap, arith}
 use Rattle.cad_shapes.specs.Views as shape
 use Rattle.cad_shapes.specs.declared.shape.ShapeField.{ShapeField}
 use Rattle.cad_values.specs.Shapes.{Shape, Shapes, is_enum}
@@ -7,7 +7,7 @@ use Rattle.cad_values.specs.Values.{pure_value, pure_entry, pure_field, values_o
 use Rattle.cad_values.specs.declared.value.Value.{Value}
 use Rattle.cad_values.specs.declared.value.DictionaryEntry.{DictionaryEntry}
 use Rattle.cad_values.specs.declared.value.CompositeField.{CompositeField}
-use Rattle.cad_fits.specs.Tests.{fields_fit, is_below, holds, has_case}
+use Rattle.cad_fits.specs.Tests.{fields_fit, has_case}
 use Rattle.std.specs.Prelude.{◌&&◌, not}
 
 pub count_values : (xs : List Value) → length (elements (values_of (map pure_value xs))) ≡ length xs

@@ -1,12 +1,14 @@
 -- Keys that are told apart by their bytes.
-use Rattle.std.specs.Prelude.{ℕ, Bool, true, false, ◌&&◌, List, [], ◌∷◌, map}
-use Rattle.std.specs.List.{list_all}
+use Rattle.std.specs.Prelude.{◌≡◌, ℕ, Bool, true, false, ◌&&◌, List, [], ◌∷◌, map, if◌then◌else◌}
 use Rattle.cad_codec.specs.Code.Values.{all_new}
+use Rattle.cad_codec.specs.Forms.{HasBytes}
 use Rattle.cad_codec.specs.ValueBytes.{value_bytes}
 use Rattle.cad_syntax.specs.declared.address.Path.{Path}
 use Rattle.cad_text.specs.Texts.{normal_form}
 use Rattle.cad_values.specs.Values as v
-use Rattle.cad_values.specs.Values.{PureValue, PureEntry}
+use Rattle.cad_values.specs.Forms.{has_no_reference}
+use Rattle.cad_values.specs.Values.{PureValue, PureEntry, pure_entry}
+use Rattle.cad_values.specs.declared.value.DictionaryEntry.{DictionaryEntry}
 use Rattle.cad_fits.specs.Tests.{is_text, is_number, is_one_character}
 
 abbrev pub is_short_character : List ℕ → Bool
@@ -24,16 +26,21 @@ is_simple (v.bool b) = true
 is_simple (v.path p) = is_short_path p
 is_simple _ = false
 
-abbrev pub are_simple : List PureEntry → Bool
-are_simple es = list_all (λ e. is_simple e.key) es
+-- a key with bytes, and with no reference in it
+abbrev pub IsTold : PureValue → Type 0
+IsTold x = HasBytes x × (has_no_reference x ≡ true)
 
+abbrev pub HasToldKey : DictionaryEntry → Type 0
+HasToldKey e = IsTold (pure_entry e).key
+
+unfoldable pub plain_bytes : PureValue → List ℕ
+plain_bytes x = if has_no_reference x then value_bytes x else []
+
+-- the bytes by which a key is told from others
 abbrev pub key_bytes : PureValue → List ℕ
 key_bytes (v.string text) = 5 ∷ normal_form text
 key_bytes (v.character text) = 6 ∷ normal_form text
-key_bytes (v.number n) = value_bytes (v.number n)
-key_bytes (v.bool b) = value_bytes (v.bool b)
-key_bytes (v.path p) = value_bytes (v.path p)
-key_bytes _ = []
+key_bytes x = plain_bytes x
 
 abbrev pub bytes_differ : List PureEntry → Bool
 bytes_differ es = all_new [] (map (λ e. key_bytes e.key) es)

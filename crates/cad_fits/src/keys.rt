@@ -5,7 +5,7 @@ ghost use Rattle.cad_values.specs.Keys.{key_form, KeysDiffer};
 ghost use Rattle.cad_values.specs.Values.{pure_value, pure_field, pure_entry, values_of, entries_of, fields_of, keys};
 ghost use Rattle.cad_fits.specs.Keys as spec;
 
-use crate::table::{are_simple, bytes_differ};
+use crate::table::{are_told, bytes_differ};
 use cad_values::{CompositeField, DictionaryEntry, Value, same_key};
 use std::alloc::{AllocError, Global};
 
@@ -53,7 +53,8 @@ fn pairs_differ(alloc: Global, entries: &[DictionaryEntry]) -> Result<bool, Allo
 fn differ(alloc: Global, entries: &[DictionaryEntry]) -> Result<bool, AllocError>
     ensures { IfOk result (λ b. IsTrue b ↔ KeysDiffer (keys (entries_of (map pure_entry entries.now)))) }
 {
-    if are_simple(entries) {
+    let told = are_told(alloc, entries)?;
+    if told {
         let differ = bytes_differ(alloc, entries)?;
         return Ok(differ);
     }

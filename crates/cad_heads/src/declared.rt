@@ -1,19 +1,23 @@
 // Heads of declarations: fields, enums and events.
-ghost use Rattle.std.specs.Prelude.{◌≡◌, IfOk, Some, length, map};
+ghost use Rattle.std.specs.Prelude.{◌≡◌, ◌&&◌, IfOk, Some, length, map, not};
 ghost use Rattle.std.specs.List.{list_all};
 ghost use Rattle.cad_syntax.specs.Types as types;
 ghost use Rattle.cad_syntax.specs.declared.types.Basic.TheVariants as basic;
 ghost use Rattle.cad_syntax.specs.Types.{pure_type};
 ghost use Rattle.cad_grammar.specs.Trees as tree;
 ghost use Rattle.cad_grammar.specs.Views.{composite_member_of, composite_of, contract_member_of, enum_of, event_of, event_parameter_of, field_of, interface_member_of, interface_of, parameter_of};
+ghost use Rattle.cad_types.specs.Declarations.{resource};
 ghost use Rattle.cad_declarations.specs.Entries as entries;
+ghost use Rattle.cad_declarations.specs.Kinds.{kinds_of};
 ghost use Rattle.cad_declarations.specs.Views.{tables_of};
 ghost use Rattle.cad_scopes.specs.Views.{scope_of};
 ghost use Rattle.cad_typing.specs.Heads as spec;
+ghost use Rattle.cad_typing.specs.Types as classes;
 
 use crate::head::{annotated_type, is_annotated, scope_in, type_entry};
 use crate::names::are_new;
 use cad_builtins::is_integer;
+use cad_declarations::discard_type;
 use cad_environment::Known;
 use cad_grammar::{
     Composite, CompositeKind, CompositeMember, ContractMember, Enum, EnumCase, Event,
@@ -34,7 +38,9 @@ fn contract_field(alloc: Global, known: Known<'_>, field: &Field) -> Result<bool
         return Ok(false);
     }
     let declared = annotated_type(alloc, scope, &field.annotation)?;
-    is_storable(alloc, known.declared(), &declared)
+    let storable = is_storable(alloc, known.declared(), &declared);
+    discard_type(declared);
+    storable
 }
 
 /// Whether a struct or resource, or an interface of them, may have a field of this type: a struct has no resources.
@@ -60,7 +66,9 @@ fn composite_field(
         return Ok(false);
     }
     let declared = annotated_type(alloc, scope, &field.annotation)?;
-    Ok(may_have(kind, known, &declared))
+    let right = may_have(kind, known, &declared);
+    discard_type(declared);
+    Ok(right)
 }
 
 fn contract_member_is_right(
@@ -234,7 +242,19 @@ pub fn enum_is_right(alloc: Global, known: Known<'_>, declared: &Enum) -> Result
     ensures { IfOk result (λ b. b ≡ spec.enum_is_right (tables_of known.entry.tables.now) (enum_of declared.now)) }
 {
     let raw = named_type(alloc, scope_in(known), &declared.raw)?;
-    Ok(holds_cases(declared.cases.as_slice(), raw_kind(&raw)))
+    let kind = raw_kind(&raw);
+    discard_type(raw);
+    Ok(holds_cases(declared.cases.as_slice(), kind))
+}
+
+/// Whether an event may have a field of this type: it can be exported, and is no resource.
+fn may_be_told(alloc: Global, known: Known<'_>, t: &CadType) -> Result<bool, AllocError>
+    ensures { IfOk result (λ b. b ≡ (classes.is_exportable (kinds_of (tables_of known.entry.tables.now)) (pure_type t.now) && not (resource (kinds_of (tables_of known.entry.tables.now)) (pure_type t.now)))) }
+{
+    if !is_exportable(alloc, known.declared(), t)? {
+        return Ok(false);
+    }
+    Ok(!is_resource(known.declared(), t))
 }
 
 /// Whether an event may have a field: it can be exported, and is no resource.
@@ -246,10 +266,9 @@ fn event_field(alloc: Global, known: Known<'_>, parameter: &Parameter) -> Result
         return Ok(false);
     }
     let declared = annotated_type(alloc, scope, &parameter.annotation)?;
-    if !is_exportable(alloc, known.declared(), &declared)? {
-        return Ok(false);
-    }
-    Ok(!is_resource(known.declared(), &declared))
+    let right = may_be_told(alloc, known, &declared);
+    discard_type(declared);
+    right
 }
 
 fn event_fields(

@@ -12,7 +12,7 @@ ghost use Rattle.cad_typing.specs.Functions as spec;
 ghost use Rattle.cad_typing.specs.Types as classes;
 
 use crate::names::are_new;
-use cad_declarations::Parameter as TypedParameter;
+use cad_declarations::{Parameter as TypedParameter, discard_type};
 use cad_environment::Known;
 use cad_grammar::{Parameter, TypeAnnotation, TypeExpr};
 use cad_scopes::{Scope, is_spelled, resolved_annotation, resolved_type};
@@ -44,7 +44,10 @@ pub(crate) fn is_annotated(
     ensures { IfOk result (λ b. b ≡ spec.is_annotated (scope_of scope.entry) (annotation_of annotation.now)) }
 {
     match resolved_annotation(alloc, scope, annotation)? {
-        Some(_) => Ok(true),
+        Some(declared) => {
+            discard_type(declared);
+            Ok(true)
+        }
         None => Ok(false),
     }
 }

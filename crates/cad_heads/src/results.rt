@@ -18,6 +18,7 @@ ghost use Rattle.cad_heads.specs.Views.{routine_of};
 use crate::head::{are_entries, are_parameters, is_result, result_entry, scope_in};
 use crate::names::word;
 use crate::routine::Routine;
+use cad_declarations::{boxed_type, discard_type};
 use cad_environment::{Known, Local, more};
 use cad_grammar::Function;
 use cad_scopes::{Scope, is_spelled};
@@ -57,7 +58,7 @@ fn referred(t: &CadType, alloc: Global) -> Result<CadType, AllocError>
     match t {
         CadType::Optional(content) => {
             let inner = referred(content, alloc)?;
-            Ok(CadType::Optional(Box::new(alloc, inner)?))
+            Ok(CadType::Optional(boxed_type(alloc, inner)?))
         }
         CadType::Basic(_) => reference_to(alloc, t),
         CadType::Array(_) => reference_to(alloc, t),
@@ -73,7 +74,7 @@ fn referred(t: &CadType, alloc: Global) -> Result<CadType, AllocError>
 fn reference_to(alloc: Global, t: &CadType) -> Result<CadType, AllocError>
     ensures { IfOk result (λ r. pure_type r ≡ types.reference authorization.Unauthorized (pure_type t.now)) }
 {
-    let target = Box::new(alloc, t.clone()?)?;
+    let target = boxed_type(alloc, t.clone()?)?;
     Ok(CadType::Reference(Authorization::Unauthorized, target))
 }
 
@@ -139,7 +140,9 @@ fn gives_exportable(
     ensures { IfOk result (λ b. b ≡ classes.is_exportable (kinds_of (tables_of known.entry.tables.now)) (entries.result_entry (scope_in_tables (tables_of known.entry.tables.now)) (tree_of function.now).result)) }
 {
     let result = result_entry(alloc, scope_in(known), function.result.as_ref())?;
-    is_exportable(alloc, known.declared(), &result)
+    let exportable = is_exportable(alloc, known.declared(), &result);
+    discard_type(result);
+    exportable
 }
 
 /// Whether a function takes what can be imported and gives what can be exported. It fails where memory runs out alone.

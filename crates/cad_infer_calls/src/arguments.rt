@@ -5,14 +5,19 @@ ghost use Rattle.cad_declarations.specs.Typed as tree;
 ghost use Rattle.cad_declarations.specs.Views.{argument_of, place_of, use_of, term_of, targeted};
 ghost use Rattle.cad_builtins.specs.Views.{rule_of};
 ghost use Rattle.cad_typing.specs.Calls as spec;
-ghost use Rattle.cad_environment.specs.Views.{typing_of};
+ghost use Rattle.cad_typing.specs.Environments as environments;
+ghost use Rattle.cad_typing.specs.Receivers as receivers;
+ghost use Rattle.cad_environment.specs.Views.{hidden_of, typing_of};
 ghost use Rattle.cad_infer_calls.specs.Views.{method_view, callee_view, call_view};
 
-use crate::call::{Call, Callee, Method};
+use crate::call::{Call, Callee, Method, discard_callee};
 use cad_builtins::{TypeRule, type_rule};
-use cad_declarations::{Argument, Place, Term, Use};
-use cad_environment::Typing;
+use cad_declarations::{
+    Argument, Place, Term, Use, discard_arguments, discard_place, discard_type,
+};
+use cad_environment::{Hidden, Typing, discard_hidden};
 use cad_infer_members::closed_typed;
+use cad_parameters::discard_parameters;
 use cad_syntax::CadType;
 use cad_typed_trees::{
     before_term, builtin_call_use, builtin_term, chain_term, construct_term, create_term,
@@ -85,8 +90,13 @@ fn built_in_usage(
 ) -> Result<Use, AllocError>
     ensures { IfOk result (λ u. use_of u ≡ spec.usage_of (spec.built_in_method member (map pure_type types.items)) (targeted all.items)) }
 {
-    let types = types_by(alloc, types, all.as_slice(), type_rule(member))?;
-    Ok(builtin_call_use(member, types, all))
+    match types_by(alloc, types, all.as_slice(), type_rule(member)) {
+        Ok(types) => Ok(builtin_call_use(member, types, all)),
+        Err(error) => {
+            discard_arguments(all);
+            Err(error)
+        }
+    }
 }
 
 /// A call of a function of a value, without the value.
@@ -112,8 +122,13 @@ fn method_term(
 ) -> Result<Term, AllocError>
     ensures { IfOk result (λ x. term_of x ≡ tree.on (place_of place) (spec.usage_of (method_view method) (targeted all.items))) }
 {
-    let usage = usage_of(alloc, method, all)?;
-    on_term(alloc, place, usage)
+    match usage_of(alloc, method, all) {
+        Ok(usage) => on_term(alloc, place, usage),
+        Err(error) => {
+            discard_place(place);
+            Err(error)
+        }
+    }
 }
 
 /// `a?.f(..)`: whether the result is wrapped.
@@ -126,8 +141,13 @@ fn chained_term(
 ) -> Result<Term, AllocError>
     ensures { IfOk result (λ x. term_of x ≡ tree.chain (place_of place) (spec.usage_of (method_view method) (targeted all.items)) wraps) }
 {
-    let usage = usage_of(alloc, method, all)?;
-    chain_term(alloc, place, usage, wraps)
+    match usage_of(alloc, method, all) {
+        Ok(usage) => chain_term(alloc, place, usage, wraps),
+        Err(error) => {
+            discard_place(place);
+            Err(error)
+        }
+    }
 }
 
 /// The form of a call, of what is called.
@@ -143,10 +163,16 @@ fn call_term(alloc: Global, callee: Callee, all: Vec<Argument>) -> Result<Term, 
         Callee::Struct(id) => Ok(construct_term(id, all)),
         Callee::Resource(id) => Ok(create_term(id, all)),
         Callee::Builtin(member, types) => Ok(builtin_term(member, types, all)),
-        Callee::Type(t) => Ok(meta_term(t)),
+        Callee::Type(t) => {
+            discard_arguments(all);
+            Ok(meta_term(t))
+        }
         Callee::Method(place, method) => method_term(alloc, place, method, all),
         Callee::Chain(place, method, wraps) => chained_term(alloc, place, method, wraps, all),
-        Callee::Before(number) => Ok(before_term(number)),
+        Callee::Before(number) => {
+            discard_arguments(all);
+            Ok(before_term(number))
+        }
     }
 }
 
@@ -165,8 +191,31 @@ fn first_or(outcome: CadType, all: &[Argument]) -> Result<CadType, AllocError>
     ensures { IfOk result (λ t. pure_type t ≡ spec.result_by (spec.of_before 0) (pure_type outcome) (targeted all.now)) }
 {
     match all {
-        [first, _more @ ..] => target_of(first).clone(),
+        [first, _more @ ..] => {
+            discard_type(outcome);
+            target_of(first).clone()
+        }
         [] => Ok(outcome),
+    }
+}
+
+/// What is called, with its arguments and the type of its result.
+fn called(
+    alloc: Global,
+    hidden: Option<Hidden>,
+    callee: Callee,
+    all: Vec<Argument>,
+    outcome: CadType,
+) -> Result<Option<Typing>, AllocError>
+    ensures { IfOk result (λ x. option_map typing_of x ≡ environments.typed (receivers.closed (option_map hidden_of hidden) (spec.call_term (callee_view callee) (targeted all.items))) (pure_type outcome)) }
+{
+    match call_term(alloc, callee, all) {
+        Ok(term) => closed_typed(alloc, hidden, term, outcome),
+        Err(error) => {
+            discard_hidden(hidden);
+            discard_type(outcome);
+            Err(error)
+        }
     }
 }
 
@@ -178,8 +227,15 @@ pub fn call_typed(
 ) -> Result<Option<Typing>, AllocError>
     ensures { IfOk result (λ x. option_map typing_of x ≡ spec.call_typed (call_view call) (targeted all.items)) }
 {
+    discard_parameters(call.parameters);
     let declared = call.outcome;
-    let outcome = result_by(&call.callee, declared, all.as_slice())?;
-    let term = call_term(alloc, call.callee, all)?;
-    closed_typed(alloc, call.hidden, term, outcome)
+    match result_by(&call.callee, declared, all.as_slice()) {
+        Ok(outcome) => called(alloc, call.hidden, call.callee, all, outcome),
+        Err(error) => {
+            discard_hidden(call.hidden);
+            discard_callee(call.callee);
+            discard_arguments(all);
+            Err(error)
+        }
+    }
 }

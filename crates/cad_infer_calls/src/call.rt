@@ -1,7 +1,7 @@
 // What is called, with its parameters and its result.
-use cad_declarations::Place;
-use cad_environment::Hidden;
-use cad_parameters::{Count, Parameter};
+use cad_declarations::{Place, discard_place, discard_type, discard_types};
+use cad_environment::{Hidden, discard_hidden};
+use cad_parameters::{Count, Parameter, discard_parameters};
 use cad_syntax::{CadType, Name, TypeId};
 use cad_types::Builtin;
 
@@ -59,4 +59,47 @@ pub struct Invocation {
     pub count: Count,
     /// The type of its result.
     pub outcome: CadType,
+}
+
+/// Lets a function of a value go.
+pub fn discard_method(method: Method) {
+    match method {
+        Method::Declared { name, .. } => drop(name),
+        Method::BuiltIn(_, types) => discard_types(types),
+    }
+}
+
+/// Lets go what is called.
+pub fn discard_callee(callee: Callee) {
+    match callee {
+        Callee::Function { name, .. } => drop(name),
+        Callee::Struct(id) => drop(id),
+        Callee::Resource(id) => drop(id),
+        Callee::Builtin(_, types) => discard_types(types),
+        Callee::Type(declared) => discard_type(declared),
+        Callee::Method(place, method) => {
+            discard_place(place);
+            discard_method(method)
+        }
+        Callee::Chain(place, method, _) => {
+            discard_place(place);
+            discard_method(method)
+        }
+        Callee::Before(_) => {}
+    }
+}
+
+/// Lets a call go.
+pub fn discard_call(call: Call) {
+    discard_hidden(call.hidden);
+    discard_callee(call.callee);
+    discard_parameters(call.parameters);
+    discard_type(call.outcome)
+}
+
+/// Lets a call of a function of a value go.
+pub fn discard_invocation(invocation: Invocation) {
+    discard_method(invocation.method);
+    discard_parameters(invocation.parameters);
+    discard_type(invocation.outcome)
 }

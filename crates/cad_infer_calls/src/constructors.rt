@@ -9,6 +9,7 @@ ghost use Rattle.cad_types.specs.Classes.{has_sort};
 ghost use Rattle.cad_types.specs.Declarations.{found};
 ghost use Rattle.cad_types.specs.declared.builtin.Builtin.TheVariants as m;
 ghost use Rattle.cad_declarations.specs.Builtins as built_in;
+ghost use Rattle.cad_declarations.specs.Members.{type_in};
 ghost use Rattle.cad_declarations.specs.Views.{form_of, signature_of, type_entry_of};
 ghost use Rattle.cad_typing.specs.Calls as spec;
 ghost use Rattle.cad_typing.specs.Environments as environments;
@@ -18,11 +19,11 @@ ghost use Rattle.cad_environment.specs.Views.{environment_of, head_of};
 ghost use Rattle.cad_infer_calls.specs.Views.{callee_view, call_view};
 ghost use Rattle.cad_parameters.specs.Views.{parameter_view};
 
-use crate::call::{Call, Callee};
+use crate::call::{Call, Callee, discard_callee};
 use crate::parameters::{count_of, declared_parameters, one_type, parameters_with};
 use crate::type_arguments::{has_no_types, type_arguments};
 use cad_builtins::{builtin_call_of_type, result_of};
-use cad_declarations::{Member, MemberKind, Signature, TypeDeclaration};
+use cad_declarations::{Member, MemberKind, Signature, TypeDeclaration, discard_type};
 use cad_environment::{Environment, Head};
 use cad_grammar::TypeAnnotation;
 use cad_parameters::{Count, Parameter};
@@ -35,9 +36,11 @@ use std::alloc::{AllocError, Global};
 fn call_function(alloc: Global, name: &Name, f: &Signature) -> Result<Call, AllocError>
     ensures { IfOk result (λ c. call_view c ≡ spec.call_function name.now (signature_of f.now)) }
 {
+    let name = name.clone()?;
     let parameters = declared_parameters(alloc, f.parameters.as_slice())?;
+    let outcome = f.result.clone()?;
     let callee = Callee::Function {
-        name: name.clone()?,
+        name,
         is_view: f.is_view,
         is_never: is_never_type(&f.result),
     };
@@ -46,7 +49,7 @@ fn call_function(alloc: Global, name: &Name, f: &Signature) -> Result<Call, Allo
         callee,
         parameters,
         count: Count::Exactly,
-        outcome: f.result.clone()?,
+        outcome,
     })
 }
 
@@ -71,14 +74,16 @@ fn result_without(
     ensures { IfOk result (λ t. pure_type t ≡ built_in.result_of (environments.kinds (environment_of env.entry)) rights.Unauthorized (pure_type on.now) (spec.one_type (map pure_type types.now)) member) }
 {
     let argument = one_type(types)?;
-    result_of(
+    let outcome = result_of(
         alloc,
         env.kinds(),
         &Authorization::Unauthorized,
         on,
         &argument,
         member,
-    )
+    );
+    discard_type(argument);
+    outcome
 }
 
 /// A built-in member of a type, which has no type arguments.
@@ -183,6 +188,20 @@ pub fn initializer_parameters(
     }
 }
 
+/// What makes a value of a declared type takes, and its type.
+fn made_by(
+    alloc: Global,
+    env: Environment<'_>,
+    id: &TypeId,
+) -> Result<(Vec<Parameter>, CadType), AllocError>
+    ensures parameters { IfOk result (λ both. map parameter_view both.0.items ≡ spec.initializer_parameters (type_in (environment_of env.entry).tables.types id.now)) }
+    ensures outcome { IfOk result (λ both. pure_type both.1 ≡ pure.declared id.now) }
+{
+    let made = id.clone()?;
+    let parameters = initializer_parameters(alloc, env.tables().find(id))?;
+    Ok((parameters, CadType::Declared(made)))
+}
+
 /// The call that makes a value of a declared type.
 pub fn call_constructor(
     alloc: Global,
@@ -192,14 +211,19 @@ pub fn call_constructor(
 ) -> Result<Call, AllocError>
     ensures { IfOk result (λ c. call_view c ≡ spec.call_constructor (environment_of env.entry) (callee_view callee) id.now) }
 {
-    let parameters = initializer_parameters(alloc, env.tables().find(id))?;
-    Ok(Call {
-        hidden: None,
-        callee,
-        parameters,
-        count: Count::Exactly,
-        outcome: CadType::Declared(id.clone()?),
-    })
+    match made_by(alloc, env, id) {
+        Ok((parameters, outcome)) => Ok(Call {
+            hidden: None,
+            callee,
+            parameters,
+            count: Count::Exactly,
+            outcome,
+        }),
+        Err(error) => {
+            discard_callee(callee);
+            Err(error)
+        }
+    }
 }
 
 /// Whether a declared type is a struct.
@@ -376,7 +400,11 @@ pub fn call_head(
 {
     match head {
         Head::Function(f) => call_member_function(alloc, types, f),
-        Head::Type(t) => call_named_type(alloc, env, types, &t),
+        Head::Type(t) => {
+            let call = call_named_type(alloc, env, types, &t);
+            discard_type(t);
+            call
+        }
         Head::Builtin(member) => call_named_function(alloc, env, types, member),
         Head::Local(_) | Head::Contract(_) => Ok(None),
     }

@@ -27,10 +27,10 @@ use crate::parameters::{
 };
 use crate::type_arguments::{has_no_types, type_arguments};
 use cad_builtins::{builtin_member_of_type, is_read};
-use cad_declarations::{Member, MemberKind, Signature};
+use cad_declarations::{Member, MemberKind, Signature, discard_type};
 use cad_environment::{
-    Base, Environment, Receiver, is_postcondition, of_contract, rights, stands_in_contract,
-    type_inside,
+    Base, Environment, Receiver, discard_receiver, is_postcondition, of_contract, rights,
+    stands_in_contract, type_inside,
 };
 use cad_grammar::TypeAnnotation;
 use cad_infer_members::{Found, found_member, result_through, serves};
@@ -45,9 +45,11 @@ use std::alloc::{AllocError, Global};
 fn invoke_signature(alloc: Global, name: &Name, f: &Signature) -> Result<Invocation, AllocError>
     ensures { IfOk result (λ i. invocation_view i ≡ spec.invoke_signature name.now (signature_of f.now)) }
 {
+    let name = name.clone()?;
     let parameters = declared_parameters(alloc, f.parameters.as_slice())?;
+    let outcome = f.result.clone()?;
     let method = Method::Declared {
-        name: name.clone()?,
+        name,
         is_view: f.is_view,
         is_never: is_never_type(&f.result),
     };
@@ -55,7 +57,7 @@ fn invoke_signature(alloc: Global, name: &Name, f: &Signature) -> Result<Invocat
         method,
         parameters,
         count: Count::Exactly,
-        outcome: f.result.clone()?,
+        outcome,
     })
 }
 
@@ -103,7 +105,9 @@ fn invoke_typed(
 {
     let parameters = parameters_with(alloc, env, member, &r.declared, types.as_slice())?;
     let argument = one_type(types.as_slice())?;
-    let outcome = result_through(alloc, env, r, &argument, member)?;
+    let outcome = result_through(alloc, env, r, &argument, member);
+    discard_type(argument);
+    let outcome = outcome?;
     Ok(Invocation {
         method: Method::BuiltIn(member, types),
         parameters,
@@ -214,6 +218,7 @@ pub fn invoke(
 fn call_method(r: Receiver, i: Invocation) -> Call
     ensures { call_view result ≡ spec.call_method (receiver_of r) (invocation_view i) }
 {
+    discard_type(r.declared);
     Call {
         hidden: r.hidden,
         callee: Callee::Method(r.place, i.method),
@@ -233,9 +238,16 @@ fn method_call(
 ) -> Result<Option<Call>, AllocError>
     ensures { IfOk result (λ c. option_map call_view c ≡ spec.method_call (environment_of env.entry) (annotations_of (map annotation_of types.now)) name.now (receiver_of r)) }
 {
-    match invoke(alloc, env, types, name, &r)? {
-        Some(i) => Ok(Some(call_method(r, i))),
-        None => Ok(None),
+    match invoke(alloc, env, types, name, &r) {
+        Ok(Some(i)) => Ok(Some(call_method(r, i))),
+        Ok(None) => {
+            discard_receiver(r);
+            Ok(None)
+        }
+        Err(error) => {
+            discard_receiver(r);
+            Err(error)
+        }
     }
 }
 
@@ -300,7 +312,11 @@ fn inner_type_call(
     ensures { IfOk result (λ c. option_map call_view c ≡ (naming.type_inside (environment_of env.entry) id.now name.now >=> spec.call_type (environment_of env.entry))) }
 {
     match type_inside(env, id, name)? {
-        Some(t) => call_type(alloc, env, &t),
+        Some(t) => {
+            let call = call_type(alloc, env, &t);
+            discard_type(t);
+            call
+        }
         None => Ok(None),
     }
 }
@@ -366,8 +382,16 @@ pub fn call_member(
     match base {
         Base::Value(r) => method_call(alloc, env, types, name, r),
         Base::Contract(id) => contract_call(alloc, env, types, name, &id),
-        Base::TypeName(t) => type_method_call(alloc, env, types, name, &t),
-        Base::Transaction | Base::Chained(_, _) => Ok(None),
+        Base::TypeName(t) => {
+            let call = type_method_call(alloc, env, types, name, &t);
+            discard_type(t);
+            call
+        }
+        Base::Transaction => Ok(None),
+        Base::Chained(r, _) => {
+            discard_receiver(r);
+            Ok(None)
+        }
     }
 }
 

@@ -6,7 +6,7 @@ ghost use Rattle.cad_grammar.specs.Trees.{annotations_of};
 ghost use Rattle.cad_types.specs.Optionals as optionals;
 ghost use Rattle.cad_declarations.specs.Formed as formed;
 ghost use Rattle.cad_declarations.specs.Typed as tree;
-ghost use Rattle.cad_declarations.specs.Views.{place_of};
+ghost use Rattle.cad_declarations.specs.Views.{place_of, term_of, use_of};
 ghost use Rattle.cad_typing.specs.Calls as calls;
 ghost use Rattle.cad_typing.specs.Chains as spec;
 ghost use Rattle.cad_typing.specs.Environments as environments;
@@ -18,14 +18,17 @@ ghost use Rattle.cad_environment.specs.Views.{environment_of, typing_of, hidden_
 ghost use Rattle.cad_infer_calls.specs.Views.{call_view, invocation_view};
 ghost use Rattle.cad_infer_members.specs.Views.{found_view, reading_view};
 
-use cad_declarations::Place;
+use cad_declarations::{Place, Term, Use, discard_place, discard_type, discard_use};
 use cad_environment::{
-    Base, Environment, Hidden, Receiver, Typing, closed, copy_term, held, owned, through,
+    Base, Environment, Hidden, Receiver, Typing, closed, copy_term, discard_hidden,
+    discard_receiver, held, owned, through,
 };
 use cad_grammar::TypeAnnotation;
-use cad_infer_calls::{Call, Callee, Invocation, invoke};
-use cad_infer_members::{Found, Reading, closed_typed, found_member, read_found, read_member};
-use cad_parameters::is_owned;
+use cad_infer_calls::{Call, Callee, Invocation, discard_method, invoke};
+use cad_infer_members::{
+    Found, Reading, closed_typed, discard_reading, found_member, read_found, read_member,
+};
+use cad_parameters::{discard_parameters, is_owned};
 use cad_syntax::{CadType, Name};
 use cad_type_classes::{core_of, is_optional_type, optional_once};
 use cad_typed_trees::{chain_term, content_place, field_place};
@@ -52,8 +55,8 @@ fn content_at(
             t => Ok(owned(hidden, place, t)),
         },
         Err(error) => {
-            drop(hidden);
-            drop(t);
+            discard_hidden(hidden);
+            discard_type(t);
             Err(error)
         }
     }
@@ -64,7 +67,7 @@ fn content_of(alloc: Global, r: Receiver) -> Result<Option<Receiver>, AllocError
     ensures { IfOk result (λ o. option_map receiver_of o ≡ spec.content_of (receiver_of r)) }
 {
     if !is_owned(&r.grant) {
-        drop(r);
+        discard_receiver(r);
         return Ok(None);
     }
     optional_content(alloc, r.hidden, r.place, r.declared)
@@ -83,7 +86,12 @@ fn optional_content(
         CadType::Optional(content) => {
             Ok(Some(content_at(alloc, hidden, place, false, Box::into_inner(content))?))
         }
-        _ => Ok(None),
+        t => {
+            discard_hidden(hidden);
+            discard_place(place);
+            discard_type(t);
+            Ok(None)
+        }
     }
 }
 
@@ -109,7 +117,40 @@ fn content_in(alloc: Global, base: Base) -> Result<Option<Receiver>, AllocError>
     match base {
         Base::Chained(r, is_wrapped) => chained_content(alloc, r, is_wrapped),
         Base::Value(r) => content_of(alloc, r),
-        Base::Contract(_) | Base::TypeName(_) | Base::Transaction => Ok(None),
+        Base::TypeName(t) => {
+            discard_type(t);
+            Ok(None)
+        }
+        Base::Contract(_) | Base::Transaction => Ok(None),
+    }
+}
+
+/// What is read of a content, and isn't a resource.
+fn chain_typed(
+    alloc: Global,
+    hidden: Option<Hidden>,
+    place: Place,
+    usage: Use,
+    declared: CadType,
+) -> Result<Option<Typing>, AllocError>
+    ensures { IfOk result (λ o. option_map typing_of o ≡ environments.typed (receivers.closed (option_map hidden_of hidden) (tree.chain (place_of place) (use_of usage) (not (types.is_optional_type (pure_type declared))))) (types.optional_once (pure_type declared))) }
+{
+    let wraps = !is_optional_type(&declared);
+    match optional_once(alloc, declared) {
+        Ok(outcome) => match chain_term(alloc, place, usage, wraps) {
+            Ok(term) => closed_typed(alloc, hidden, term, outcome),
+            Err(error) => {
+                discard_hidden(hidden);
+                discard_type(outcome);
+                Err(error)
+            }
+        },
+        Err(error) => {
+            discard_hidden(hidden);
+            discard_place(place);
+            discard_use(usage);
+            Err(error)
+        }
     }
 }
 
@@ -123,14 +164,12 @@ fn chain_read(
     ensures { IfOk result (λ o. option_map typing_of o ≡ spec.chain_read (environment_of env.entry) (receiver_of r) (reading_view x)) }
 {
     if env.is_resource(&x.declared) {
-        drop(r);
-        drop(x);
+        discard_receiver(r);
+        discard_reading(x);
         return Ok(None);
     }
-    let wraps = !is_optional_type(&x.declared);
-    let term = chain_term(alloc, r.place, x.usage, wraps)?;
-    let outcome = optional_once(alloc, x.declared)?;
-    closed_typed(alloc, r.hidden, term, outcome)
+    discard_type(r.declared);
+    chain_typed(alloc, r.hidden, r.place, x.usage, x.declared)
 }
 
 /// A member of a content that is read, with the content.
@@ -145,11 +184,11 @@ fn chain_value_of(
     match read_member(alloc, env, &r, name) {
         Ok(Some(x)) => chain_read(alloc, env, r, x),
         Ok(None) => {
-            drop(r);
+            discard_receiver(r);
             Ok(None)
         }
         Err(error) => {
-            drop(r);
+            discard_receiver(r);
             Err(error)
         }
     }
@@ -207,8 +246,8 @@ fn field_of(alloc: Global, r: Receiver, name: Name, declared: CadType) -> Result
     match field_place(alloc, r.place, r.declared, name) {
         Ok(place) => Ok(Base::Chained(owned(r.hidden, place, declared), is_wrapped)),
         Err(error) => {
-            drop(r.hidden);
-            drop(declared);
+            discard_hidden(r.hidden);
+            discard_type(declared);
             Err(error)
         }
     }
@@ -226,8 +265,8 @@ fn chained_field(
     match name.clone() {
         Ok(name) => field_of(alloc, r, name, declared),
         Err(error) => {
-            drop(r);
-            drop(declared);
+            discard_receiver(r);
+            discard_type(declared);
             Err(error)
         }
     }
@@ -243,7 +282,7 @@ fn chain_declared(
     ensures { IfOk result (λ o. option_map base_of o ≡ (if fields.is_owned (receiver_of r).grant && not (formed.is_reference (optionals.core (reading_view x).type)) then Some (receivers.chained (receivers.owned (receiver_of r).hidden (tree.field (receiver_of r).place (receiver_of r).type name.now) (reading_view x).type) (not (types.is_optional_type (reading_view x).type))) else (spec.chain_read (environment_of env.entry) (receiver_of r) (reading_view x) >=> receivers.held (environment_of env.entry)))) }
 {
     if stays(&r, &x) {
-        drop(x.usage);
+        discard_use(x.usage);
         Ok(Some(chained_field(alloc, r, name, x.declared)?))
     } else {
         chain_held(alloc, env, r, x)
@@ -277,7 +316,7 @@ fn chain_at(
     match found_member(env, &r.declared, name) {
         Some(found) => chain_of_found(alloc, env, name, r, found),
         None => {
-            drop(r);
+            discard_receiver(r);
             Ok(None)
         }
     }
@@ -296,11 +335,11 @@ fn chain_of_found(
     match read_found(alloc, env, &r, found) {
         Ok(Some(x)) => chain_found(alloc, env, r, name, found, x),
         Ok(None) => {
-            drop(r);
+            discard_receiver(r);
             Ok(None)
         }
         Err(error) => {
-            drop(r);
+            discard_receiver(r);
             Err(error)
         }
     }
@@ -325,7 +364,7 @@ fn call_chained(alloc: Global, r: Receiver, i: Invocation) -> Result<Call, Alloc
     ensures { IfOk result (λ c. call_view c ≡ spec.call_chained (receiver_of r) (invocation_view i)) }
 {
     let wraps = !is_optional_type(&i.outcome);
-    drop(r.declared);
+    discard_type(r.declared);
     drop(r.grant);
     match optional_once(alloc, i.outcome) {
         Ok(outcome) => Ok(Call {
@@ -336,10 +375,10 @@ fn call_chained(alloc: Global, r: Receiver, i: Invocation) -> Result<Call, Alloc
             outcome,
         }),
         Err(error) => {
-            drop(r.hidden);
-            drop(r.place);
-            drop(i.method);
-            drop(i.parameters);
+            discard_hidden(r.hidden);
+            discard_place(r.place);
+            discard_method(i.method);
+            discard_parameters(i.parameters);
             Err(error)
         }
     }
@@ -358,11 +397,11 @@ fn chain_call_of(
     match invoke(alloc, env, types, name, &r) {
         Ok(Some(i)) => Ok(Some(call_chained(alloc, r, i)?)),
         Ok(None) => {
-            drop(r);
+            discard_receiver(r);
             Ok(None)
         }
         Err(error) => {
-            drop(r);
+            discard_receiver(r);
             Err(error)
         }
     }
@@ -384,6 +423,19 @@ pub fn chain_call(
     }
 }
 
+/// The value of a place, which stays.
+fn copied(alloc: Global, hidden: Option<Hidden>, place: Place) -> Result<Term, AllocError>
+    ensures { IfOk result (λ x. term_of x ≡ receivers.closed (option_map hidden_of hidden) (tree.copy (place_of place))) }
+{
+    match copy_term(alloc, place) {
+        Ok(term) => closed(alloc, hidden, term),
+        Err(error) => {
+            discard_hidden(hidden);
+            Err(error)
+        }
+    }
+}
+
 /// The content of an optional that isn't a resource stays where it is.
 fn forced_at(
     alloc: Global,
@@ -394,11 +446,13 @@ fn forced_at(
     ensures { IfOk result (λ o. receiver_of o ≡ receivers.receiver_at (option_map hidden_of hidden) (place_of place) (tree.copy (place_of place)) (pure_type t)) }
 {
     match t {
-        CadType::Reference(grant, target) => {
-            let term = copy_term(alloc, place)?;
-            let term = closed(alloc, hidden, term)?;
-            through(alloc, term, grant, Box::into_inner(target))
-        }
+        CadType::Reference(grant, target) => match copied(alloc, hidden, place) {
+            Ok(term) => through(alloc, term, grant, Box::into_inner(target)),
+            Err(error) => {
+                discard_type(Box::into_inner(target));
+                Err(error)
+            }
+        },
         t => Ok(owned(hidden, place, t)),
     }
 }
@@ -415,8 +469,8 @@ fn forced_content(
     match content_place(alloc, place, true) {
         Ok(place) => Ok(Base::Value(forced_at(alloc, hidden, place, t)?)),
         Err(error) => {
-            drop(hidden);
-            drop(t);
+            discard_hidden(hidden);
+            discard_type(t);
             Err(error)
         }
     }
@@ -431,7 +485,7 @@ pub fn forced_base(
     ensures { IfOk result (λ o. option_map base_of o ≡ spec.forced_base (environment_of env.entry) (receiver_of r)) }
 {
     if !is_owned(&r.grant) {
-        drop(r);
+        discard_receiver(r);
         return Ok(None);
     }
     forced_optional(alloc, env, r.hidden, r.place, r.declared)
@@ -450,17 +504,17 @@ fn forced_optional(
     match t {
         CadType::Optional(content) => {
             if env.is_resource(&content) {
-                drop(hidden);
-                drop(place);
-                drop(content);
+                discard_hidden(hidden);
+                discard_place(place);
+                discard_type(Box::into_inner(content));
                 return Ok(None);
             }
             Ok(Some(forced_content(alloc, hidden, place, Box::into_inner(content))?))
         }
         t => {
-            drop(hidden);
-            drop(place);
-            drop(t);
+            discard_hidden(hidden);
+            discard_place(place);
+            discard_type(t);
             Ok(None)
         }
     }

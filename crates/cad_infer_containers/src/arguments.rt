@@ -15,7 +15,7 @@ ghost use Rattle.cad_infer_containers.specs.Views.{next_of, taken_by};
 
 use crate::containers::stands_rightly;
 use cad_declarations::Argument;
-use cad_environment::{Environment, Typing};
+use cad_environment::{Environment, Typing, discard_typing};
 use cad_grammar::Expr;
 use cad_infer_terms::into_term;
 use cad_parameters::{Count, Parameter, Takes};
@@ -89,7 +89,7 @@ fn fitting_argument(
     if fits(env.kinds(), &x.declared, t) && stands_rightly(env, a, &x.declared) {
         argument_to(t, x)
     } else {
-        drop(x);
+        discard_typing(x);
         Ok(None)
     }
 }
@@ -101,7 +101,7 @@ fn argument_to(t: &CadType, x: Typing) -> Result<Option<Argument>, AllocError>
     match t.clone() {
         Ok(target) => Ok(Some(targeted(x, target))),
         Err(error) => {
-            drop(x);
+            discard_typing(x);
             Err(error)
         }
     }
@@ -119,7 +119,7 @@ fn storable_argument(
     match is_taken_storable(alloc, env, a, &x.declared) {
         Ok(is_taken) => Ok(as_it_is(is_taken, x)),
         Err(error) => {
-            drop(x);
+            discard_typing(x);
             Err(error)
         }
     }
@@ -167,7 +167,7 @@ fn as_it_is(is_taken: bool, x: Typing) -> Option<Argument>
             target: declared,
         })
     } else {
-        drop(x);
+        discard_typing(x);
         None
     }
 }

@@ -4,17 +4,17 @@ ghost use Rattle.cad_syntax.specs.Types.{pure_type, array, dictionary};
 ghost use Rattle.cad_types.specs.Views.{declarations};
 ghost use Rattle.cad_grammar.specs.Views.{expr_of};
 ghost use Rattle.cad_declarations.specs.Typed as tree;
-ghost use Rattle.cad_declarations.specs.Views.{term_of, pair_of};
 ghost use Rattle.cad_environment.specs.Views.{environment_of, typing_of};
 ghost use Rattle.cad_typing.specs.Containers as spec;
 ghost use Rattle.cad_typing.specs.Environments as envs;
 ghost use Rattle.cad_typing.specs.Environments.{◌>=>◌};
 ghost use Rattle.cad_infer_containers.specs.Views.{typings_of};
 
-use cad_declarations::{Term, TermEntry};
-use cad_environment::{Environment, Typing, typed};
+use crate::terms::{discard_pairs, discard_typings, entries_of, terms_of};
+use cad_declarations::{boxed_type, discard_type};
+use cad_environment::{Environment, Typing, discard_typing, typed};
 use cad_grammar::{Expr, UnaryOperator};
-use cad_infer_terms::{array_term, dictionary_term, into_term};
+use cad_infer_terms::{array_term, dictionary_term};
 use cad_scopes::is_key_type;
 use cad_syntax::CadType;
 use cad_type_classes::{core_of, element_type, fits, is_below};
@@ -60,7 +60,7 @@ pub fn element(
     if fits_expected(env, expected, &x.declared) && stands_rightly(env, a, &x.declared) {
         Some(x)
     } else {
-        drop(x);
+        discard_typing(x);
         None
     }
 }
@@ -226,38 +226,6 @@ fn common_value(
     common_type(env, expected_value(expected), all.as_slice())
 }
 
-/// The terms of elements.
-fn terms_of(alloc: Global, xs: Vec<Typing>) -> Result<Vec<Term>, AllocError>
-    ensures { IfOk result (λ ts. map term_of ts.items ≡ map (λ x. x.term) (map typing_of xs.items)) }
-{
-    let mut terms = Vec::new(alloc);
-    for x in xs {
-        terms.push(into_term(x))?;
-    }
-    Ok(terms)
-}
-
-/// The terms of keys and values.
-fn entries_of(alloc: Global, pairs: Vec<(Typing, Typing)>) -> Result<Vec<TermEntry>, AllocError>
-    ensures { IfOk result (λ es. map pair_of es.items ≡ map spec.pair_term (map typings_of pairs.items)) }
-{
-    let mut entries = Vec::new(alloc);
-    for pair in pairs {
-        entries.push(entry_of(pair))?;
-    }
-    Ok(entries)
-}
-
-fn entry_of(pair: (Typing, Typing)) -> TermEntry
-    ensures { pair_of result ≡ spec.pair_term (typings_of pair) }
-{
-    let (key, value) = pair;
-    TermEntry {
-        key: into_term(key),
-        value: into_term(value),
-    }
-}
-
 /// An array of elements of a type.
 fn array_of(alloc: Global, xs: Vec<Typing>, t: CadType) -> Result<Option<Typing>, AllocError>
     ensures { IfOk result (λ o. option_map typing_of o ≡ spec.array_of (map typing_of xs.items) (pure_type t)) }
@@ -265,8 +233,8 @@ fn array_of(alloc: Global, xs: Vec<Typing>, t: CadType) -> Result<Option<Typing>
     match array_type(alloc, &t) {
         Ok(declared) => array_with(alloc, xs, t, declared),
         Err(error) => {
-            drop(xs);
-            drop(t);
+            discard_typings(xs);
+            discard_type(t);
             Err(error)
         }
     }
@@ -284,8 +252,8 @@ fn array_with(
     match terms_of(alloc, xs) {
         Ok(items) => Ok(typed(array_term(t, items), declared)),
         Err(error) => {
-            drop(t);
-            drop(declared);
+            discard_type(t);
+            discard_type(declared);
             Err(error)
         }
     }
@@ -295,7 +263,7 @@ fn array_with(
 fn array_type(alloc: Global, t: &CadType) -> Result<CadType, AllocError>
     ensures { IfOk result (λ made. pure_type made ≡ array (pure_type t.now)) }
 {
-    Ok(CadType::Array(Box::new(alloc, t.clone()?)?))
+    Ok(CadType::Array(copied_type(alloc, t)?))
 }
 
 /// An array: None where no type is expected of its elements and none is above all others.
@@ -310,7 +278,7 @@ pub fn array_typed(
     match common_element(alloc, env, expected, xs.as_slice()) {
         Ok(found) => array_if(alloc, xs, found),
         Err(error) => {
-            drop(xs);
+            discard_typings(xs);
             Err(error)
         }
     }
@@ -327,7 +295,7 @@ fn array_if(
     match found {
         Some(t) => array_of(alloc, xs, t),
         None => {
-            drop(xs);
+            discard_typings(xs);
             Ok(None)
         }
     }
@@ -346,9 +314,9 @@ fn dictionary_of(
     if is_key_type(env.kinds(), &key) {
         dictionary_with(alloc, pairs, key, value)
     } else {
-        drop(pairs);
-        drop(key);
-        drop(value);
+        discard_pairs(pairs);
+        discard_type(key);
+        discard_type(value);
         Ok(None)
     }
 }
@@ -365,9 +333,9 @@ fn dictionary_with(
     match dictionary_type(alloc, &key, &value) {
         Ok(declared) => dictionary_as(alloc, pairs, key, value, declared),
         Err(error) => {
-            drop(pairs);
-            drop(key);
-            drop(value);
+            discard_pairs(pairs);
+            discard_type(key);
+            discard_type(value);
             Err(error)
         }
     }
@@ -386,21 +354,33 @@ fn dictionary_as(
     match entries_of(alloc, pairs) {
         Ok(entries) => Ok(typed(dictionary_term(key, value, entries), declared)),
         Err(error) => {
-            drop(key);
-            drop(value);
-            drop(declared);
+            discard_type(key);
+            discard_type(value);
+            discard_type(declared);
             Err(error)
         }
     }
+}
+
+/// A copy of a type, as a part of another.
+fn copied_type(alloc: Global, t: &CadType) -> Result<Box<CadType>, AllocError>
+    ensures { IfOk result (λ b. pure_type b.value ≡ pure_type t.now) }
+{
+    boxed_type(alloc, t.clone()?)
 }
 
 /// The type of dictionaries of these types.
 fn dictionary_type(alloc: Global, key: &CadType, value: &CadType) -> Result<CadType, AllocError>
     ensures { IfOk result (λ t. pure_type t ≡ dictionary (pure_type key.now) (pure_type value.now)) }
 {
-    let key = Box::new(alloc, key.clone()?)?;
-    let value = Box::new(alloc, value.clone()?)?;
-    Ok(CadType::Dictionary(key, value))
+    let key = copied_type(alloc, key)?;
+    match copied_type(alloc, value) {
+        Ok(value) => Ok(CadType::Dictionary(key, value)),
+        Err(error) => {
+            discard_type(Box::into_inner(key));
+            Err(error)
+        }
+    }
 }
 
 /// A dictionary: None where no type is expected of its keys or values and none is above all others, or keys can't be of that
@@ -416,7 +396,7 @@ pub fn dictionary_typed(
     match common_key(alloc, env, expected, pairs.as_slice()) {
         Ok(found) => dictionary_if_key(alloc, env, expected, pairs, found),
         Err(error) => {
-            drop(pairs);
+            discard_pairs(pairs);
             Err(error)
         }
     }
@@ -435,7 +415,7 @@ fn dictionary_if_key(
     match found {
         Some(key) => dictionary_by_key(alloc, env, expected, pairs, key),
         None => {
-            drop(pairs);
+            discard_pairs(pairs);
             Ok(None)
         }
     }
@@ -454,8 +434,8 @@ fn dictionary_by_key(
     match common_value(alloc, env, expected, pairs.as_slice()) {
         Ok(found) => dictionary_if_value(alloc, env, pairs, key, found),
         Err(error) => {
-            drop(pairs);
-            drop(key);
+            discard_pairs(pairs);
+            discard_type(key);
             Err(error)
         }
     }
@@ -474,8 +454,8 @@ fn dictionary_if_value(
     match found {
         Some(value) => dictionary_of(alloc, env, pairs, key, value),
         None => {
-            drop(pairs);
-            drop(key);
+            discard_pairs(pairs);
+            discard_type(key);
             Ok(None)
         }
     }

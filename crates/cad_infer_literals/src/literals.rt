@@ -7,7 +7,7 @@ ghost use Rattle.cad_environment.specs.Views.{typing_of};
 ghost use Rattle.cad_typing.specs.Literals as spec;
 
 use cad_builtins::is_integer;
-use cad_declarations::Term;
+use cad_declarations::{Term, boxed_type};
 use cad_environment::{Typing, typed};
 use cad_syntax::{Address, Basic, CadType, Domain, Kind, Num, Path, Text};
 use cad_text::length;
@@ -208,7 +208,7 @@ pub fn bool_literal(value: bool) -> Option<Typing>
 pub fn nil_literal(alloc: Global) -> Result<Option<Typing>, AllocError>
     ensures { IfOk result (λ x. option_map typing_of x ≡ spec.nil_literal) }
 {
-    let never = Box::new(alloc, CadType::Basic(Basic::Never))?;
+    let never = boxed_type(alloc, CadType::Basic(Basic::Never))?;
     Ok(typed(Term::Nil, CadType::Optional(never)))
 }
 

@@ -13,7 +13,7 @@ ghost use Rattle.cad_environment.specs.Views.{environment_of, receiver_of};
 ghost use Rattle.cad_infer_members.specs.Views.{found_view, reading_view};
 
 use cad_builtins::{builtin_member, is_read, needed, needs_reference, result_of};
-use cad_declarations::{Member, MemberKind, Use};
+use cad_declarations::{Member, MemberKind, Use, discard_type, discard_use};
 use cad_environment::{Environment, Receiver, is_granted, rights};
 use cad_parameters::is_owned;
 use cad_syntax::{Authorization, Basic, CadType, Name, TypeId};
@@ -33,6 +33,12 @@ pub enum Found<'a> {
 pub struct Reading {
     pub usage: Use,
     pub declared: CadType,
+}
+
+/// Lets a member go that is read.
+pub fn discard_reading(reading: Reading) {
+    discard_use(reading.usage);
+    discard_type(reading.declared)
 }
 
 /// A member by its name: a declared one, or one that is built in.
@@ -186,9 +192,12 @@ fn field_reading(
 ) -> Result<Reading, AllocError>
     ensures { IfOk result (λ x. reading_view x ≡ record { usage = tree.get m.now.name right; type = spec.type_read r.now.grant right (pure_type t.now) }) }
 {
+    let name = m.name.clone()?;
     let declared = type_read(alloc, &r.grant, &right, t)?;
-    let usage = field_use(m.name.clone()?, right);
-    Ok(Reading { usage, declared })
+    Ok(Reading {
+        usage: field_use(name, right),
+        declared,
+    })
 }
 
 fn read_built_in(

@@ -14,9 +14,11 @@ ghost use Rattle.cad_typing.specs.Types as types;
 ghost use Rattle.cad_environment.specs.Views.{environment_of, typing_of, receiver_of, base_of};
 
 use crate::found::type_read;
-use crate::members::closed_typed;
-use cad_declarations::Term;
-use cad_environment::{Base, Environment, Receiver, Typing, closed, held, owned, through};
+use cad_declarations::{Term, boxed_type, discard_term, discard_type};
+use cad_environment::{
+    Base, Environment, Receiver, Typing, closed, discard_hidden, discard_receiver, discard_typing,
+    held, owned, through, typed,
+};
 use cad_parameters::is_owned;
 use cad_syntax::{Authorization, CadType};
 use cad_type_classes::{fits, is_integer_type};
@@ -69,7 +71,7 @@ fn dictionary_value(
     ensures { IfOk result (λ o. option_map pure_type o ≡ environments.when (optionals.fits (environments.kinds (environment_of env.entry)) (pure_type i.now) (pure_type key.now)) (Some (optional (pure_type value.now)))) }
 {
     if fits(env.kinds(), i, key) {
-        let value = Box::new(alloc, value.clone()?)?;
+        let value = boxed_type(alloc, value.clone()?)?;
         Ok(Some(CadType::Optional(value)))
     } else {
         Ok(None)
@@ -87,7 +89,9 @@ fn read_element(
     match indexed_type(alloc, env, &r.declared, i)? {
         Some(t) => {
             let nothing = Authorization::Unauthorized;
-            Ok(Some(type_read(alloc, &r.grant, &nothing, &t)?))
+            let read = type_read(alloc, &r.grant, &nothing, &t);
+            discard_type(t);
+            Ok(Some(read?))
         }
         None => Ok(None),
     }
@@ -102,9 +106,34 @@ pub fn index_value(
 ) -> Result<Option<Typing>, AllocError>
     ensures { IfOk result (λ o. option_map typing_of o ≡ spec.index_value (environment_of env.entry) (receiver_of r) (typing_of i)) }
 {
-    match read_element(alloc, env, &r, &i.declared)? {
-        Some(t) => element_value(alloc, env, r, i.term, t),
-        None => Ok(None),
+    match read_element(alloc, env, &r, &i.declared) {
+        Ok(Some(t)) => {
+            discard_type(i.declared);
+            element_value(alloc, env, r, i.term, t)
+        }
+        Ok(None) => {
+            discard_receiver(r);
+            discard_typing(i);
+            Ok(None)
+        }
+        Err(error) => {
+            discard_receiver(r);
+            discard_typing(i);
+            Err(error)
+        }
+    }
+}
+
+/// An element, as it is read.
+fn closed_element(alloc: Global, r: Receiver, i: Term) -> Result<Term, AllocError>
+    ensures { IfOk result (λ x. term_of x ≡ receivers.closed (receiver_of r).hidden (tree.index (receiver_of r).place (receiver_of r).type (term_of i))) }
+{
+    match index_term(alloc, r.place, r.declared, i) {
+        Ok(term) => closed(alloc, r.hidden, term),
+        Err(error) => {
+            discard_hidden(r.hidden);
+            Err(error)
+        }
     }
 }
 
@@ -119,10 +148,18 @@ fn element_value(
     ensures { IfOk result (λ o. option_map typing_of o ≡ environments.when (not (resource (environments.kinds (environment_of env.entry)) (pure_type t))) (environments.typed (receivers.closed (receiver_of r).hidden (tree.index (receiver_of r).place (receiver_of r).type (term_of i))) (pure_type t))) }
 {
     if env.is_resource(&t) {
+        discard_receiver(r);
+        discard_term(i);
+        discard_type(t);
         return Ok(None);
     }
-    let term = index_term(alloc, r.place, r.declared, i)?;
-    closed_typed(alloc, r.hidden, term, t)
+    match closed_element(alloc, r, i) {
+        Ok(term) => Ok(typed(term, t)),
+        Err(error) => {
+            discard_type(t);
+            Err(error)
+        }
+    }
 }
 
 /// What stands under an index: what a reference there names, or the place that it is.
@@ -130,15 +167,21 @@ fn element_receiver(alloc: Global, r: Receiver, i: Term, t: CadType) -> Result<R
     ensures { IfOk result (λ o. receiver_of o ≡ receivers.receiver_at (receiver_of r).hidden (tree.element (receiver_of r).place (receiver_of r).type (term_of i)) (tree.index (receiver_of r).place (receiver_of r).type (term_of i)) (pure_type t)) }
 {
     match t {
-        CadType::Reference(grant, target) => {
-            let term = index_term(alloc, r.place, r.declared, i)?;
-            let term = closed(alloc, r.hidden, term)?;
-            through(alloc, term, grant, Box::into_inner(target))
-        }
-        t => {
-            let place = element_place(alloc, r.place, r.declared, i)?;
-            Ok(owned(r.hidden, place, t))
-        }
+        CadType::Reference(grant, target) => match closed_element(alloc, r, i) {
+            Ok(term) => through(alloc, term, grant, Box::into_inner(target)),
+            Err(error) => {
+                discard_type(Box::into_inner(target));
+                Err(error)
+            }
+        },
+        t => match element_place(alloc, r.place, r.declared, i) {
+            Ok(place) => Ok(owned(r.hidden, place, t)),
+            Err(error) => {
+                discard_hidden(r.hidden);
+                discard_type(t);
+                Err(error)
+            }
+        },
     }
 }
 
@@ -167,9 +210,21 @@ fn owned_element(
 ) -> Result<Option<Base>, AllocError>
     ensures { IfOk result (λ o. option_map base_of o ≡ (spec.indexed_type (environment_of env.entry) (receiver_of r).type (typing_of i).type >=> spec.element_base (environment_of env.entry) (receiver_of r) (typing_of i))) }
 {
-    match indexed_type(alloc, env, &r.declared, &i.declared)? {
-        Some(t) => Ok(Some(Base::Value(element_receiver(alloc, r, i.term, t)?))),
-        None => Ok(None),
+    match indexed_type(alloc, env, &r.declared, &i.declared) {
+        Ok(Some(t)) => {
+            discard_type(i.declared);
+            Ok(Some(Base::Value(element_receiver(alloc, r, i.term, t)?)))
+        }
+        Ok(None) => {
+            discard_receiver(r);
+            discard_typing(i);
+            Ok(None)
+        }
+        Err(error) => {
+            discard_receiver(r);
+            discard_typing(i);
+            Err(error)
+        }
     }
 }
 

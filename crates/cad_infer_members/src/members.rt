@@ -16,12 +16,13 @@ ghost use Rattle.cad_typing.specs.Types as types;
 ghost use Rattle.cad_environment.specs.Views.{environment_of, typing_of, hidden_of, receiver_of, base_of, position_of};
 ghost use Rattle.cad_infer_members.specs.Views.{found_view, reading_view};
 
-use crate::found::{Found, Reading, found_member, read_found, read_member};
+use crate::found::{Found, Reading, discard_reading, found_member, read_found, read_member};
 use cad_builtins::{builtin_member_of_type, is_read, result_of};
-use cad_declarations::{Place, Term, Use, is_same_name};
+use cad_declarations::{Term, Use, discard_type, discard_use, is_same_name};
 use cad_environment::{
-    Base, Environment, Hidden, Position, Receiver, Typing, closed, held, of_contract, owned,
-    through, transaction_field, type_inside, typed, variable_base, variable_value,
+    Base, Environment, Hidden, Position, Receiver, Typing, closed, discard_hidden,
+    discard_receiver, held, of_contract, owned, through, transaction_field, type_inside, typed,
+    variable_base, variable_value,
 };
 use cad_parameters::is_owned;
 use cad_syntax::{Authorization, Basic, CadType, Name, TypeId};
@@ -38,22 +39,27 @@ pub fn closed_typed(
 ) -> Result<Option<Typing>, AllocError>
     ensures { IfOk result (λ x. option_map typing_of x ≡ environments.typed (receivers.closed (option_map hidden_of hidden) (term_of term)) (pure_type declared)) }
 {
-    let term = closed(alloc, hidden, term)?;
-    Ok(typed(term, declared))
+    match closed(alloc, hidden, term) {
+        Ok(term) => Ok(typed(term, declared)),
+        Err(error) => {
+            discard_type(declared);
+            Err(error)
+        }
+    }
 }
 
-/// A member that is read of a place, with its type.
-fn on_typed(
-    alloc: Global,
-    hidden: Option<Hidden>,
-    place: Place,
-    usage: Use,
-    declared: CadType,
-) -> Result<Option<Typing>, AllocError>
-    ensures { IfOk result (λ x. option_map typing_of x ≡ environments.typed (receivers.closed (option_map hidden_of hidden) (tree.on (place_of place) (use_of usage))) (pure_type declared)) }
+/// A member that is read.
+fn closed_use(alloc: Global, r: Receiver, usage: Use) -> Result<Term, AllocError>
+    ensures { IfOk result (λ x. term_of x ≡ receivers.closed (receiver_of r).hidden (tree.on (receiver_of r).place (use_of usage))) }
 {
-    let term = on_term(alloc, place, usage)?;
-    closed_typed(alloc, hidden, term, declared)
+    discard_type(r.declared);
+    match on_term(alloc, r.place, usage) {
+        Ok(term) => closed(alloc, r.hidden, term),
+        Err(error) => {
+            discard_hidden(r.hidden);
+            Err(error)
+        }
+    }
 }
 
 /// A resource doesn't leave the place in which it is nested.
@@ -66,9 +72,17 @@ fn read_value(
     ensures { IfOk result (λ o. option_map typing_of o ≡ spec.read_value (environment_of env.entry) (receiver_of r) (reading_view x)) }
 {
     if env.is_resource(&x.declared) {
+        discard_receiver(r);
+        discard_reading(x);
         return Ok(None);
     }
-    on_typed(alloc, r.hidden, r.place, x.usage, x.declared)
+    match closed_use(alloc, r, x.usage) {
+        Ok(term) => Ok(typed(term, x.declared)),
+        Err(error) => {
+            discard_type(x.declared);
+            Err(error)
+        }
+    }
 }
 
 fn member_value(
@@ -79,9 +93,16 @@ fn member_value(
 ) -> Result<Option<Typing>, AllocError>
     ensures { IfOk result (λ o. option_map typing_of o ≡ spec.member_value (environment_of env.entry) (receiver_of r) name.now) }
 {
-    match read_member(alloc, env, &r, name)? {
-        Some(x) => read_value(alloc, env, r, x),
-        None => Ok(None),
+    match read_member(alloc, env, &r, name) {
+        Ok(Some(x)) => read_value(alloc, env, r, x),
+        Ok(None) => {
+            discard_receiver(r);
+            Ok(None)
+        }
+        Err(error) => {
+            discard_receiver(r);
+            Err(error)
+        }
     }
 }
 
@@ -100,6 +121,32 @@ fn value_base(
     }
 }
 
+/// A field that is met as its owner.
+fn owned_field(
+    alloc: Global,
+    r: Receiver,
+    name: &Name,
+    declared: CadType,
+) -> Result<Receiver, AllocError>
+    ensures { IfOk result (λ o. receiver_of o ≡ receivers.owned (receiver_of r).hidden (tree.field (receiver_of r).place (receiver_of r).type name.now) (pure_type declared)) }
+{
+    match name.clone() {
+        Ok(name) => match field_place(alloc, r.place, r.declared, name) {
+            Ok(place) => Ok(owned(r.hidden, place, declared)),
+            Err(error) => {
+                discard_hidden(r.hidden);
+                discard_type(declared);
+                Err(error)
+            }
+        },
+        Err(error) => {
+            discard_receiver(r);
+            discard_type(declared);
+            Err(error)
+        }
+    }
+}
+
 /// What stands in a field: what the field's reference names, or the place that it is.
 fn field_receiver(
     alloc: Global,
@@ -111,14 +158,16 @@ fn field_receiver(
     ensures { IfOk result (λ o. receiver_of o ≡ receivers.receiver_at (receiver_of r).hidden (tree.field (receiver_of r).place (receiver_of r).type name.now) (tree.on (receiver_of r).place (use_of usage)) (pure_type declared)) }
 {
     match declared {
-        CadType::Reference(grant, target) => {
-            let term = on_term(alloc, r.place, usage)?;
-            let term = closed(alloc, r.hidden, term)?;
-            through(alloc, term, grant, Box::into_inner(target))
-        }
+        CadType::Reference(grant, target) => match closed_use(alloc, r, usage) {
+            Ok(term) => through(alloc, term, grant, Box::into_inner(target)),
+            Err(error) => {
+                discard_type(Box::into_inner(target));
+                Err(error)
+            }
+        },
         declared => {
-            let place = field_place(alloc, r.place, r.declared, name.clone()?)?;
-            Ok(owned(r.hidden, place, declared))
+            discard_use(usage);
+            owned_field(alloc, r, name, declared)
         }
     }
 }
@@ -174,7 +223,10 @@ fn member_of_receiver(
 {
     match found_member(env, &r.declared, name) {
         Some(found) => found_base(alloc, env, r, name, found),
-        None => Ok(None),
+        None => {
+            discard_receiver(r);
+            Ok(None)
+        }
     }
 }
 
@@ -188,9 +240,16 @@ fn found_base(
 ) -> Result<Option<Base>, AllocError>
     ensures { IfOk result (λ o. option_map base_of o ≡ (spec.read_found (environment_of env.entry) (receiver_of r) (found_view found.entry) >=> spec.reading_base (environment_of env.entry) (receiver_of r) name.now (found_view found.entry))) }
 {
-    match read_found(alloc, env, &r, found)? {
-        Some(x) => reading_base(alloc, env, r, name, found, x),
-        None => Ok(None),
+    match read_found(alloc, env, &r, found) {
+        Ok(Some(x)) => reading_base(alloc, env, r, name, found, x),
+        Ok(None) => {
+            discard_receiver(r);
+            Ok(None)
+        }
+        Err(error) => {
+            discard_receiver(r);
+            Err(error)
+        }
     }
 }
 
@@ -251,8 +310,9 @@ fn enum_case(env: Environment<'_>, id: &TypeId, name: &Name) -> Result<Option<Ty
 {
     match case_number(env, id, name)? {
         Some(number) => {
-            let term = case_term(id.clone()?, number);
-            Ok(typed(term, CadType::Declared(id.clone()?)))
+            let owner = id.clone()?;
+            let declared = CadType::Declared(id.clone()?);
+            Ok(typed(case_term(owner, number), declared))
         }
         None => Ok(None),
     }
@@ -351,9 +411,16 @@ pub fn value_of_member(
     match base {
         Base::Value(r) => member_value(alloc, env, r, name),
         Base::Contract(id) => contract_value(alloc, env, id, name),
-        Base::TypeName(t) => type_member(alloc, env, &t, name),
+        Base::TypeName(t) => {
+            let value = type_member(alloc, env, &t, name);
+            discard_type(t);
+            value
+        }
         Base::Transaction => transaction_value(alloc, env, position, name),
-        Base::Chained(_, _) => Ok(None),
+        Base::Chained(r, _) => {
+            discard_receiver(r);
+            Ok(None)
+        }
     }
 }
 
@@ -424,8 +491,15 @@ pub fn base_of_member(
     match base {
         Base::Value(r) => member_of_receiver(alloc, env, r, name),
         Base::Contract(id) => member_of_contract(alloc, env, id, name),
-        Base::TypeName(t) => member_of_type(alloc, env, &t, name),
+        Base::TypeName(t) => {
+            let found = member_of_type(alloc, env, &t, name);
+            discard_type(t);
+            found
+        }
         Base::Transaction => member_of_transaction(alloc, env, name),
-        Base::Chained(_, _) => Ok(None),
+        Base::Chained(r, _) => {
+            discard_receiver(r);
+            Ok(None)
+        }
     }
 }

@@ -15,9 +15,10 @@ ghost use Rattle.cad_typing.specs.Receivers as receivers;
 ghost use Rattle.cad_typing.specs.Types as types;
 
 use cad_builtins::is_comparable;
-use cad_declarations::Term;
+use cad_declarations::{Term, boxed_type, discard_term, discard_type};
 use cad_environment::{
-    Base, Environment, Hidden, Receiver, Typing, closed, is_self, receiver_in, typed,
+    Base, Environment, Hidden, Receiver, Typing, closed, discard_hidden, discard_receiver,
+    discard_typing, is_self, receiver_in, typed,
 };
 use cad_grammar::{BinaryOperator, Expr, UnaryOperator};
 use cad_infer_literals::{signed_fixed, signed_whole};
@@ -53,8 +54,8 @@ pub fn negated_value(alloc: Global, x: Typing) -> Result<Option<Typing>, AllocEr
     if is_signed_type(&declared) {
         unary_typed(alloc, UnaryOperator::Negate, term, declared)
     } else {
-        drop(term);
-        drop(declared);
+        discard_term(term);
+        discard_type(declared);
         Ok(None)
     }
 }
@@ -84,7 +85,7 @@ pub fn inverted(alloc: Global, x: Typing) -> Result<Option<Typing>, AllocError>
             CadType::Basic(Basic::Bool),
         )
     } else {
-        drop(x);
+        discard_typing(x);
         Ok(None)
     }
 }
@@ -100,7 +101,7 @@ pub fn destroyed(
     if env.is_resource(&x.declared) {
         destroy_typed(alloc, into_term(x))
     } else {
-        drop(x);
+        discard_typing(x);
         Ok(None)
     }
 }
@@ -124,7 +125,7 @@ pub fn taken(env: Environment<'_>, a: &Expr, x: Typing) -> Option<Typing>
     if may_be_moved(env, a) && env.is_resource(&x.declared) {
         Some(x)
     } else {
-        drop(x);
+        discard_typing(x);
         None
     }
 }
@@ -162,7 +163,7 @@ pub fn forced(
     match own_content(&x.declared) {
         Ok(found) => forced_if(alloc, env, a, x, found),
         Err(error) => {
-            drop(x);
+            discard_typing(x);
             Err(error)
         }
     }
@@ -181,7 +182,7 @@ fn forced_if(
     match found {
         Some(t) => forced_to(alloc, env, a, into_term(x), t),
         None => {
-            drop(x);
+            discard_typing(x);
             Ok(None)
         }
     }
@@ -200,8 +201,8 @@ fn forced_to(
     if !env.is_resource(&t) || is_call_or_move(a) {
         force_typed(alloc, x, t)
     } else {
-        drop(x);
-        drop(t);
+        discard_term(x);
+        discard_type(t);
         Ok(None)
     }
 }
@@ -218,8 +219,8 @@ pub fn arithmetic(
     if is_number_type(&x.declared) && is_same_basic(&x.declared, &y.declared) {
         of_left_type(alloc, operator, x, y)
     } else {
-        drop(x);
-        drop(y);
+        discard_typing(x);
+        discard_typing(y);
         Ok(None)
     }
 }
@@ -236,8 +237,8 @@ pub fn bitwise(
     if is_integer_type(&x.declared) && is_same_basic(&x.declared, &y.declared) {
         of_left_type(alloc, operator, x, y)
     } else {
-        drop(x);
-        drop(y);
+        discard_typing(x);
+        discard_typing(y);
         Ok(None)
     }
 }
@@ -254,8 +255,8 @@ pub fn ordered(
     if is_ordered(&x.declared) && is_same_basic(&x.declared, &y.declared) {
         of_bool(alloc, operator, x, y)
     } else {
-        drop(x);
-        drop(y);
+        discard_typing(x);
+        discard_typing(y);
         Ok(None)
     }
 }
@@ -282,8 +283,8 @@ pub fn compared(
     if may_be_equal(env.kinds(), &x.declared, &y.declared) {
         of_bool(alloc, operator, x, y)
     } else {
-        drop(x);
-        drop(y);
+        discard_typing(x);
+        discard_typing(y);
         Ok(None)
     }
 }
@@ -305,7 +306,7 @@ fn nil_test(
     if is_owned(&r.grant) && is_optional_type(&r.declared) {
         nil_test_of(alloc, operator, r)
     } else {
-        drop(r);
+        discard_receiver(r);
         Ok(None)
     }
 }
@@ -324,12 +325,12 @@ fn nil_test_of(
         declared,
         grant,
     } = r;
-    drop(declared);
+    discard_type(declared);
     drop(grant);
     match nil_term(alloc, place, is_negation(operator)) {
         Ok(test) => closed_test(alloc, hidden, test),
         Err(error) => {
-            drop(hidden);
+            discard_hidden(hidden);
             Err(error)
         }
     }
@@ -373,8 +374,8 @@ pub fn joined(
     if is_test(&x.declared) && is_test(&y.declared) {
         of_bool(alloc, operator, x, y)
     } else {
-        drop(x);
-        drop(y);
+        discard_typing(x);
+        discard_typing(y);
         Ok(None)
     }
 }
@@ -410,6 +411,13 @@ pub(crate) struct Choice {
     pub right: Typing,
 }
 
+/// Lets a choice go.
+fn discard_choice(choice: Choice) {
+    discard_typing(choice.test);
+    discard_typing(choice.left);
+    discard_typing(choice.right)
+}
+
 /// `test ? x : y`: None where the test is no Bool, a part is a resource, or neither part's type is below the other's.
 pub fn chosen(
     alloc: Global,
@@ -439,7 +447,7 @@ fn chosen_of(
     if may_be_chosen(env, &parts.test, &parts.left, &parts.right) {
         choice_of_parts(alloc, env, parts)
     } else {
-        drop(parts);
+        discard_choice(parts);
         Ok(None)
     }
 }
@@ -462,7 +470,7 @@ fn choice_of_parts(
     match own_upper(env.kinds(), &parts.left.declared, &parts.right.declared) {
         Ok(found) => choice_if(alloc, parts, found),
         Err(error) => {
-            drop(parts);
+            discard_choice(parts);
             Err(error)
         }
     }
@@ -479,7 +487,7 @@ fn choice_if(
     match found {
         Some(declared) => choice_typed(alloc, parts, declared),
         None => {
-            drop(parts);
+            discard_choice(parts);
             Ok(None)
         }
     }
@@ -533,8 +541,8 @@ fn coalesced_whole(
     match optional_of(alloc, t) {
         Ok(whole) => coalesced_as(alloc, env, x, whole, y),
         Err(error) => {
-            drop(x);
-            drop(y);
+            discard_term(x);
+            discard_typing(y);
             Err(error)
         }
     }
@@ -544,7 +552,7 @@ fn coalesced_whole(
 fn optional_of(alloc: Global, t: CadType) -> Result<CadType, AllocError>
     ensures { IfOk result (λ whole. pure_type whole ≡ optional (pure_type t)) }
 {
-    Ok(CadType::Optional(Box::new(alloc, t)?))
+    Ok(CadType::Optional(boxed_type(alloc, t)?))
 }
 
 /// `x ?? y` of x's type. None where y doesn't fit it.
@@ -560,9 +568,9 @@ fn coalesced_as(
     if fits(env.kinds(), &y.declared, &whole) {
         coalesce_typed(alloc, x, into_term(y), false, whole)
     } else {
-        drop(x);
-        drop(whole);
-        drop(y);
+        discard_term(x);
+        discard_type(whole);
+        discard_typing(y);
         Ok(None)
     }
 }
@@ -580,8 +588,8 @@ pub fn coalesced(
     match own_content(&x.declared) {
         Ok(found) => coalesced_if(alloc, env, x, found, y),
         Err(error) => {
-            drop(x);
-            drop(y);
+            discard_typing(x);
+            discard_typing(y);
             Err(error)
         }
     }
@@ -600,8 +608,8 @@ fn coalesced_if(
     match found {
         Some(t) => coalesced_with(alloc, env, into_term(x), t, y),
         None => {
-            drop(x);
-            drop(y);
+            discard_typing(x);
+            discard_typing(y);
             Ok(None)
         }
     }
@@ -620,9 +628,9 @@ fn coalesced_with(
     if !env.is_resource(&t) || is_never_type(&y.declared) {
         coalesced_to(alloc, env, x, t, y)
     } else {
-        drop(x);
-        drop(t);
-        drop(y);
+        discard_term(x);
+        discard_type(t);
+        discard_typing(y);
         Ok(None)
     }
 }

@@ -6,7 +6,7 @@ ghost use Rattle.cad_environment.specs.Views.{environment_of, typing_of};
 ghost use Rattle.cad_infer_parts.specs.Code.Operands as operands;
 ghost use Rattle.cad_infer_parts.specs.Views.{family_of};
 
-use cad_environment::{Environment, Typing, is_nil};
+use cad_environment::{Environment, Typing, discard_typing, is_nil};
 use cad_grammar::{BinaryOperator, Expr};
 use cad_infer_operators::{arithmetic, bitwise, compared, ordered};
 use std::alloc::{AllocError, Global};
@@ -68,8 +68,8 @@ fn equality_of(left_is_nil: bool, right_is_nil: bool) -> Family
 fn neither(x: Typing, y: Typing) -> Option<Typing>
     ensures { option_map typing_of result ≡ None }
 {
-    drop(x);
-    drop(y);
+    discard_typing(x);
+    discard_typing(y);
     None
 }
 

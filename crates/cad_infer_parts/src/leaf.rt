@@ -19,10 +19,10 @@ ghost use Rattle.cad_infer_parts.specs.Code.Rows as rows;
 ghost use Rattle.cad_infer_parts.specs.Code.Steps as steps;
 ghost use Rattle.cad_infer_parts.specs.Views.{expected_of};
 
-use cad_declarations::Argument as Transferred;
+use cad_declarations::{Argument as Transferred, discard_arguments, discard_type};
 use cad_environment::{
-    Base, Environment, Hidden, Position, Receiver, Typing, at_entry, base_of_head, behind, beside,
-    head_named, is_before, is_postcondition, self_value, value_of_head,
+    Base, Environment, Head, Hidden, Position, Receiver, Typing, at_entry, base_of_head, behind,
+    beside, head_named, is_before, is_postcondition, self_value, value_of_head,
 };
 use cad_grammar::{Argument, Entry, Expr, TypeAnnotation};
 use cad_infer_calls::{Call, Callee, before_call, call_head};
@@ -72,7 +72,17 @@ fn named_value(
     let Some(found) = head_named(env, name)? else {
         return Ok(None);
     };
-    value_of_head(alloc, env, position, &found)
+    let value = value_of_head(alloc, env, position, &found);
+    discard_head(found);
+    value
+}
+
+/// Lets go what a name stands for.
+fn discard_head(head: Head<'_>) {
+    match head {
+        Head::Type(declared) => discard_type(declared),
+        Head::Local(_) | Head::Function(_) | Head::Contract(_) | Head::Builtin(_) => {}
+    }
 }
 
 /// Where what a name stands for is. None where it is nowhere.
@@ -199,7 +209,7 @@ pub fn if_ended(
     if may_end(count, left) {
         Some(found)
     } else {
-        drop(found);
+        discard_arguments(found);
         None
     }
 }

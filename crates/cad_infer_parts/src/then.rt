@@ -12,10 +12,12 @@ ghost use Rattle.cad_infer_parts.specs.Code.Steps as steps;
 ghost use Rattle.cad_infer_parts.specs.Views.{expected_of, family_of};
 
 use crate::family::{Family, operated};
-use cad_declarations::Argument as Transferred;
-use cad_environment::{Base, Environment, Position, Receiver, Typing, receiver_in};
+use cad_declarations::{Argument as Transferred, discard_type};
+use cad_environment::{
+    Base, Environment, Position, Receiver, Typing, discard_receiver, discard_typing, receiver_in,
+};
 use cad_grammar::{BinaryOperator, CastKind, Expr, TypeAnnotation, TypeExpr, UnaryOperator};
-use cad_infer_calls::{Call, call_member, call_typed};
+use cad_infer_calls::{Call, call_member, call_typed, discard_call};
 use cad_infer_containers::{array_typed, dictionary_typed, expected_element};
 use cad_infer_members::{base_of_member, index_base, index_value, value_of_member};
 use cad_infer_operators::{
@@ -54,7 +56,7 @@ pub fn index_then(
     ensures { IfOk result (λ o. option_map typing_of o ≡ steps.index_then (environment_of env.entry) (receiver_of r) (option_map typing_of i)) }
 {
     let Some(i) = i else {
-        drop(r);
+        discard_receiver(r);
         return Ok(None);
     };
     index_value(alloc, env, r, i)
@@ -104,7 +106,7 @@ pub fn operands_then(
     ensures { IfOk result (λ o. option_map typing_of o ≡ steps.operands_then (environment_of env.entry) operator (family_of family) (typing_of x) (option_map typing_of y)) }
 {
     let Some(y) = y else {
-        drop(x);
+        discard_typing(x);
         return Ok(None);
     };
     operated(alloc, env, operator, family, x, y)
@@ -121,7 +123,7 @@ pub fn joined_then(
     ensures { IfOk result (λ o. option_map typing_of o ≡ steps.joined_then operator (typing_of x) (option_map typing_of y)) }
 {
     let Some(y) = y else {
-        drop(x);
+        discard_typing(x);
         return Ok(None);
     };
     joined(alloc, operator, x, y)
@@ -139,8 +141,8 @@ pub fn chosen_then(
     ensures { IfOk result (λ o. option_map typing_of o ≡ steps.chosen_then (environment_of env.entry) (typing_of test) (typing_of x) (option_map typing_of y)) }
 {
     let Some(y) = y else {
-        drop(test);
-        drop(x);
+        discard_typing(test);
+        discard_typing(x);
         return Ok(None);
     };
     chosen(alloc, env, test, x, y)
@@ -188,7 +190,7 @@ pub fn call_then(
     ensures { IfOk result (λ o. option_map typing_of o ≡ steps.call_then (call_view made) (option_map (λ v. tree.arguments_of (map argument_of v.items)) found)) }
 {
     let Some(found) = found else {
-        drop(made);
+        discard_call(made);
         return Ok(None);
     };
     call_typed(alloc, made, found)
@@ -232,7 +234,7 @@ pub fn index_place_then(
     ensures { IfOk result (λ o. option_map base_of o ≡ steps.index_place_then (environment_of env.entry) (receiver_of r) (option_map typing_of i)) }
 {
     let Some(i) = i else {
-        drop(r);
+        discard_receiver(r);
         return Ok(None);
     };
     index_base(alloc, env, r, i)
@@ -363,7 +365,7 @@ pub fn cast_then(
     ensures { IfOk result (λ o. option_map typing_of o ≡ steps.cast_then (environment_of env.entry) kind (pure_type t) (option_map typing_of x)) }
 {
     let Some(x) = x else {
-        drop(t);
+        discard_type(t);
         return Ok(None);
     };
     match kind {
@@ -401,7 +403,7 @@ pub fn coalesced_then(
     ensures { IfOk result (λ o. option_map typing_of o ≡ steps.coalesced_then (environment_of env.entry) (typing_of x) (option_map typing_of y)) }
 {
     let Some(y) = y else {
-        drop(x);
+        discard_typing(x);
         return Ok(None);
     };
     coalesced(alloc, env, x, y)

@@ -9,14 +9,16 @@ ghost use Rattle.cad_declarations.specs.Typed as tree;
 ghost use Rattle.cad_declarations.specs.Views.{term_of};
 ghost use Rattle.cad_environment.specs.Views.{environment_of, typing_of, base_of, receiver_of};
 ghost use Rattle.cad_typing.specs.Environments as envs;
+ghost use Rattle.cad_typing.specs.Environments.{◌>=>◌};
+ghost use Rattle.cad_typing.specs.Receivers as receivers;
 ghost use Rattle.cad_typing.specs.References as spec;
 ghost use Rattle.cad_typing.specs.Types as types;
 ghost use Rattle.cad_infer_references.specs.Views.{asked_of};
 
-use cad_declarations::Term;
+use cad_declarations::{Term, boxed_type, discard_term, discard_type};
 use cad_environment::{
-    Base, Environment, Receiver, Typing, closed, is_contract_type, is_granted, is_self,
-    receiver_in, typed,
+    Base, Environment, Receiver, Typing, closed, discard_base, discard_hidden, discard_receiver,
+    discard_typing, is_contract_type, is_granted, is_self, receiver_in, typed,
 };
 use cad_grammar::{CastKind, Expr, TypeExpr, UnaryOperator};
 use cad_infer_terms::{borrow_term, cast_typed, into_term, unary_typed};
@@ -35,6 +37,11 @@ pub(crate) struct Asked {
     pub is_optional: bool,
 }
 
+/// Lets go what is asked for.
+fn discard_asked(asked: Asked) {
+    discard_type(asked.target)
+}
+
 /// What a type asks for: None where it is no reference, nor an optional of one.
 fn asked_type(t: CadType) -> Option<Asked>
     ensures { option_map asked_of result ≡ spec.asked_type (pure_type t) }
@@ -46,7 +53,10 @@ fn asked_type(t: CadType) -> Option<Asked>
             target: Box::into_inner(target),
             is_optional: false,
         }),
-        _ => None,
+        t => {
+            discard_type(t);
+            None
+        }
     }
 }
 
@@ -59,7 +69,10 @@ fn reference_asked(is_optional: bool, t: CadType) -> Option<Asked>
             target: Box::into_inner(target),
             is_optional,
         }),
-        _ => None,
+        t => {
+            discard_type(t);
+            None
+        }
     }
 }
 
@@ -67,9 +80,14 @@ fn reference_asked(is_optional: bool, t: CadType) -> Option<Asked>
 fn plain_reference(alloc: Global, r: Receiver, x: Asked) -> Result<Option<Typing>, AllocError>
     ensures { IfOk result (λ o. option_map typing_of o ≡ envs.typed (spec.borrow_term (receiver_of r) (asked_of x) false false) (reference x.grant (pure_type x.target))) }
 {
-    let declared = reference_to(alloc, &x)?;
-    let term = borrowed_term(alloc, r, x, false, false)?;
-    Ok(typed(term, declared))
+    match reference_to(alloc, &x) {
+        Ok(declared) => reference_typed(alloc, r, x, false, false, declared),
+        Err(error) => {
+            discard_receiver(r);
+            discard_asked(x);
+            Err(error)
+        }
+    }
 }
 
 /// The reference that is asked for, of an optional place.
@@ -81,17 +99,43 @@ fn optional_reference(
 ) -> Result<Option<Typing>, AllocError>
     ensures { IfOk result (λ o. option_map typing_of o ≡ envs.typed (spec.borrow_term (receiver_of r) (asked_of x) takes_off true) (optional (reference x.grant (pure_type x.target)))) }
 {
-    let declared = optional_to(alloc, &x)?;
-    let term = borrowed_term(alloc, r, x, takes_off, true)?;
-    Ok(typed(term, declared))
+    match optional_to(alloc, &x) {
+        Ok(declared) => reference_typed(alloc, r, x, takes_off, true, declared),
+        Err(error) => {
+            discard_receiver(r);
+            discard_asked(x);
+            Err(error)
+        }
+    }
+}
+
+/// The reference that is asked for, with its type.
+fn reference_typed(
+    alloc: Global,
+    r: Receiver,
+    x: Asked,
+    takes_off: bool,
+    gives_optional: bool,
+    declared: CadType,
+) -> Result<Option<Typing>, AllocError>
+    ensures { IfOk result (λ o. option_map typing_of o ≡ envs.typed (spec.borrow_term (receiver_of r) (asked_of x) takes_off gives_optional) (pure_type declared)) }
+{
+    match borrowed_term(alloc, r, x, takes_off, gives_optional) {
+        Ok(term) => Ok(typed(term, declared)),
+        Err(error) => {
+            discard_type(declared);
+            Err(error)
+        }
+    }
 }
 
 /// The type of the reference that is asked for.
 fn reference_to(alloc: Global, x: &Asked) -> Result<CadType, AllocError>
     ensures { IfOk result (λ t. pure_type t ≡ reference x.now.grant (pure_type x.now.target)) }
 {
-    let target = Box::new(alloc, x.target.clone()?)?;
-    Ok(CadType::Reference(x.grant.clone()?, target))
+    let grant = x.grant.clone()?;
+    let target = boxed_type(alloc, x.target.clone()?)?;
+    Ok(CadType::Reference(grant, target))
 }
 
 /// The type of an optional of it.
@@ -99,7 +143,7 @@ fn optional_to(alloc: Global, x: &Asked) -> Result<CadType, AllocError>
     ensures { IfOk result (λ t. pure_type t ≡ optional (reference x.now.grant (pure_type x.now.target))) }
 {
     let reference = reference_to(alloc, x)?;
-    Ok(CadType::Optional(Box::new(alloc, reference)?))
+    Ok(CadType::Optional(boxed_type(alloc, reference)?))
 }
 
 /// The term of the reference that is asked for.
@@ -115,16 +159,22 @@ fn borrowed_term(
     let Receiver {
         hidden,
         place,
-        declared: _declared,
+        declared,
         grant: _grant,
     } = r;
+    discard_type(declared);
     let Asked {
         grant,
         target,
         is_optional: _is_optional,
     } = x;
-    let term = borrow_term(alloc, place, grant, target, takes_off, gives_optional)?;
-    closed(alloc, hidden, term)
+    match borrow_term(alloc, place, grant, target, takes_off, gives_optional) {
+        Ok(term) => closed(alloc, hidden, term),
+        Err(error) => {
+            discard_hidden(hidden);
+            Err(error)
+        }
+    }
 }
 
 /// The reference to a place. Of an optional it is optional, however it is written: one optional is taken off where the
@@ -158,6 +208,8 @@ fn borrow_optional(
     if takes_off || is_below(types, &r.declared, &x.target) {
         optional_reference(alloc, r, x, takes_off)
     } else {
+        discard_receiver(r);
+        discard_asked(x);
         Ok(None)
     }
 }
@@ -174,6 +226,8 @@ fn borrow_plain(
     if !x.is_optional && is_below(types, &r.declared, &x.target) {
         plain_reference(alloc, r, x)
     } else {
+        discard_receiver(r);
+        discard_asked(x);
         Ok(None)
     }
 }
@@ -211,6 +265,8 @@ fn borrow_receiver(
     if may_be_borrowed(&r) && !is_self_of_contract(env, a, &r) {
         borrow_at(alloc, env.kinds(), r, x)
     } else {
+        discard_receiver(r);
+        discard_asked(x);
         Ok(None)
     }
 }
@@ -226,15 +282,83 @@ pub fn borrowed(
 ) -> Result<Option<Typing>, AllocError>
     ensures { IfOk result (λ o. option_map typing_of o ≡ spec.borrowed (environment_of env.entry) (expr_of a.now) (type_of written.now) (base_of base)) }
 {
-    let Some(t) = formed_type(alloc, env.scope(), written)? else {
-        return Ok(None);
-    };
-    let Some(x) = asked_type(t) else {
-        return Ok(None);
-    };
-    match receiver_in(base)? {
-        Some(r) => borrow_receiver(alloc, env, a, x, r),
+    match asked_in(alloc, env, written) {
+        Ok(found) => borrowed_if(alloc, env, a, found, base),
+        Err(error) => {
+            discard_base(base);
+            Err(error)
+        }
+    }
+}
+
+/// What is asked for, as it is written: None where it is no reference type that is rightly formed, nor an optional of one.
+fn asked_in(
+    alloc: Global,
+    env: Environment<'_>,
+    written: &TypeExpr,
+) -> Result<Option<Asked>, AllocError>
+    ensures { IfOk result (λ o. option_map asked_of o ≡ (formed.formed_type (envs.scope (environment_of env.entry)) (type_of written.now) >=> spec.asked_type)) }
+{
+    match formed_type(alloc, env.scope(), written)? {
+        Some(t) => Ok(asked_type(t)),
         None => Ok(None),
+    }
+}
+
+/// The reference to a place, if one is asked for.
+fn borrowed_if(
+    alloc: Global,
+    env: Environment<'_>,
+    a: &Expr,
+    found: Option<Asked>,
+    base: Base,
+) -> Result<Option<Typing>, AllocError>
+    ensures { IfOk result (λ o. option_map typing_of o ≡ (option_map asked_of found >=> (λ x. receivers.receiver_in (base_of base) >=> spec.borrow_receiver (environment_of env.entry) (expr_of a.now) x))) }
+{
+    match found {
+        Some(x) => borrow_base(alloc, env, a, x, base),
+        None => {
+            discard_base(base);
+            Ok(None)
+        }
+    }
+}
+
+/// The reference that is asked for, to what stands there.
+fn borrow_base(
+    alloc: Global,
+    env: Environment<'_>,
+    a: &Expr,
+    x: Asked,
+    base: Base,
+) -> Result<Option<Typing>, AllocError>
+    ensures { IfOk result (λ o. option_map typing_of o ≡ (receivers.receiver_in (base_of base) >=> spec.borrow_receiver (environment_of env.entry) (expr_of a.now) (asked_of x))) }
+{
+    match receiver_in(base) {
+        Ok(found) => borrow_if(alloc, env, a, x, found),
+        Err(error) => {
+            discard_asked(x);
+            Err(error)
+        }
+    }
+}
+
+/// The reference that is asked for, to a receiver, if there is one.
+fn borrow_if(
+    alloc: Global,
+    env: Environment<'_>,
+    a: &Expr,
+    x: Asked,
+    found: Option<Receiver>,
+) -> Result<Option<Typing>, AllocError>
+    ensures { IfOk result (λ o. option_map typing_of o ≡ (option_map receiver_of found >=> spec.borrow_receiver (environment_of env.entry) (expr_of a.now) (asked_of x))) }
+{
+    match found {
+        Some(r) => borrow_receiver(alloc, env, a, x, r),
+        None => {
+            discard_asked(x);
+            Ok(None)
+        }
     }
 }
 
@@ -245,8 +369,9 @@ pub fn dereferenced(alloc: Global, x: Typing) -> Result<Option<Typing>, AllocErr
     let Typing { term, declared } = x;
     match declared {
         CadType::Reference(_, target) => copied(alloc, term, Box::into_inner(target)),
-        _ => {
-            drop(term);
+        declared => {
+            discard_term(term);
+            discard_type(declared);
             Ok(None)
         }
     }
@@ -259,8 +384,8 @@ fn copied(alloc: Global, term: Term, t: CadType) -> Result<Option<Typing>, Alloc
     if is_copied(&t) {
         unary_typed(alloc, UnaryOperator::Dereference, term, t)
     } else {
-        drop(term);
-        drop(t);
+        discard_term(term);
+        discard_type(t);
         Ok(None)
     }
 }
@@ -311,8 +436,8 @@ fn cast_to(
     match t.clone() {
         Ok(declared) => cast_typed(alloc, kind, into_term(x), t, declared),
         Err(error) => {
-            drop(x);
-            drop(t);
+            discard_typing(x);
+            discard_type(t);
             Err(error)
         }
     }
@@ -325,8 +450,8 @@ fn cast_to_optional(alloc: Global, t: CadType, x: Typing) -> Result<Option<Typin
     match optional_of(alloc, &t) {
         Ok(declared) => cast_typed(alloc, CastKind::Failable, into_term(x), t, declared),
         Err(error) => {
-            drop(x);
-            drop(t);
+            discard_typing(x);
+            discard_type(t);
             Err(error)
         }
     }
@@ -336,7 +461,7 @@ fn cast_to_optional(alloc: Global, t: CadType, x: Typing) -> Result<Option<Typin
 fn optional_of(alloc: Global, t: &CadType) -> Result<CadType, AllocError>
     ensures { IfOk result (λ made. pure_type made ≡ optional (pure_type t.now)) }
 {
-    Ok(CadType::Optional(Box::new(alloc, t.clone()?)?))
+    Ok(CadType::Optional(boxed_type(alloc, t.clone()?)?))
 }
 
 /// `a as T`: None where a doesn't fit T.
@@ -351,8 +476,8 @@ pub fn cast_static(
     if fits(env.kinds(), &x.declared, &t) {
         cast_to(alloc, CastKind::Static, t, x)
     } else {
-        drop(x);
-        drop(t);
+        discard_typing(x);
+        discard_type(t);
         Ok(None)
     }
 }
@@ -369,8 +494,8 @@ pub fn cast_failable(
     if may_be_cast(env.kinds(), &x.declared, &t) && !env.is_resource(&x.declared) {
         cast_to_optional(alloc, t, x)
     } else {
-        drop(x);
-        drop(t);
+        discard_typing(x);
+        discard_type(t);
         Ok(None)
     }
 }
@@ -387,8 +512,8 @@ pub fn cast_forced(
     if may_be_cast(env.kinds(), &x.declared, &t) {
         cast_to(alloc, CastKind::Forced, t, x)
     } else {
-        drop(x);
-        drop(t);
+        discard_typing(x);
+        discard_type(t);
         Ok(None)
     }
 }

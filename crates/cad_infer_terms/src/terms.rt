@@ -7,7 +7,10 @@ ghost use Rattle.cad_environment.specs.Views.{typing_of};
 ghost use Rattle.cad_typing.specs.Environments as spec;
 ghost use Rattle.cad_typing.specs.Types as types;
 
-use cad_declarations::{Place, Term, TermEntry};
+use cad_declarations::{
+    Place, Term, TermEntry, boxed_place, boxed_term, boxed_terms, discard_boxed_term, discard_term,
+    discard_type,
+};
 use cad_environment::{Typing, typed};
 use cad_grammar::{BinaryOperator, CastKind, UnaryOperator};
 use cad_syntax::{Authorization, Basic, CadType};
@@ -17,10 +20,8 @@ use std::alloc::{AllocError, Global};
 pub fn into_term(x: Typing) -> Term
     ensures { result ≡ x.term }
 {
-    let Typing {
-        term,
-        declared: _declared,
-    } = x;
+    let Typing { term, declared } = x;
+    discard_type(declared);
     term
 }
 
@@ -28,7 +29,7 @@ pub fn into_term(x: Typing) -> Term
 fn unary_term(alloc: Global, operator: UnaryOperator, x: Term) -> Result<Term, AllocError>
     ensures { IfOk result (λ t. term_of t ≡ tree.unary operator (term_of x)) }
 {
-    Ok(Term::Unary(operator, Box::new(alloc, x)?))
+    Ok(Term::Unary(operator, boxed_term(alloc, x)?))
 }
 
 /// The same, with its type.
@@ -40,8 +41,13 @@ pub fn unary_typed(
 ) -> Result<Option<Typing>, AllocError>
     ensures { IfOk result (λ o. option_map typing_of o ≡ spec.typed (tree.unary operator (term_of x)) (pure_type declared)) }
 {
-    let term = unary_term(alloc, operator, x)?;
-    Ok(typed(term, declared))
+    match unary_term(alloc, operator, x) {
+        Ok(term) => Ok(typed(term, declared)),
+        Err(error) => {
+            discard_type(declared);
+            Err(error)
+        }
+    }
 }
 
 /// An operator between two operands.
@@ -53,8 +59,7 @@ fn binary_term(
 ) -> Result<Term, AllocError>
     ensures { IfOk result (λ t. term_of t ≡ tree.binary operator (term_of x) (term_of y)) }
 {
-    let x = Box::new(alloc, x)?;
-    let y = Box::new(alloc, y)?;
+    let (x, y) = boxed_terms(alloc, x, y)?;
     Ok(binary_of(operator, x, y))
 }
 
@@ -75,8 +80,13 @@ pub fn of_left_type(
     ensures { IfOk result (λ o. option_map typing_of o ≡ spec.typed (tree.binary operator (typing_of x).term (typing_of y).term) (typing_of x).type) }
 {
     let Typing { term, declared } = x;
-    let whole = binary_term(alloc, operator, term, into_term(y))?;
-    Ok(typed(whole, declared))
+    match binary_term(alloc, operator, term, into_term(y)) {
+        Ok(whole) => Ok(typed(whole, declared)),
+        Err(error) => {
+            discard_type(declared);
+            Err(error)
+        }
+    }
 }
 
 /// An operator between two operands, of type Bool.
@@ -96,7 +106,7 @@ pub fn of_bool(
 fn destroy_term(alloc: Global, x: Term) -> Result<Term, AllocError>
     ensures { IfOk result (λ t. term_of t ≡ tree.destroy (term_of x)) }
 {
-    Ok(Term::Destroy(Box::new(alloc, x)?))
+    Ok(Term::Destroy(boxed_term(alloc, x)?))
 }
 
 /// The same, with its type.
@@ -111,22 +121,33 @@ pub fn destroy_typed(alloc: Global, x: Term) -> Result<Option<Typing>, AllocErro
 fn force_term(alloc: Global, x: Term) -> Result<Term, AllocError>
     ensures { IfOk result (λ t. term_of t ≡ tree.force (term_of x)) }
 {
-    Ok(Term::Force(Box::new(alloc, x)?))
+    Ok(Term::Force(boxed_term(alloc, x)?))
 }
 
 /// The same, with its type.
 pub fn force_typed(alloc: Global, x: Term, declared: CadType) -> Result<Option<Typing>, AllocError>
     ensures { IfOk result (λ o. option_map typing_of o ≡ spec.typed (tree.force (term_of x)) (pure_type declared)) }
 {
-    let term = force_term(alloc, x)?;
-    Ok(typed(term, declared))
+    match force_term(alloc, x) {
+        Ok(term) => Ok(typed(term, declared)),
+        Err(error) => {
+            discard_type(declared);
+            Err(error)
+        }
+    }
 }
 
 /// A cast to a type.
 fn cast_term(alloc: Global, kind: CastKind, x: Term, t: CadType) -> Result<Term, AllocError>
     ensures { IfOk result (λ made. term_of made ≡ tree.cast kind (term_of x) (pure_type t)) }
 {
-    Ok(Term::Cast(kind, Box::new(alloc, x)?, t))
+    match boxed_term(alloc, x) {
+        Ok(x) => Ok(Term::Cast(kind, x, t)),
+        Err(error) => {
+            discard_type(t);
+            Err(error)
+        }
+    }
 }
 
 /// The same, with the type of the form.
@@ -139,8 +160,13 @@ pub fn cast_typed(
 ) -> Result<Option<Typing>, AllocError>
     ensures { IfOk result (λ o. option_map typing_of o ≡ spec.typed (tree.cast kind (term_of x) (pure_type t)) (pure_type declared)) }
 {
-    let term = cast_term(alloc, kind, x, t)?;
-    Ok(typed(term, declared))
+    match cast_term(alloc, kind, x, t) {
+        Ok(term) => Ok(typed(term, declared)),
+        Err(error) => {
+            discard_type(declared);
+            Err(error)
+        }
+    }
 }
 
 /// `x ?? y`
@@ -153,9 +179,13 @@ fn coalesce_term(
 ) -> Result<Term, AllocError>
     ensures { IfOk result (λ t. term_of t ≡ tree.coalesce (term_of x) (term_of y) takes_off (pure_type declared)) }
 {
-    let x = Box::new(alloc, x)?;
-    let y = Box::new(alloc, y)?;
-    Ok(coalesce_of(x, y, takes_off, declared))
+    match boxed_terms(alloc, x, y) {
+        Ok((x, y)) => Ok(coalesce_of(x, y, takes_off, declared)),
+        Err(error) => {
+            discard_type(declared);
+            Err(error)
+        }
+    }
 }
 
 /// The same, of operands that stand in memory.
@@ -180,33 +210,62 @@ pub fn coalesce_typed(
 ) -> Result<Option<Typing>, AllocError>
     ensures { IfOk result (λ o. option_map typing_of o ≡ spec.typed (tree.coalesce (term_of x) (term_of y) takes_off (pure_type declared)) (pure_type declared)) }
 {
-    let copy = declared.clone()?;
-    let term = coalesce_term(alloc, x, y, takes_off, copy)?;
-    Ok(typed(term, declared))
+    match declared.clone() {
+        Ok(copy) => coalesce_as(alloc, x, y, takes_off, copy, declared),
+        Err(error) => {
+            discard_term(x);
+            discard_term(y);
+            discard_type(declared);
+            Err(error)
+        }
+    }
+}
+
+/// `x ?? y`, with a type.
+fn coalesce_as(
+    alloc: Global,
+    x: Term,
+    y: Term,
+    takes_off: bool,
+    t: CadType,
+    declared: CadType,
+) -> Result<Option<Typing>, AllocError>
+    ensures { IfOk result (λ o. option_map typing_of o ≡ spec.typed (tree.coalesce (term_of x) (term_of y) takes_off (pure_type t)) (pure_type declared)) }
+{
+    match coalesce_term(alloc, x, y, takes_off, t) {
+        Ok(term) => Ok(typed(term, declared)),
+        Err(error) => {
+            discard_type(declared);
+            Err(error)
+        }
+    }
 }
 
 /// `test ? x : y`
 fn conditional_term(alloc: Global, test: Term, x: Term, y: Term) -> Result<Term, AllocError>
     ensures { IfOk result (λ t. term_of t ≡ tree.conditional (term_of test) (term_of x) (term_of y)) }
 {
-    let test = Box::new(alloc, test)?;
-    behind_test(alloc, test, x, y)
+    match boxed_terms(alloc, x, y) {
+        Ok((x, y)) => before_parts(alloc, test, x, y),
+        Err(error) => {
+            discard_term(test);
+            Err(error)
+        }
+    }
 }
 
-/// The parts of a choice, behind its test.
-fn behind_test(alloc: Global, test: Box<Term>, x: Term, y: Term) -> Result<Term, AllocError>
-    ensures { IfOk result (λ t. term_of t ≡ tree.conditional (term_of test.value) (term_of x) (term_of y)) }
+/// The choice, of a test and of parts that stand in memory.
+fn before_parts(alloc: Global, test: Term, x: Box<Term>, y: Box<Term>) -> Result<Term, AllocError>
+    ensures { IfOk result (λ t. term_of t ≡ tree.conditional (term_of test) (term_of x.value) (term_of y.value)) }
 {
-    let x = Box::new(alloc, x)?;
-    behind_first(alloc, test, x, y)
-}
-
-/// The second part of a choice, behind its test and the first.
-fn behind_first(alloc: Global, test: Box<Term>, x: Box<Term>, y: Term) -> Result<Term, AllocError>
-    ensures { IfOk result (λ t. term_of t ≡ tree.conditional (term_of test.value) (term_of x.value) (term_of y)) }
-{
-    let y = Box::new(alloc, y)?;
-    Ok(conditional_of(test, x, y))
+    match boxed_term(alloc, test) {
+        Ok(test) => Ok(conditional_of(test, x, y)),
+        Err(error) => {
+            discard_boxed_term(x);
+            discard_boxed_term(y);
+            Err(error)
+        }
+    }
 }
 
 /// The choice, of parts that stand in memory.
@@ -226,15 +285,20 @@ pub fn conditional_typed(
 ) -> Result<Option<Typing>, AllocError>
     ensures { IfOk result (λ o. option_map typing_of o ≡ spec.typed (tree.conditional (term_of test) (term_of x) (term_of y)) (pure_type declared)) }
 {
-    let term = conditional_term(alloc, test, x, y)?;
-    Ok(typed(term, declared))
+    match conditional_term(alloc, test, x, y) {
+        Ok(term) => Ok(typed(term, declared)),
+        Err(error) => {
+            discard_type(declared);
+            Err(error)
+        }
+    }
 }
 
 /// The test of a place beside nil.
 pub fn nil_term(alloc: Global, place: Place, is_negated: bool) -> Result<Term, AllocError>
     ensures { IfOk result (λ t. term_of t ≡ tree.is_nil (place_of place) is_negated) }
 {
-    let place = Box::new(alloc, place)?;
+    let place = boxed_place(alloc, place)?;
     Ok(Term::IsNil { place, is_negated })
 }
 
@@ -249,14 +313,19 @@ pub fn borrow_term(
 ) -> Result<Term, AllocError>
     ensures { IfOk result (λ t. term_of t ≡ tree.borrow (place_of place) authorization (pure_type target) takes_off gives_optional) }
 {
-    let place = Box::new(alloc, place)?;
-    Ok(Term::Borrow {
-        place,
-        authorization,
-        target,
-        takes_off,
-        gives_optional,
-    })
+    match boxed_place(alloc, place) {
+        Ok(place) => Ok(Term::Borrow {
+            place,
+            authorization,
+            target,
+            takes_off,
+            gives_optional,
+        }),
+        Err(error) => {
+            discard_type(target);
+            Err(error)
+        }
+    }
 }
 
 /// An array of these elements.

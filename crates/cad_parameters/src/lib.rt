@@ -5,4 +5,4 @@ mod owned;
 mod parameter;
 
 pub use owned::is_owned;
-pub use parameter::{Count, Parameter, Takes};
+pub use parameter::{Count, Parameter, Takes, discard_parameters};

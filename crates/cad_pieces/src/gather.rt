@@ -1,15 +1,17 @@
 // The bodies of a program, gathered from its pieces.
-ghost use Rattle.std.specs.Prelude.{◌≡◌, [], ◌∷◌, ◌++◌, IfOk, map, option_copied, option_map, option_to_list};
+ghost use Rattle.std.specs.Prelude.{◌≡◌, [], ◌∷◌, ◌++◌, IfOk, OnOk, map, option_copied, option_map, option_to_list};
 ghost use Rattle.std.specs.Option.{option_or};
 ghost use Rattle.cad_grammar.specs.Views.{composite_member_of, composite_of, interface_member_of, interface_of, contract_member_of, contract_of, transaction_of as tree_of, decl_of, program_of};
 ghost use Rattle.cad_declarations.specs.Meets.{Each};
+ghost use Rattle.cad_declarations.specs.Scopes.{inside as type_in};
+ghost use Rattle.cad_declarations.specs.Typed.{TypeBody};
 ghost use Rattle.cad_declarations.specs.Views.{function_of, transaction_of, destroyed_of, member_body_of, type_body_of, bodies_of, tables_of};
 ghost use Rattle.cad_typing.specs.Pieces.{program_pieces};
 ghost use Rattle.cad_typing.specs.Programs.{IsRight, IllTyped, member_body, program_bodies};
 ghost use Rattle.cad_pieces.specs.Code.Walk as spec;
 ghost use Rattle.cad_pieces.specs.Views.{piece_of, piece_body_of, pieces_of};
 
-use crate::piece::{Piece, PieceBody};
+use crate::piece::{Piece, PieceBody, discard_piece, discard_pieces};
 use cad_declarations::{
     Bodies, DestroyedEvent, Tables, TypedBody, TypedFunction, TypedMember, TypedTransaction,
     TypedType,
@@ -20,6 +22,11 @@ use cad_grammar::{
 };
 use cad_scopes::inside;
 use cad_syntax::{Name, TypeId};
+use cad_typed_rows::{
+    discard_bodies, discard_body, discard_destroyed, discard_function, discard_maybe_destroyed,
+    discard_maybe_function, discard_maybe_transaction, discard_members, discard_transaction,
+    discard_type_bodies, discard_type_body, push_member, push_type_body,
+};
 use std::alloc::{AllocError, Global};
 use std::collections::VecDeque;
 
@@ -50,7 +57,9 @@ fn gathered(
         functions: Vec::new(alloc),
         transaction: None,
     };
-    declarations(alloc, contract, &program.declarations, bodies, &mut left)
+    let all = declarations(alloc, contract, &program.declarations, bodies, &mut left);
+    discard_pieces(left.into_vec());
+    all
 }
 
 /// The function or initializer of a piece.
@@ -71,10 +80,16 @@ fn function_in_body(body: PieceBody) -> Option<TypedFunction>
         PieceBody::Body { body, .. } => match body {
             TypedBody::Function(function) => Some(function),
             TypedBody::Initializer(function) => Some(function),
-            TypedBody::Transaction(_) => None,
+            TypedBody::Transaction(transaction) => {
+                discard_transaction(transaction);
+                None
+            }
         },
         PieceBody::Type(_) => None,
-        PieceBody::Destroyed(_) => None,
+        PieceBody::Destroyed(event) => {
+            discard_destroyed(event);
+            None
+        }
         PieceBody::Plain => None,
     }
 }
@@ -94,12 +109,21 @@ fn transaction_in_body(body: PieceBody) -> Option<TypedTransaction>
 {
     match body {
         PieceBody::Body { body, .. } => match body {
-            TypedBody::Function(_) => None,
-            TypedBody::Initializer(_) => None,
+            TypedBody::Function(function) => {
+                discard_function(function);
+                None
+            }
+            TypedBody::Initializer(function) => {
+                discard_function(function);
+                None
+            }
             TypedBody::Transaction(transaction) => Some(transaction),
         },
         PieceBody::Type(_) => None,
-        PieceBody::Destroyed(_) => None,
+        PieceBody::Destroyed(event) => {
+            discard_destroyed(event);
+            None
+        }
         PieceBody::Plain => None,
     }
 }
@@ -118,11 +142,10 @@ fn destroyed_in_body(body: PieceBody) -> Option<DestroyedEvent>
     ensures { option_map destroyed_of result ≡ spec.destroyed_in (Ok (piece_body_of body)) }
 {
     match body {
-        PieceBody::Body { body, .. } => match body {
-            TypedBody::Function(_) => None,
-            TypedBody::Initializer(_) => None,
-            TypedBody::Transaction(_) => None,
-        },
+        PieceBody::Body { body, .. } => {
+            discard_body(body);
+            None
+        }
         PieceBody::Type(_) => None,
         PieceBody::Destroyed(event) => Some(event),
         PieceBody::Plain => None,
@@ -166,7 +189,10 @@ fn next_transaction(left: &mut VecDeque<Piece>) -> Option<TypedTransaction>
 fn pass(left: &mut VecDeque<Piece>)
     ensures { pieces_of left.new.items ≡ spec.others (pieces_of left.old.items) }
 {
-    let _ = left.pop_front();
+    match left.pop_front() {
+        Some(piece) => discard_piece(piece),
+        None => {}
+    }
 }
 
 /// A type of which nothing has been gathered.
@@ -189,11 +215,27 @@ fn push_function(
 ) -> Result<(), AllocError>
     ensures { IfOk result (λ _. map member_body_of functions.new.items ≡ map member_body_of functions.old.items ++ option_to_list (option_map (member_body name.now) (option_map function_of function))) }
 {
-    if let Some(function) = function {
-        let name = name.clone()?;
-        functions.push(TypedMember { name, function })?;
+    match function {
+        Some(function) => push_named(functions, name, function),
+        None => Ok(()),
     }
-    Ok(())
+}
+
+/// Adds a function under its name.
+fn push_named(
+    functions: &mut Vec<TypedMember>,
+    name: &Name,
+    function: TypedFunction,
+) -> Result<(), AllocError>
+    ensures { IfOk result (λ _. map member_body_of functions.new.items ≡ map member_body_of functions.old.items ++ member_body name.now (function_of function) ∷ []) }
+{
+    match name.clone() {
+        Ok(name) => push_member(functions, TypedMember { name, function }),
+        Err(error) => {
+            discard_function(function);
+            Err(error)
+        }
+    }
 }
 
 fn first_function(
@@ -203,7 +245,10 @@ fn first_function(
     ensures { option_map function_of result ≡ option_or (option_map function_of first) (option_map function_of second) }
 {
     match first {
-        Some(function) => Some(function),
+        Some(function) => {
+            discard_maybe_function(second);
+            Some(function)
+        }
         None => second,
     }
 }
@@ -215,7 +260,10 @@ fn first_destroyed(
     ensures { option_map destroyed_of result ≡ option_or (option_map destroyed_of first) (option_map destroyed_of second) }
 {
     match first {
-        Some(event) => Some(event),
+        Some(event) => {
+            discard_maybe_destroyed(second);
+            Some(event)
+        }
         None => second,
     }
 }
@@ -227,7 +275,10 @@ fn first_transaction(
     ensures { option_map transaction_of result ≡ option_or (option_map transaction_of first) (option_map transaction_of second) }
 {
     match first {
-        Some(transaction) => Some(transaction),
+        Some(transaction) => {
+            discard_maybe_transaction(second);
+            Some(transaction)
+        }
         None => second,
     }
 }
@@ -240,13 +291,20 @@ fn add_function(
     ensures { IfOk result (λ b. type_body_of b ≡ spec.add_function name.now (option_map function_of function) (type_body_of body)) }
 {
     let mut functions = body.functions;
-    push_function(&mut functions, name, function)?;
-    Ok(TypedType {
-        id: body.id,
-        initializer: body.initializer,
-        functions,
-        destroyed: body.destroyed,
-    })
+    match push_function(&mut functions, name, function) {
+        Ok(()) => Ok(TypedType {
+            id: body.id,
+            initializer: body.initializer,
+            functions,
+            destroyed: body.destroyed,
+        }),
+        Err(error) => {
+            discard_maybe_function(body.initializer);
+            discard_members(functions);
+            discard_maybe_destroyed(body.destroyed);
+            Err(error)
+        }
+    }
 }
 
 fn add_initializer(body: TypedType, function: Option<TypedFunction>) -> TypedType
@@ -382,8 +440,75 @@ fn interface(
 fn push_type(all: &mut Vec<TypedType>, body: TypedType) -> Result<(), AllocError>
     ensures { IfOk result (λ _. map type_body_of all.new.items ≡ map type_body_of all.old.items ++ type_body_of body ∷ []) }
 {
-    all.push(body)?;
-    Ok(())
+    push_type_body(all, body)
+}
+
+/// Adds the bodies of a composite that is declared in the contract.
+fn push_composite(
+    alloc: Global,
+    id: &TypeId,
+    declared: &Composite,
+    nested: &mut Vec<TypedType>,
+    left: &mut VecDeque<Piece>,
+) -> Result<(), AllocError>
+    ensures { OnOk result ((o : TypeBody) → spec.contract_walk (spec.walk o (pieces_of left.new.items)) (map type_body_of nested.new.items) ≡ spec.add_nested (spec.contract_walk (spec.walk o (pieces_of left.old.items)) (map type_body_of nested.old.items)) (spec.composite (type_in id.now (composite_of declared.now).name) (composite_of declared.now) (pieces_of left.old.items))) }
+{
+    let inner = composite(alloc, inside(id, &declared.name)?, declared, left)?;
+    push_type(nested, inner)
+}
+
+/// The contract behind a composite that is declared in it.
+fn take_composite(
+    alloc: Global,
+    id: &TypeId,
+    declared: &Composite,
+    own: TypedType,
+    nested: &mut Vec<TypedType>,
+    left: &mut VecDeque<Piece>,
+) -> Result<TypedType, AllocError>
+    ensures { IfOk result (λ b. spec.contract_walk (spec.walk (type_body_of b) (pieces_of left.new.items)) (map type_body_of nested.new.items) ≡ spec.add_nested (spec.contract_walk (spec.walk (type_body_of own) (pieces_of left.old.items)) (map type_body_of nested.old.items)) (spec.composite (type_in id.now (composite_of declared.now).name) (composite_of declared.now) (pieces_of left.old.items))) }
+{
+    match push_composite(alloc, id, declared, nested, left) {
+        Ok(()) => Ok(own),
+        Err(error) => {
+            discard_type_body(own);
+            Err(error)
+        }
+    }
+}
+
+/// Adds the bodies of an interface that is declared in the contract.
+fn push_interface(
+    alloc: Global,
+    id: &TypeId,
+    declared: &Interface,
+    nested: &mut Vec<TypedType>,
+    left: &mut VecDeque<Piece>,
+) -> Result<(), AllocError>
+    ensures { OnOk result ((o : TypeBody) → spec.contract_walk (spec.walk o (pieces_of left.new.items)) (map type_body_of nested.new.items) ≡ spec.add_nested (spec.contract_walk (spec.walk o (pieces_of left.old.items)) (map type_body_of nested.old.items)) (spec.interface (type_in id.now (interface_of declared.now).name) (interface_of declared.now) (pieces_of left.old.items))) }
+{
+    let inner = interface(alloc, inside(id, &declared.name)?, declared, left)?;
+    push_type(nested, inner)
+}
+
+/// The contract behind an interface that is declared in it.
+fn take_interface(
+    alloc: Global,
+    id: &TypeId,
+    declared: &Interface,
+    own: TypedType,
+    nested: &mut Vec<TypedType>,
+    left: &mut VecDeque<Piece>,
+) -> Result<TypedType, AllocError>
+    ensures { IfOk result (λ b. spec.contract_walk (spec.walk (type_body_of b) (pieces_of left.new.items)) (map type_body_of nested.new.items) ≡ spec.add_nested (spec.contract_walk (spec.walk (type_body_of own) (pieces_of left.old.items)) (map type_body_of nested.old.items)) (spec.interface (type_in id.now (interface_of declared.now).name) (interface_of declared.now) (pieces_of left.old.items))) }
+{
+    match push_interface(alloc, id, declared, nested, left) {
+        Ok(()) => Ok(own),
+        Err(error) => {
+            discard_type_body(own);
+            Err(error)
+        }
+    }
 }
 
 /// A member of the contract: of the contract itself, or a type that is declared in it.
@@ -401,14 +526,10 @@ fn contract_member(
         ContractMember::Function(function) => take_function(&function.name, own, left),
         ContractMember::Init(_) => Ok(take_initializer(own, left)),
         ContractMember::Composite(declared) => {
-            let inner = composite(alloc, inside(id, &declared.name)?, declared, left)?;
-            push_type(nested, inner)?;
-            Ok(own)
+            take_composite(alloc, id, declared, own, nested, left)
         }
         ContractMember::Interface(declared) => {
-            let inner = interface(alloc, inside(id, &declared.name)?, declared, left)?;
-            push_type(nested, inner)?;
-            Ok(own)
+            take_interface(alloc, id, declared, own, nested, left)
         }
         ContractMember::Event(_) => {
             pass(left);
@@ -465,22 +586,42 @@ fn push_types(
 ) -> Result<(), AllocError>
     ensures { IfOk result (λ _. map type_body_of all.new.items ≡ map type_body_of all.old.items ++ type_body_of own ∷ map type_body_of nested.items) }
 {
+    match push_type(all, own) {
+        Ok(()) => append_types(all, nested),
+        Err(error) => {
+            discard_type_bodies(nested);
+            Err(error)
+        }
+    }
+}
+
+/// Adds all of these behind the others.
+fn append_types(all: &mut Vec<TypedType>, nested: Vec<TypedType>) -> Result<(), AllocError>
+    ensures { IfOk result (λ _. map type_body_of all.new.items ≡ map type_body_of all.old.items ++ map type_body_of nested.items) }
+{
     let mut more = nested;
-    push_type(all, own)?;
-    all.append(&mut more)?;
-    Ok(())
+    let done = all.append(&mut more);
+    discard_type_bodies(more);
+    done
 }
 
 fn add_types(bodies: Bodies, own: TypedType, nested: Vec<TypedType>) -> Result<Bodies, AllocError>
     ensures { IfOk result (λ b. bodies_of b ≡ spec.add_types (type_body_of own ∷ map type_body_of nested.items) (bodies_of bodies)) }
 {
     let mut types = bodies.types;
-    push_types(&mut types, own, nested)?;
-    Ok(Bodies {
-        types,
-        functions: bodies.functions,
-        transaction: bodies.transaction,
-    })
+    match push_types(&mut types, own, nested) {
+        Ok(()) => Ok(Bodies {
+            types,
+            functions: bodies.functions,
+            transaction: bodies.transaction,
+        }),
+        Err(error) => {
+            discard_type_bodies(types);
+            discard_members(bodies.functions);
+            discard_maybe_transaction(bodies.transaction);
+            Err(error)
+        }
+    }
 }
 
 fn add_top_function(
@@ -491,12 +632,19 @@ fn add_top_function(
     ensures { IfOk result (λ b. bodies_of b ≡ spec.add_top_function name.now (option_map function_of function) (bodies_of bodies)) }
 {
     let mut functions = bodies.functions;
-    push_function(&mut functions, name, function)?;
-    Ok(Bodies {
-        types: bodies.types,
-        functions,
-        transaction: bodies.transaction,
-    })
+    match push_function(&mut functions, name, function) {
+        Ok(()) => Ok(Bodies {
+            types: bodies.types,
+            functions,
+            transaction: bodies.transaction,
+        }),
+        Err(error) => {
+            discard_type_bodies(bodies.types);
+            discard_members(functions);
+            discard_maybe_transaction(bodies.transaction);
+            Err(error)
+        }
+    }
 }
 
 fn add_transaction(bodies: Bodies, transaction: Option<TypedTransaction>) -> Bodies
@@ -522,8 +670,14 @@ fn top_contract(
         return Ok(bodies);
     };
     let mut nested = Vec::new(alloc);
-    let own = contract(alloc, id, declared, &mut nested, left)?;
-    add_types(bodies, own, nested)
+    match contract(alloc, id, declared, &mut nested, left) {
+        Ok(own) => add_types(bodies, own, nested),
+        Err(error) => {
+            discard_type_bodies(nested);
+            discard_bodies(bodies);
+            Err(error)
+        }
+    }
 }
 
 /// Takes the pieces of a transaction's parts.

@@ -3,6 +3,7 @@
 
 mod before;
 mod counts;
+mod discard;
 mod elements;
 mod locals;
 mod operands;
@@ -12,9 +13,12 @@ mod variables;
 
 pub use before::{befores_of_condition, behind_condition};
 pub use counts::count_all;
+// For the crates above, which let nothing with a type in it go in another way.
+pub use discard::{discard_for_variables, discard_local, discard_locals, discard_maybe_local};
 pub use elements::{ForVariables, for_variables, gone_over};
 pub use locals::{
-    copied, entries_of, entry_of, is_free, is_var_word, locals_from, next_local, put_first,
+    copied, entries_of, entry_of, is_free, is_var_word, locals_from, next_local, push_copy,
+    put_first,
 };
 pub use operands::{
     fit_each_other, is_test, is_void, may_be_cast, may_be_equal, may_be_switched, optional_of,

@@ -1,5 +1,5 @@
 // Variables and their scopes.
-ghost use Rattle.std.specs.Prelude.{◌≡◌, ◌∷◌, IfOk, OnOk, false, map};
+ghost use Rattle.std.specs.Prelude.{◌≡◌, ◌∷◌, ◌++◌, [], IfOk, OnOk, false, map};
 ghost use Rattle.std.specs.List.{list_any};
 ghost use Rattle.cad_syntax.specs.Types.{pure_type};
 ghost use Rattle.cad_declarations.specs.Names.{same_name};
@@ -77,6 +77,14 @@ pub fn copied(v: &Local) -> Result<Local, AllocError>
         declared: v.declared.clone()?,
         is_var: v.is_var,
     })
+}
+
+/// Adds a copy of a variable.
+pub fn push_copy(locals: &mut Vec<Local>, v: &Local) -> Result<(), AllocError>
+    ensures { OnOk result (map local_of locals.new.items ≡ map local_of locals.old.items ++ local_of v.now ∷ []) }
+{
+    locals.push(copied(v)?)?;
+    Ok(())
 }
 
 /// Puts a variable in front of others.

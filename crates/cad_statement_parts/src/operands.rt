@@ -12,6 +12,7 @@ ghost use Rattle.cad_typing.specs.References as reference_spec;
 ghost use Rattle.cad_typing.specs.StatementForms as statement_spec;
 
 use cad_builtins::is_comparable;
+use cad_declarations::boxed_type;
 use cad_environment::{Environment, is_granted};
 use cad_syntax::{Basic, CadType};
 use cad_type_classes::{core_of, fits, is_below, is_never_type, is_optional_type, is_same_basic};
@@ -89,5 +90,5 @@ pub fn is_void(t: &CadType) -> bool
 pub fn optional_of(alloc: Global, t: &CadType) -> Result<CadType, AllocError>
     ensures { IfOk result (λ made. pure_type made ≡ optional (pure_type t.now)) }
 {
-    Ok(CadType::Optional(Box::new(alloc, t.clone()?)?))
+    Ok(CadType::Optional(boxed_type(alloc, t.clone()?)?))
 }

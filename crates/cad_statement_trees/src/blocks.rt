@@ -8,11 +8,12 @@ ghost use Rattle.cad_statement_parts.specs.Blocks.{continued, in_use_behind, loc
 ghost use Rattle.cad_statement_parts.specs.Views.{judged_at, surroundings_of};
 ghost use Rattle.cad_statement_trees.specs.Views.{statement_typing_of};
 
-use crate::typing::StatementTyping;
+use crate::typing::{StatementTyping, discard_statement_typing};
 use crate::variables::alone;
-use cad_declarations::{TypedBlock, TypedStatement};
+use cad_declarations::{TypedBlock, TypedStatement, discard_statement};
 use cad_environment::{Local, more};
-use cad_statement_parts::{Surroundings, after, put_first};
+use cad_statement_parts::{Surroundings, after, discard_locals, discard_maybe_local, put_first};
+use cad_typed_rows::{discard_statements, push_statement};
 use std::alloc::{AllocError, Global};
 
 /// A statement without statements in it, and the next number; where it is ill-typed it stops at its own.
@@ -23,7 +24,13 @@ pub fn found(
     ensures { IfOk result (λ o. judged_at statement_typing_of o ≡ numbered (at + 1) (ok_or (option_map statement_typing_of typing) at)) }
 {
     match typing {
-        Some(x) => Ok(Ok((x, after(at)?))),
+        Some(x) => match after(at) {
+            Ok(next) => Ok(Ok((x, next))),
+            Err(error) => {
+                discard_statement_typing(x);
+                Err(error)
+            }
+        },
         None => Ok(Err(at)),
     }
 }
@@ -36,7 +43,13 @@ pub fn single(
     ensures { IfOk result (λ o. judged_at statement_typing_of o ≡ numbered (at + 1) (spec.single at (option_map statement_of tree))) }
 {
     match tree {
-        Some(x) => Ok(Ok((alone(x), after(at)?))),
+        Some(x) => match after(at) {
+            Ok(next) => Ok(Ok((alone(x), next))),
+            Err(error) => {
+                discard_statement(x);
+                Err(error)
+            }
+        },
         None => Ok(Err(at)),
     }
 }
@@ -68,13 +81,19 @@ pub fn take_in(begun: &mut Begun, x: StatementTyping) -> Result<(), AllocError>
     ensures locals { OnOk result (map local_of begun.new.locals.items ≡ locals_behind (statement_typing_of x).declares (map local_of begun.old.locals.items)) }
     ensures in_use { OnOk result (begun.new.in_use ≡ in_use_behind (statement_typing_of x).declares begun.old.in_use) }
 {
-    begun.trees.push(x.tree)?;
-    match x.declares {
-        None => Ok(()),
-        Some(v) => {
-            put_first(&mut begun.locals, v)?;
-            begun.in_use = more(begun.in_use, 1)?;
-            Ok(())
+    let StatementTyping { tree, declares } = x;
+    match push_statement(&mut begun.trees, tree) {
+        Ok(()) => match declares {
+            None => Ok(()),
+            Some(v) => {
+                put_first(&mut begun.locals, v)?;
+                begun.in_use = more(begun.in_use, 1)?;
+                Ok(())
+            }
+        },
+        Err(error) => {
+            discard_maybe_local(declares);
+            Err(error)
         }
     }
 }
@@ -83,10 +102,24 @@ pub fn take_in(begun: &mut Begun, x: StatementTyping) -> Result<(), AllocError>
 pub fn ended(begun: Begun, in_scope: u32) -> TypedBlock
     ensures { block_of result ≡ typed.block in_scope (typed.statements_of (map statement_of begun.trees.items)) }
 {
+    discard_locals(begun.locals);
+    block_with(begun.trees, in_scope)
+}
+
+/// A block of statements, whose own variables have the numbers from this one.
+fn block_with(statements: Vec<TypedStatement>, in_scope: u32) -> TypedBlock
+    ensures { block_of result ≡ typed.block in_scope (typed.statements_of (map statement_of statements.items)) }
+{
     TypedBlock {
         in_scope,
-        statements: begun.trees,
+        statements,
     }
+}
+
+/// Lets go what was begun of a block.
+pub fn discard_begun(begun: Begun) {
+    discard_locals(begun.locals);
+    discard_statements(begun.trees)
 }
 
 /// A block of one statement's tree.
@@ -97,9 +130,14 @@ fn block_of_one(
 ) -> Result<TypedBlock, AllocError>
     ensures { IfOk result (λ b. block_of b ≡ typed.block in_scope (typed.statements (statement_of tree) typed.no_statements)) }
 {
-    let mut begun = begin(alloc, in_scope);
-    begun.trees.push(tree)?;
-    Ok(ended(begun, in_scope))
+    let mut statements = Vec::new(alloc);
+    match push_statement(&mut statements, tree) {
+        Ok(()) => Ok(block_with(statements, in_scope)),
+        Err(error) => {
+            discard_statements(statements);
+            Err(error)
+        }
+    }
 }
 
 /// A block of one statement, whose own variables have the numbers from this one.
@@ -113,6 +151,7 @@ pub fn lone_block(
     match x {
         Err(stop) => Ok(Err(stop)),
         Ok((typing, next)) => {
+            discard_maybe_local(typing.declares);
             let block = block_of_one(alloc, typing.tree, in_scope)?;
             Ok(Ok((block, next)))
         }

@@ -4,7 +4,7 @@ ghost use Rattle.cad_syntax.specs.Types.{pure_type};
 ghost use Rattle.cad_grammar.specs.Trees as s;
 ghost use Rattle.cad_grammar.specs.Views.{annotation_of};
 ghost use Rattle.cad_declarations.specs.Typed as typed;
-ghost use Rattle.cad_declarations.specs.Views.{argument_of, block_of, place_of, statement_of, term_of};
+ghost use Rattle.cad_declarations.specs.Views.{argument_of, block_of, place_of, statement_of, term_of, variable_of};
 ghost use Rattle.cad_environment.specs.Views.{environment_of, local_of, typing_of};
 ghost use Rattle.cad_typing.specs.Environments.{◌>=>◌};
 ghost use Rattle.cad_typing.specs.Locals as local_spec;
@@ -14,13 +14,17 @@ ghost use Rattle.cad_statement_parts.specs.Blocks.{continued};
 ghost use Rattle.cad_statement_parts.specs.Views.{judged_at};
 ghost use Rattle.cad_statement_trees.specs.Views.{statement_typing_of, test_typing_of};
 
-use crate::typing::{StatementTyping, TestTyping};
+use crate::typing::{StatementTyping, TestTyping, discard_judged_block, discard_test_typing};
 use crate::variables::alone;
-use cad_declarations::{Argument, Place, TypedBlock, TypedStatement};
+use cad_declarations::{
+    Argument, Place, TypedBlock, TypedStatement, Variable, discard_block, discard_place,
+    discard_type,
+};
 use cad_environment::{Environment, Local, Typing, variable_place};
 use cad_grammar::{TypeAnnotation, VariableKind};
-use cad_statement_parts::{entry_of, next_local, type_for};
+use cad_statement_parts::{discard_local, entry_of, next_local, type_for};
 use cad_syntax::{CadType, Name};
+use cad_typed_rows::discard_argument;
 use std::alloc::{AllocError, Global};
 use std::slice::from_ref;
 
@@ -45,48 +49,72 @@ pub fn test_scope(x: &Option<TestTyping>) -> &[Local]
     }
 }
 
+/// The variable in the elaborated tree of one that isn't needed behind it.
+fn entry_for(env: Environment<'_>, v: Local) -> Result<Variable, AllocError>
+    ensures { IfOk result (λ x. variable_of x ≡ local_spec.entry_of (environment_of env.entry) (local_of v)) }
+{
+    let entry = entry_of(env, &v);
+    discard_local(v);
+    entry
+}
+
 /// An `if let` with both of its blocks.
 fn content_tree(
     env: Environment<'_>,
     at: u64,
-    v: &Local,
+    v: Local,
     value: Argument,
     then: TypedBlock,
     otherwise: TypedBlock,
 ) -> Result<TypedStatement, AllocError>
-    ensures { IfOk result (λ s. statement_of s ≡ spec.test_tree (environment_of env.entry) at (spec.content_test (local_of v.now) (argument_of value).value (argument_of value).target) (block_of then) (block_of otherwise)) }
+    ensures { IfOk result (λ s. statement_of s ≡ spec.test_tree (environment_of env.entry) at (spec.content_test (local_of v) (argument_of value).value (argument_of value).target) (block_of then) (block_of otherwise)) }
 {
-    let variable = entry_of(env, v)?;
-    Ok(TypedStatement::IfLet {
-        at,
-        variable,
-        value,
-        then,
-        otherwise,
-    })
+    match entry_for(env, v) {
+        Ok(variable) => Ok(TypedStatement::IfLet {
+            at,
+            variable,
+            value,
+            then,
+            otherwise,
+        }),
+        Err(error) => {
+            discard_argument(value);
+            discard_block(then);
+            discard_block(otherwise);
+            Err(error)
+        }
+    }
 }
 
 /// A failable cast of a resource with both of its blocks.
 fn cast_tree(
     env: Environment<'_>,
     at: u64,
-    v: &Local,
+    v: Local,
     place: Place,
     target: CadType,
     then: TypedBlock,
     otherwise: TypedBlock,
 ) -> Result<TypedStatement, AllocError>
-    ensures { IfOk result (λ s. statement_of s ≡ spec.test_tree (environment_of env.entry) at (spec.cast_test (local_of v.now) (place_of place) (pure_type target)) (block_of then) (block_of otherwise)) }
+    ensures { IfOk result (λ s. statement_of s ≡ spec.test_tree (environment_of env.entry) at (spec.cast_test (local_of v) (place_of place) (pure_type target)) (block_of then) (block_of otherwise)) }
 {
-    let variable = entry_of(env, v)?;
-    Ok(TypedStatement::IfCast {
-        at,
-        variable,
-        place,
-        target,
-        then,
-        otherwise,
-    })
+    match entry_for(env, v) {
+        Ok(variable) => Ok(TypedStatement::IfCast {
+            at,
+            variable,
+            place,
+            target,
+            then,
+            otherwise,
+        }),
+        Err(error) => {
+            discard_place(place);
+            discard_type(target);
+            discard_block(then);
+            discard_block(otherwise);
+            Err(error)
+        }
+    }
 }
 
 /// An `if` with both of its blocks.
@@ -106,9 +134,9 @@ fn test_tree(
             then,
             otherwise,
         }),
-        TestTyping::Content(v, value) => content_tree(env, at, &v, value, then, otherwise),
+        TestTyping::Content(v, value) => content_tree(env, at, v, value, then, otherwise),
         TestTyping::Cast(v, place, target) => {
-            cast_tree(env, at, &v, place, target, then, otherwise)
+            cast_tree(env, at, v, place, target, then, otherwise)
         }
     }
 }
@@ -125,8 +153,8 @@ fn if_joined(
 {
     match otherwise {
         Err(stop) => {
-            drop(x);
-            drop(then);
+            discard_test_typing(x);
+            discard_block(then);
             Ok(Err(stop))
         }
         Ok((b, next)) => {
@@ -148,8 +176,8 @@ fn if_behind(
 {
     match then {
         Err(stop) => {
-            drop(x);
-            drop(otherwise);
+            discard_test_typing(x);
+            discard_judged_block(otherwise);
             Ok(Err(stop))
         }
         Ok((a, _)) => if_joined(env, at, x, a, otherwise),
@@ -168,8 +196,8 @@ pub fn if_typed(
 {
     match x {
         None => {
-            drop(then);
-            drop(otherwise);
+            discard_judged_block(then);
+            discard_judged_block(otherwise);
             Ok(Err(at))
         }
         Some(test) => if_behind(env, at, test, then, otherwise),
@@ -197,7 +225,13 @@ pub fn bound_content(
 ) -> Result<TestTyping, AllocError>
     ensures { IfOk result (λ x. test_typing_of x ≡ spec.content_test (local_spec.next_local (environment_of env.entry) kind name.now (pure_type t.now)) (argument_of value).value (argument_of value).target) }
 {
-    Ok(TestTyping::Content(next_local(env, kind, name, t)?, value))
+    match next_local(env, kind, name, t) {
+        Ok(v) => Ok(TestTyping::Content(v, value)),
+        Err(error) => {
+            discard_argument(value);
+            Err(error)
+        }
+    }
 }
 
 /// A failable cast of a variable, which is bound to the written type, or else to that of the cast.
@@ -212,9 +246,49 @@ pub fn bound_cast(
 ) -> Result<Option<TestTyping>, AllocError>
     ensures { IfOk result (λ x. option_map test_typing_of x ≡ (spec.type_for (environment_of env.entry) (option_map annotation_of written.now) (pure_type t) >=> (λ u. Some (spec.cast_test (local_spec.next_local (environment_of env.entry) kind name.now u) (typed.variable number) (pure_type t))))) }
 {
-    let Some(u) = type_for(alloc, env, written, &t)? else {
-        return Ok(None);
-    };
-    let v = next_local(env, kind, name, &u)?;
-    Ok(Some(TestTyping::Cast(v, variable_place(number), t)))
+    match type_for(alloc, env, written, &t) {
+        Ok(Some(u)) => Ok(Some(cast_as(env, kind, name, number, u, t)?)),
+        Ok(None) => {
+            discard_type(t);
+            Ok(None)
+        }
+        Err(error) => {
+            discard_type(t);
+            Err(error)
+        }
+    }
+}
+
+/// A failable cast of a variable, which is bound to a type.
+fn cast_as(
+    env: Environment<'_>,
+    kind: VariableKind,
+    name: &Name,
+    number: u32,
+    u: CadType,
+    t: CadType,
+) -> Result<TestTyping, AllocError>
+    ensures { IfOk result (λ x. test_typing_of x ≡ spec.cast_test (local_spec.next_local (environment_of env.entry) kind name.now (pure_type u)) (typed.variable number) (pure_type t)) }
+{
+    match next_local_of(env, kind, name, u) {
+        Ok(v) => Ok(TestTyping::Cast(v, variable_place(number), t)),
+        Err(error) => {
+            discard_type(t);
+            Err(error)
+        }
+    }
+}
+
+/// The variable that is declared next, of a type that isn't needed behind it.
+fn next_local_of(
+    env: Environment<'_>,
+    kind: VariableKind,
+    name: &Name,
+    u: CadType,
+) -> Result<Local, AllocError>
+    ensures { IfOk result (λ v. local_of v ≡ local_spec.next_local (environment_of env.entry) kind name.now (pure_type u)) }
+{
+    let v = next_local(env, kind, name, &u);
+    discard_type(u);
+    v
 }

@@ -16,3 +16,9 @@ pub use simple::nothing_returned;
 pub use switches::switch_typed;
 pub use typing::{ForTyping, StatementTyping, SwitchTyping, TestTyping};
 pub use variables::{alone, beside_variable, declared, targeted};
+// For the crates above, which let nothing with a tree in it go in another way.
+pub use blocks::discard_begun;
+pub use typing::{
+    discard_for_typing, discard_judged_block, discard_judged_blocks, discard_judged_statement,
+    discard_statement_typing, discard_switch_typing, discard_test_typing,
+};

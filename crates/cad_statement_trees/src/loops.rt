@@ -1,5 +1,5 @@
 // Loops: their variables and trees.
-ghost use Rattle.std.specs.Prelude.{◌≡◌, IfOk, Ok, ok_or, option_map, map};
+ghost use Rattle.std.specs.Prelude.{◌≡◌, ◌∷◌, [], IfOk, OnOk, Ok, ok_or, option_map, map};
 ghost use Rattle.cad_syntax.specs.Types.{pure_type};
 ghost use Rattle.cad_declarations.specs.Typed as typed;
 ghost use Rattle.cad_declarations.specs.Views.{block_of, statement_of, variable_of};
@@ -12,12 +12,18 @@ ghost use Rattle.cad_statement_parts.specs.Views.{judged_at};
 ghost use Rattle.cad_statement_trees.specs.Loops.{for_variables_of, for_with, variables_over};
 ghost use Rattle.cad_statement_trees.specs.Views.{for_typing_of, statement_typing_of};
 
-use crate::typing::{ForTyping, StatementTyping};
+use crate::typing::{ForTyping, StatementTyping, discard_for_typing, discard_judged_block};
 use crate::variables::alone;
-use cad_declarations::{Argument, TypedBlock, TypedStatement, Variable};
-use cad_environment::{Environment, Local, Typing};
-use cad_statement_parts::{ForVariables, copied, entry_of, for_variables, gone_over};
+use cad_declarations::{
+    Argument, TypedBlock, TypedStatement, Variable, discard_block, discard_type,
+};
+use cad_environment::{Environment, Local, Typing, discard_typing};
+use cad_statement_parts::{
+    ForVariables, discard_local, discard_locals, discard_maybe_local, entry_of, for_variables,
+    gone_over, push_copy,
+};
 use cad_syntax::{CadType, Name};
+use cad_typed_rows::discard_maybe_variable;
 use std::alloc::{AllocError, Global};
 
 /// The variables of a `for`, in a scope outside its block.
@@ -25,13 +31,28 @@ fn for_locals(alloc: Global, x: &ForTyping) -> Result<Vec<Local>, AllocError>
     ensures { IfOk result (λ all. map local_of all.items ≡ spec.for_locals (for_typing_of x.now)) }
 {
     let mut all = Vec::new(alloc);
-    all.push(copied(&x.element)?)?;
-    match &x.index {
-        None => Ok(all),
-        Some(index) => {
-            all.push(copied(index)?)?;
-            Ok(all)
+    match push_variables(&mut all, &x.element, &x.index) {
+        Ok(()) => Ok(all),
+        Err(error) => {
+            discard_locals(all);
+            Err(error)
         }
+    }
+}
+
+/// Adds the variables of a `for` to none.
+fn push_variables(
+    all: &mut Vec<Local>,
+    element: &Local,
+    index: &Option<Local>,
+) -> Result<(), AllocError>
+    requires { all.old.items ≡ [] }
+    ensures { OnOk result (map local_of all.new.items ≡ local_of element.now ∷ spec.index_locals (option_map local_of index.now)) }
+{
+    push_copy(all, element)?;
+    match index {
+        None => Ok(()),
+        Some(index) => push_copy(all, index),
     }
 }
 
@@ -64,8 +85,13 @@ fn for_entries(
     ensures element { IfOk result (λ v. variable_of v.1 ≡ local_spec.entry_of (environment_of env.entry) (for_typing_of x.now).element) }
 {
     let index = index_entry(env, &x.index)?;
-    let element = entry_of(env, &x.element)?;
-    Ok((index, element))
+    match entry_of(env, &x.element) {
+        Ok(element) => Ok((index, element)),
+        Err(error) => {
+            discard_maybe_variable(index);
+            Err(error)
+        }
+    }
 }
 
 /// A `for` with its block.
@@ -77,14 +103,24 @@ fn for_tree(
 ) -> Result<TypedStatement, AllocError>
     ensures { IfOk result (λ s. statement_of s ≡ spec.for_tree (environment_of env.entry) at (for_typing_of x) (block_of body)) }
 {
-    let (index, variable) = for_entries(env, &x)?;
-    Ok(TypedStatement::For {
-        at,
-        index,
-        variable,
-        array: x.array,
-        body,
-    })
+    match for_entries(env, &x) {
+        Ok((index, variable)) => {
+            discard_maybe_local(x.index);
+            discard_local(x.element);
+            Ok(TypedStatement::For {
+                at,
+                index,
+                variable,
+                array: x.array,
+                body,
+            })
+        }
+        Err(error) => {
+            discard_for_typing(x);
+            discard_block(body);
+            Err(error)
+        }
+    }
 }
 
 /// A `for` by its variables and its block: a statement and the number behind it, or where it is ill-typed.
@@ -96,13 +132,31 @@ pub fn for_typed(
 ) -> Result<Result<(StatementTyping, u64), u64>, AllocError>
     ensures { IfOk result (λ o. judged_at statement_typing_of o ≡ (continued (ok_or (option_map for_typing_of x) at) (λ t. continued (judged_at block_of body) (λ a. Ok (spec.alone (spec.for_tree (environment_of env.entry) at t a.0), a.1))))) }
 {
-    let Some(variables) = x else {
-        return Ok(Err(at));
-    };
+    match x {
+        None => {
+            discard_judged_block(body);
+            Ok(Err(at))
+        }
+        Some(variables) => for_joined(env, at, variables, body),
+    }
+}
+
+/// A `for` behind its variables.
+fn for_joined(
+    env: Environment<'_>,
+    at: u64,
+    x: ForTyping,
+    body: Result<(TypedBlock, u64), u64>,
+) -> Result<Result<(StatementTyping, u64), u64>, AllocError>
+    ensures { IfOk result (λ o. judged_at statement_typing_of o ≡ (continued (judged_at block_of body) (λ a. Ok (spec.alone (spec.for_tree (environment_of env.entry) at (for_typing_of x) a.0), a.1)))) }
+{
     match body {
-        Err(stop) => Ok(Err(stop)),
+        Err(stop) => {
+            discard_for_typing(x);
+            Ok(Err(stop))
+        }
         Ok((a, next)) => {
-            let tree = for_tree(env, at, variables, a)?;
+            let tree = for_tree(env, at, x, a)?;
             Ok(Ok((alone(tree), next)))
         }
     }
@@ -116,15 +170,33 @@ pub fn while_typed(
 ) -> Result<(StatementTyping, u64), u64>
     ensures { judged_at statement_typing_of result ≡ (continued (ok_or (option_map typing_of x) at) (λ t. continued (judged_at block_of body) (λ a. Ok (spec.alone (typed.while_loop at t.term a.0), a.1)))) }
 {
-    let Some(test) = x else {
-        return Err(at);
-    };
+    match x {
+        None => {
+            discard_judged_block(body);
+            Err(at)
+        }
+        Some(test) => while_joined(at, test, body),
+    }
+}
+
+/// A `while` behind its test.
+fn while_joined(
+    at: u64,
+    x: Typing,
+    body: Result<(TypedBlock, u64), u64>,
+) -> Result<(StatementTyping, u64), u64>
+    ensures { judged_at statement_typing_of result ≡ (continued (judged_at block_of body) (λ a. Ok (spec.alone (typed.while_loop at (typing_of x).term a.0), a.1))) }
+{
     match body {
-        Err(stop) => Err(stop),
+        Err(stop) => {
+            discard_typing(x);
+            Err(stop)
+        }
         Ok((a, next)) => {
+            discard_type(x.declared);
             let tree = TypedStatement::While {
                 at,
-                test: test.term,
+                test: x.term,
                 body: a,
             };
             Ok((alone(tree), next))
@@ -170,7 +242,10 @@ fn for_made(x: Typing, variables: Option<ForVariables>) -> Option<ForTyping>
 {
     match variables {
         Some(found) => Some(for_elements(x, found)),
-        None => None,
+        None => {
+            discard_typing(x);
+            None
+        }
     }
 }
 
@@ -183,6 +258,11 @@ pub fn for_over(
 ) -> Result<Option<ForTyping>, AllocError>
     ensures { IfOk result (λ o. option_map for_typing_of o ≡ blocks_spec.for_over (environment_of env.entry) index.now name.now (typing_of x)) }
 {
-    let variables = variables_over(env, index, name, &x.declared)?;
-    Ok(for_made(x, variables))
+    match variables_over(env, index, name, &x.declared) {
+        Ok(variables) => Ok(for_made(x, variables)),
+        Err(error) => {
+            discard_typing(x);
+            Err(error)
+        }
+    }
 }

@@ -1,5 +1,5 @@
 // The trees of `switch`.
-ghost use Rattle.std.specs.Prelude.{◌≡◌, IfOk, Ok, map, ok_or, option_map};
+ghost use Rattle.std.specs.Prelude.{◌≡◌, [], IfOk, OnOk, Ok, map, ok_or, option_map};
 ghost use Rattle.cad_declarations.specs.Typed as typed;
 ghost use Rattle.cad_declarations.specs.Views.{block_of, statement_of, term_of};
 ghost use Rattle.cad_declarations.specs.Views as typed_views;
@@ -8,10 +8,15 @@ ghost use Rattle.cad_statement_parts.specs.Blocks.{continued};
 ghost use Rattle.cad_statement_parts.specs.Views.{judged_at};
 ghost use Rattle.cad_statement_trees.specs.Views.{blocks_in, statement_typing_of, switch_typing_of};
 
-use crate::typing::{StatementTyping, SwitchTyping};
+use crate::typing::{
+    StatementTyping, SwitchTyping, discard_judged_block, discard_judged_blocks,
+    discard_switch_typing,
+};
 use crate::variables::alone;
-use cad_declarations::{Term, TypedBlock, TypedCase, TypedStatement};
+use cad_declarations::{Term, TypedBlock, TypedCase, TypedStatement, discard_block, discard_term};
+use cad_typed_rows::{discard_blocks, discard_cases, discard_terms, push_case};
 use std::alloc::{AllocError, Global};
+use std::collections::VecDeque;
 
 /// A value with its block.
 fn case_with(value: Term, body: TypedBlock) -> TypedCase
@@ -19,6 +24,27 @@ fn case_with(value: Term, body: TypedBlock) -> TypedCase
     ensures body { (typed_views.case_of result).body ≡ block_of body }
 {
     TypedCase { value, body }
+}
+
+/// Adds each value with its block to none.
+fn push_cases(
+    all: &mut Vec<TypedCase>,
+    left: &mut VecDeque<Term>,
+    rest: &mut VecDeque<TypedBlock>,
+) -> Result<(), AllocError>
+    requires { all.old.items ≡ [] }
+    ensures { OnOk result (typed.cases_of (map typed_views.case_of all.new.items) ≡ spec.cases_with (map term_of left.old.items) (map block_of rest.old.items)) }
+{
+    while let Some(value) = left.pop_front() {
+        match rest.pop_front() {
+            Some(body) => push_case(all, case_with(value, body))?,
+            None => {
+                discard_term(value);
+                return Ok(());
+            }
+        }
+    }
+    Ok(())
 }
 
 /// Each value with its block.
@@ -29,16 +55,19 @@ fn cases_with(
 ) -> Result<Vec<TypedCase>, AllocError>
     ensures { IfOk result (λ all. typed.cases_of (map typed_views.case_of all.items) ≡ spec.cases_with (map term_of values.items) (map block_of bodies.items)) }
 {
-    let mut left = values.into_iter();
-    let mut rest = bodies.into_iter();
+    let mut left = VecDeque::from_vec(values);
+    let mut rest = VecDeque::from_vec(bodies);
     let mut all = Vec::new(alloc);
-    while let Some(value) = left.next() {
-        let Some(body) = rest.next() else {
-            return Ok(all);
-        };
-        all.push(case_with(value, body))?;
+    let done = push_cases(&mut all, &mut left, &mut rest);
+    discard_terms(left.into_vec());
+    discard_blocks(rest.into_vec());
+    match done {
+        Ok(()) => Ok(all),
+        Err(error) => {
+            discard_cases(all);
+            Err(error)
+        }
     }
-    Ok(all)
 }
 
 /// A `switch` with its blocks.
@@ -51,13 +80,19 @@ fn switch_tree(
 ) -> Result<TypedStatement, AllocError>
     ensures { IfOk result (λ s. statement_of s ≡ typed.switch at (switch_typing_of x).value (spec.cases_with (switch_typing_of x).cases (blocks_in bodies)) (block_of otherwise)) }
 {
-    let cases = cases_with(alloc, x.cases, bodies)?;
-    Ok(TypedStatement::Switch {
-        at,
-        value: x.value,
-        cases,
-        default: otherwise,
-    })
+    match cases_with(alloc, x.cases, bodies) {
+        Ok(cases) => Ok(TypedStatement::Switch {
+            at,
+            value: x.value,
+            cases,
+            default: otherwise,
+        }),
+        Err(error) => {
+            discard_term(x.value);
+            discard_block(otherwise);
+            Err(error)
+        }
+    }
 }
 
 /// A `switch` behind the blocks of its cases.
@@ -71,7 +106,11 @@ fn switch_joined(
     ensures { IfOk result (λ o. judged_at statement_typing_of o ≡ (continued (judged_at block_of otherwise) (λ b. Ok (spec.alone (typed.switch at (switch_typing_of x).value (spec.cases_with (switch_typing_of x).cases (blocks_in bodies)) b.0), b.1)))) }
 {
     match otherwise {
-        Err(stop) => Ok(Err(stop)),
+        Err(stop) => {
+            discard_switch_typing(x);
+            discard_blocks(bodies);
+            Ok(Err(stop))
+        }
         Ok((b, next)) => {
             let tree = switch_tree(alloc, at, x, bodies, b)?;
             Ok(Ok((alone(tree), next)))
@@ -89,11 +128,32 @@ pub fn switch_typed(
 ) -> Result<Result<(StatementTyping, u64), u64>, AllocError>
     ensures { IfOk result (λ o. judged_at statement_typing_of o ≡ (continued (ok_or (option_map switch_typing_of x) at) (λ t. continued (judged_at blocks_in bodies) (λ bs. continued (judged_at block_of otherwise) (λ b. Ok (spec.alone (typed.switch at t.value (spec.cases_with t.cases bs.0) b.0), b.1)))))) }
 {
-    let Some(values) = x else {
-        return Ok(Err(at));
-    };
+    match x {
+        None => {
+            discard_judged_blocks(bodies);
+            discard_judged_block(otherwise);
+            Ok(Err(at))
+        }
+        Some(values) => switch_behind(alloc, at, values, bodies, otherwise),
+    }
+}
+
+/// A `switch` behind its values.
+fn switch_behind(
+    alloc: Global,
+    at: u64,
+    x: SwitchTyping,
+    bodies: Result<(Vec<TypedBlock>, u64), u64>,
+    otherwise: Result<(TypedBlock, u64), u64>,
+) -> Result<Result<(StatementTyping, u64), u64>, AllocError>
+    ensures { IfOk result (λ o. judged_at statement_typing_of o ≡ (continued (judged_at blocks_in bodies) (λ bs. continued (judged_at block_of otherwise) (λ b. Ok (spec.alone (typed.switch at (switch_typing_of x).value (spec.cases_with (switch_typing_of x).cases bs.0) b.0), b.1))))) }
+{
     match bodies {
-        Err(stop) => Ok(Err(stop)),
-        Ok((all, _)) => switch_joined(alloc, at, values, all, otherwise),
+        Err(stop) => {
+            discard_switch_typing(x);
+            discard_judged_block(otherwise);
+            Ok(Err(stop))
+        }
+        Ok((all, _)) => switch_joined(alloc, at, x, all, otherwise),
     }
 }

@@ -5,11 +5,12 @@ ghost use Rattle.cad_declarations.specs.Typed as typed;
 ghost use Rattle.cad_declarations.specs.Views.{argument_of, statement_of, term_of, variable_of};
 ghost use Rattle.cad_environment.specs.Views.{environment_of, local_of, typing_of};
 ghost use Rattle.cad_typing.specs.Containers as containers;
+ghost use Rattle.cad_typing.specs.Locals as local_spec;
 ghost use Rattle.cad_typing.specs.StatementForms as spec;
 ghost use Rattle.cad_statement_trees.specs.Views.{statement_typing_of};
 
 use crate::typing::StatementTyping;
-use cad_declarations::{Argument, Term, TypedStatement, Variable};
+use cad_declarations::{Argument, Term, TypedStatement, Variable, discard_term, discard_type};
 use cad_environment::{Environment, Local, Typing};
 use cad_grammar::VariableKind;
 use cad_statement_parts::new_variable;
@@ -42,6 +43,7 @@ pub fn targeted(x: Typing, target: CadType) -> Argument
     ensures value { term_of result.value ≡ (typing_of x).term }
     ensures of { pure_type result.target ≡ pure_type target }
 {
+    discard_type(x.declared);
     Argument {
         value: x.term,
         target,
@@ -70,10 +72,31 @@ fn declared_with(
 ) -> Result<StatementTyping, AllocError>
     ensures { IfOk result (λ s. statement_typing_of s ≡ spec.declared (environment_of env.entry) at kind name.now (record { value = term_of value; target = pure_type target })) }
 {
-    let (variable, v) = new_variable(env, kind, name, &target)?;
-    drop(target);
-    let tree = declare_tree(at, variable, value);
-    Ok(beside_variable(tree, v))
+    match variable_as(env, kind, name, target) {
+        Ok((variable, v)) => {
+            let tree = declare_tree(at, variable, value);
+            Ok(beside_variable(tree, v))
+        }
+        Err(error) => {
+            discard_term(value);
+            Err(error)
+        }
+    }
+}
+
+/// The variable that is declared next, of a type that isn't needed behind it.
+fn variable_as(
+    env: Environment<'_>,
+    kind: VariableKind,
+    name: &Name,
+    t: CadType,
+) -> Result<(Variable, Local), AllocError>
+    ensures entry { IfOk result (λ x. variable_of x.0 ≡ local_spec.entry_of (environment_of env.entry) (local_spec.next_local (environment_of env.entry) kind name.now (pure_type t))) }
+    ensures local { IfOk result (λ x. local_of x.1 ≡ local_spec.next_local (environment_of env.entry) kind name.now (pure_type t)) }
+{
+    let v = new_variable(env, kind, name, &t);
+    discard_type(t);
+    v
 }
 
 /// The declaration of a variable with a value.

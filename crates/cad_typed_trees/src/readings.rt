@@ -4,6 +4,7 @@ ghost use Rattle.cad_syntax.specs.Types.{pure_type};
 ghost use Rattle.cad_syntax.specs.Types as types;
 ghost use Rattle.cad_types.specs.Optionals as spec;
 
+use cad_declarations::boxed_type;
 use cad_syntax::{Authorization, Basic, CadType};
 use std::alloc::{AllocError, Global};
 
@@ -19,7 +20,7 @@ pub fn read_through(
     match t {
         CadType::Optional(content) => {
             let content = read_through(alloc, right, content)?;
-            Ok(CadType::Optional(Box::new(alloc, content)?))
+            Ok(CadType::Optional(boxed_type(alloc, content)?))
         }
         CadType::Array(_)
         | CadType::Dictionary(_, _)
@@ -33,8 +34,9 @@ pub fn read_through(
 fn reference_to(alloc: Global, right: &Authorization, t: &CadType) -> Result<CadType, AllocError>
     ensures { IfOk result (λ made. pure_type made ≡ types.reference right.now (pure_type t.now)) }
 {
-    let target = Box::new(alloc, t.clone()?)?;
-    Ok(CadType::Reference(right.clone()?, target))
+    let right = right.clone()?;
+    let target = boxed_type(alloc, t.clone()?)?;
+    Ok(CadType::Reference(right, target))
 }
 
 fn reading_basic(alloc: Global, right: &Authorization, basic: Basic) -> Result<CadType, AllocError>

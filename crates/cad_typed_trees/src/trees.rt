@@ -4,7 +4,10 @@ ghost use Rattle.cad_syntax.specs.Types.{pure_type};
 ghost use Rattle.cad_declarations.specs.Typed as tree;
 ghost use Rattle.cad_declarations.specs.Views.{place_of, use_of, term_of, targeted};
 
-use cad_declarations::{Argument, Place, Term, Use};
+use cad_declarations::{
+    Argument, Place, Term, Use, boxed_place, boxed_term, boxed_use, discard_boxed_place,
+    discard_term, discard_type, discard_use,
+};
 use cad_syntax::{Authorization, CadType, Name, TypeId};
 use cad_types::Builtin;
 use std::alloc::{AllocError, Global};
@@ -13,8 +16,59 @@ use std::alloc::{AllocError, Global};
 pub fn field_place(alloc: Global, base: Place, of: CadType, name: Name) -> Result<Place, AllocError>
     ensures { IfOk result (λ p. place_of p ≡ tree.field (place_of base) (pure_type of) name) }
 {
-    let base = Box::new(alloc, base)?;
-    Ok(Place::Field { base, of, name })
+    match boxed_place(alloc, base) {
+        Ok(base) => Ok(Place::Field { base, of, name }),
+        Err(error) => {
+            discard_type(of);
+            Err(error)
+        }
+    }
+}
+
+/// A place and an expression that are parts of a tree.
+fn boxed_indexed(
+    alloc: Global,
+    base: Place,
+    index: Term,
+) -> Result<(Box<Place>, Box<Term>), AllocError>
+    ensures place { IfOk result (λ both. both.0.value ≡ base) }
+    ensures index { IfOk result (λ both. both.1.value ≡ index) }
+{
+    let base = match boxed_place(alloc, base) {
+        Ok(base) => base,
+        Err(error) => {
+            discard_term(index);
+            return Err(error);
+        }
+    };
+    match boxed_term(alloc, index) {
+        Ok(index) => Ok((base, index)),
+        Err(error) => {
+            discard_boxed_place(base);
+            Err(error)
+        }
+    }
+}
+
+/// A place and a use of it that are parts of a tree.
+fn boxed_used(alloc: Global, base: Place, usage: Use) -> Result<(Box<Place>, Box<Use>), AllocError>
+    ensures place { IfOk result (λ both. both.0.value ≡ base) }
+    ensures usage { IfOk result (λ both. both.1.value ≡ usage) }
+{
+    let base = match boxed_place(alloc, base) {
+        Ok(base) => base,
+        Err(error) => {
+            discard_use(usage);
+            return Err(error);
+        }
+    };
+    match boxed_use(alloc, usage) {
+        Ok(usage) => Ok((base, usage)),
+        Err(error) => {
+            discard_boxed_place(base);
+            Err(error)
+        }
+    }
 }
 
 /// An element of a place of a type.
@@ -26,16 +80,20 @@ pub fn element_place(
 ) -> Result<Place, AllocError>
     ensures { IfOk result (λ p. place_of p ≡ tree.element (place_of base) (pure_type of) (term_of index)) }
 {
-    let base = Box::new(alloc, base)?;
-    let index = Box::new(alloc, index)?;
-    Ok(Place::Element { base, of, index })
+    match boxed_indexed(alloc, base, index) {
+        Ok((base, index)) => Ok(Place::Element { base, of, index }),
+        Err(error) => {
+            discard_type(of);
+            Err(error)
+        }
+    }
 }
 
 /// The content of an optional place: whether nil is an error there.
 pub fn content_place(alloc: Global, base: Place, forces: bool) -> Result<Place, AllocError>
     ensures { IfOk result (λ p. place_of p ≡ tree.content (place_of base) forces) }
 {
-    let base = Box::new(alloc, base)?;
+    let base = boxed_place(alloc, base)?;
     Ok(Place::Content { base, forces })
 }
 
@@ -83,8 +141,7 @@ pub fn builtin_call_use(member: Builtin, types: Vec<CadType>, arguments: Vec<Arg
 pub fn on_term(alloc: Global, place: Place, usage: Use) -> Result<Term, AllocError>
     ensures { IfOk result (λ x. term_of x ≡ tree.on (place_of place) (use_of usage)) }
 {
-    let place = Box::new(alloc, place)?;
-    let usage = Box::new(alloc, usage)?;
+    let (place, usage) = boxed_used(alloc, place, usage)?;
     Ok(Term::On(place, usage))
 }
 
@@ -92,8 +149,7 @@ pub fn on_term(alloc: Global, place: Place, usage: Use) -> Result<Term, AllocErr
 pub fn chain_term(alloc: Global, base: Place, usage: Use, wraps: bool) -> Result<Term, AllocError>
     ensures { IfOk result (λ x. term_of x ≡ tree.chain (place_of base) (use_of usage) wraps) }
 {
-    let base = Box::new(alloc, base)?;
-    let member = Box::new(alloc, usage)?;
+    let (base, member) = boxed_used(alloc, base, usage)?;
     Ok(Term::Chain {
         base,
         member,
@@ -105,9 +161,13 @@ pub fn chain_term(alloc: Global, base: Place, usage: Use, wraps: bool) -> Result
 pub fn index_term(alloc: Global, base: Place, of: CadType, index: Term) -> Result<Term, AllocError>
     ensures { IfOk result (λ x. term_of x ≡ tree.index (place_of base) (pure_type of) (term_of index)) }
 {
-    let base = Box::new(alloc, base)?;
-    let index = Box::new(alloc, index)?;
-    Ok(Term::Index { base, of, index })
+    match boxed_indexed(alloc, base, index) {
+        Ok((base, index)) => Ok(Term::Index { base, of, index }),
+        Err(error) => {
+            discard_type(of);
+            Err(error)
+        }
+    }
 }
 
 /// The case of an enum with this number.

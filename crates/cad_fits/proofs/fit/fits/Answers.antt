@@ -1,4 +1,3 @@
-use Rattle.std.proofs.Common.{◌≡◌}
 use Rattle.cad_shapes.specs.Held.{shapes_of}
 use Rattle.cad_syntax.specs.Types.{pure_type}
 use Rattle.cad_values.specs.Values.{pure_value}

@@ -1,4 +1,4 @@
-use Rattle.std.proofs.Common.{◌≡◌, drop, map, length}
+use Rattle.std.proofs.Common.{◌≡◌, drop, map}
 use Rattle.cad_shapes.specs.Held.{shapes_of}
 use Rattle.cad_shapes.specs.Views as shape
 use Rattle.cad_syntax.specs.Types.{pure_type}

@@ -1,8 +1,7 @@
-use Rattle.std.proofs.Common.{◌≡◌, ◌≢◌, ◌+◌, List, [], ◌∷◌, drop, map}
+use Rattle.std.proofs.Common.{drop, map}
 use Rattle.std.specs.Prelude.{◌↔◌}
-use Rattle.cad_values.specs.Keys.{key_form, KeysDiffer}
+use Rattle.cad_values.specs.Keys.{key_form}
 use Rattle.cad_values.specs.Values.{pure_entry, entries_of, keys}
-use Rattle.cad_values.specs.declared.value.DictionaryEntry.{DictionaryEntry}
 use Rattle.cad_fits.specs.Keys.{Lacks}
 use Rattle.cad_fits.proofs.keys.lacks.Given as goal
 

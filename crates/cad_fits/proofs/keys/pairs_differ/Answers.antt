@@ -1,4 +1,4 @@
-use Rattle.std.proofs.Common.{◌≡◌, ◌+◌, List, drop, map}
+use Rattle.std.proofs.Common.{◌+◌, List, drop, map}
 use Rattle.cad_values.specs.Keys.{key_form, KeysDiffer}
 use Rattle.cad_values.specs.Values.{pure_entry, entries_of, keys}
 use Rattle.cad_values.specs.declared.value.DictionaryEntry.{DictionaryEntry}

@@ -1,4 +1,4 @@
-use Rattle.std.proofs.Common.{◌≡◌, ◌∙◌, ap, List}
+use Rattle.std.proofs.Common.{◌∙◌, ap}
 use Rattle.cad_syntax.specs.Types.{PureType, pure_type}
 use Rattle.cad_types.specs.Below.{below}
 use Rattle.cad_types.specs.Views.{declarations}

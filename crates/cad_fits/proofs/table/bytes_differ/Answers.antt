@@ -1,5 +1,5 @@
-use Rattle.std.proofs.Common.{map, arith, subst, ◌∙◌}
-use Rattle.cad_values.specs.Values.{pure_entry, pure_field, PureEntry, PureField}
+use Rattle.std.proofs.Common.{map, arith, subst}
+use Rattle.cad_values.specs.Values.{pure_entry, PureEntry}
 use Rattle.cad_codec.specs.Code.Seen.{Adds}
 use Rattle.cad_fits.specs.Table.{key_bytes}
 use Rattle.cad_codec.proofs.Seen.{differs, repeats}

@@ -3,5 +3,5 @@ use Rattle.cad_syntax.specs.Types.{pure_type}
 use Rattle.cad_typing.specs.Environments.{typed}
 use Rattle.cad_infer_terms.proofs.terms.conditional_typed.Goals as goal
 
-pub returns : goal.returns
-returns c = c.typed.ensures ∙ ap (λ t. typed t (pure_type c.args.declared)) c.in_ok-term.ensures
+pub returns-in-Ok : goal.returns-in-Ok
+returns-in-Ok c = c.typed.ensures ∙ ap (λ t. typed t (pure_type c.args.declared)) c.in-Ok.ensures

@@ -9,11 +9,11 @@ use Rattle.cad_statement_trees.specs.Loops.{for_with}
 use Rattle.cad_statement_trees.proofs.Chosen.{made_of}
 use Rattle.cad_statement_trees.proofs.loops.for_over.Goals as goal
 
-pub returns : goal.returns
-returns c =
+pub returns-in-Ok : goal.returns-in-Ok
+returns-in-Ok c =
     let env = environment_of c.args.env in
     let x = typing_of c.args.x in
     c.for_made.ensures
-    ∙ ap (option_map (for_with x)) c.in_ok-variables.ensures
+    ∙ ap (option_map (for_with x)) c.in-Ok.ensures
     ∙ made_of (element_type (pure_type c.args.x.declared)) (λ u. differs c.args.name.now c.args.index.now && not (resource (kinds env) u))
     (λ (u : PureType). (option_map (index_local env) c.args.index.now, element_local env c.args.index.now c.args.name.now u)) (for_with x)
