@@ -469,7 +469,7 @@ fn judged_parts(
     }
 }
 
-/// The piece of a transaction and those of its parts, from what is told of its declaration.
+/// The piece of a transaction, from what is told of its declaration.
 fn judged_transaction(
     names: Names,
     is_right: bool,

@@ -19,7 +19,7 @@ use cad_statement_trees::{
 };
 use std::alloc::{AllocError, Global};
 
-/// The number behind what was found; where memory ran out, any.
+/// The number behind what was found; where memory ran out, a stop at 0.
 pub fn next_number<T>(found: &Result<Result<(T, u64), u64>, AllocError>) -> Result<u64, u64>
     ensures { result ≡ number_of found.now }
 {

@@ -1,6 +1,7 @@
 // `switch`.
-ghost use Rattle.std.specs.Prelude.{◌≡◌, ◌++◌, ◌∷◌, [], IfOk, OnOk, None, Some, option_map, map};
+ghost use Rattle.std.specs.Prelude.{◌≡◌, ◌&&◌, ◌++◌, ◌∷◌, [], IfOk, OnOk, None, Some, not, option_map, map};
 ghost use Rattle.cad_syntax.specs.Types.{pure_type};
+ghost use Rattle.cad_types.specs.Declarations.{resource};
 ghost use Rattle.cad_grammar.specs.Trees as s;
 ghost use Rattle.cad_grammar.specs.Views.{expr_of, case_of};
 ghost use Rattle.cad_declarations.specs.Views.{term_of};
@@ -49,12 +50,12 @@ fn case_of_nil(
     env: Environment<'_>,
     case: &Expr,
 ) -> Result<Option<Typing>, AllocError>
-    ensures { IfOk result (λ x. option_map typing_of x ≡ (expression_spec.infer (environment_of env.entry) ordinary None (expr_of case.now) >=> (λ y. when (type_spec.is_optional_type y.type) (Some y)))) }
+    ensures { IfOk result (λ x. option_map typing_of x ≡ (expression_spec.infer (environment_of env.entry) ordinary None (expr_of case.now) >=> (λ y. when (type_spec.is_optional_type y.type && not (resource (kinds (environment_of env.entry)) y.type)) (Some y)))) }
 {
     let Some(y) = infer(case, alloc, env, Position::Ordinary, None)? else {
         return Ok(None);
     };
-    if is_optional_type(&y.declared) {
+    if is_optional_type(&y.declared) && !env.is_resource(&y.declared) {
         Ok(Some(y))
     } else {
         discard_typing(y);

@@ -260,7 +260,7 @@ fn type_optional_execute(
     }
 }
 
-/// The number of the last statement that is counted behind these: 0 where there are none.
+/// How many statements there are, those in statements among them; 0 without a block.
 fn count_optional(body: &Option<Vec<Stmt>>) -> Result<u64, AllocError>
     ensures { IfOk result (λ n. n ≡ functions.count_body (option_map (λ v. map stmt_of v.items) body.now)) }
 {

@@ -183,13 +183,13 @@ infer_switched env a = infer env ordinary None a >=> (λ x. when (may_be_switche
 abbrev pub nil_case : PureType → Option Typing → Option Typing
 nil_case t x = when (is_optional_type t) x
 
--- a case is compared with the value by `==`, beside the literal nil as there
+-- a case is compared with the value by `==`; beside the literal nil stands an optional, which isn't of resource type
 abbrev pub infer_case : Environment → s.ExprTree → PureType → s.ExprTree → Option Typing
 infer_case env a t c = by_forms (is_nil a) (is_nil c)
   where
     by_forms : Bool → Bool → Option Typing
     by_forms value_is_nil true = nil_case t (infer env ordinary None c)
-    by_forms true false = infer env ordinary None c >=> (λ y. when (is_optional_type y.type) (Some y))
+    by_forms true false = infer env ordinary None c >=> (λ y. when (is_optional_type y.type && not (resource (kinds env) y.type)) (Some y))
     by_forms false false = infer env ordinary (Some t) c >=> (λ y. when (may_be_equal (kinds env) t y.type) (Some y))
 
 -- the values of all cases
