@@ -29,21 +29,18 @@ use cad_grammar::{
     Argument, BinaryOperator, CastKind, Entry, Expr, TypeAnnotation, TypeExpr, UnaryOperator,
 };
 use cad_infer_calls::{Call, create_call, discard_call};
-use cad_infer_chained::{chain_call_then, chain_place_then, chain_then, force_place_then};
 use cad_infer_containers::{
-    argument, element, expected_argument, expected_element, expected_key, expected_value, may_end,
+    argument, discard_pairs, discard_typings, element, expected_argument, expected_element,
+    expected_key, expected_value, may_end, paired, push_argument, push_pair, push_typing,
 };
 use cad_infer_members::expected_index;
 use cad_infer_parts::{
     Family, alone, arguments_environment, array_then, behind_argument, behind_entry, borrow_then,
-    call_then, cast_expected, cast_position, cast_then, chosen_then, coalesced_then,
-    dictionary_then, flat, force_then, index_environment, index_place_then, index_then,
-    joined_then, literal_of, member_call_then, member_place_then, member_then, named_base,
-    named_call, nil_then, operand_expected, operand_position, operands_then, operator_family,
-    parameter_for, received, unary_then,
-};
-use cad_infer_rows::{
-    discard_pairs, discard_typings, paired, push_argument, push_pair, push_typing,
+    call_then, cast_expected, cast_position, cast_then, chain_call_then, chain_place_then,
+    chain_then, chosen_then, coalesced_then, dictionary_then, flat, force_place_then, force_then,
+    index_environment, index_place_then, index_then, joined_then, literal_of, member_call_then,
+    member_place_then, member_then, named_base, named_call, nil_then, operand_expected,
+    operand_position, operands_then, operator_family, parameter_for, received, unary_then,
 };
 use cad_parameters::{Count, Parameter, Takes};
 use cad_scopes::resolved_annotation;

@@ -7,8 +7,8 @@ ghost use Rattle.cad_infer_containers.specs.Views.{typings_of};
 
 use cad_declarations::{Term, TermEntry, discard_entries, discard_term};
 use cad_environment::{Typing, discard_typing};
-use cad_infer_terms::{array_term, into_term};
-use cad_syntax::{Basic, CadType};
+use cad_infer_terms::into_term;
+use cad_typed_rows::{discard_terms, push_term};
 use std::alloc::{AllocError, Global};
 use std::vec::IntoIter;
 
@@ -31,7 +31,7 @@ pub fn discard_pairs(all: Vec<(Typing, Typing)>) {
 }
 
 /// Lets a key and a value go.
-fn discard_pair(pair: (Typing, Typing)) {
+pub(crate) fn discard_pair(pair: (Typing, Typing)) {
     let (key, value) = pair;
     discard_typing(key);
     discard_typing(value)
@@ -53,24 +53,6 @@ fn discard_left_pairs(all: IntoIter<(Typing, Typing), Global>) {
         discard_pair(pair);
     }
     left.destroy_empty()
-}
-
-/// Lets expressions go: an array of them has the same drop.
-fn discard_terms(terms: Vec<Term>) {
-    discard_term(array_term(CadType::Basic(Basic::Never), terms))
-}
-
-/// Adds an expression.
-fn push_term(all: &mut Vec<Term>, x: Term) -> Result<(), AllocError>
-    ensures { OnOk result (map term_of all.new.items ≡ map term_of all.old.items ++ term_of x ∷ []) }
-{
-    match all.push(x) {
-        Ok(()) => Ok(()),
-        Err(refused) => {
-            discard_term(refused.value);
-            Err(AllocError)
-        }
-    }
 }
 
 /// Adds a key and a value.

@@ -1,14 +1,12 @@
 // Forms that hold no expression, and where the parts of the others stand.
-ghost use Rattle.std.specs.Prelude.{◌≡◌, IfOk, None, Some, option_map, map};
+ghost use Rattle.std.specs.Prelude.{◌≡◌, IfOk, option_map, map};
 ghost use Rattle.cad_grammar.specs.Trees as s;
 ghost use Rattle.cad_grammar.specs.Views.{expr_of, annotation_of, entry_of};
 ghost use Rattle.cad_grammar.specs.Views as grammar;
-ghost use Rattle.cad_declarations.specs.Typed as tree;
-ghost use Rattle.cad_declarations.specs.Views.{argument_of};
 ghost use Rattle.cad_typing.specs.Befores as befores;
 ghost use Rattle.cad_typing.specs.Calls as calls;
 ghost use Rattle.cad_typing.specs.Containers as containers;
-ghost use Rattle.cad_typing.specs.Environments.{when, ◌>=>◌};
+ghost use Rattle.cad_typing.specs.Environments.{◌>=>◌};
 ghost use Rattle.cad_typing.specs.Names as names;
 ghost use Rattle.cad_typing.specs.Receivers as receivers;
 ghost use Rattle.cad_environment.specs.Views.{environment_of, position_of, typing_of, base_of, receiver_of, hidden_of};
@@ -19,14 +17,14 @@ ghost use Rattle.cad_infer_parts.specs.Code.Rows as rows;
 ghost use Rattle.cad_infer_parts.specs.Code.Steps as steps;
 ghost use Rattle.cad_infer_parts.specs.Views.{expected_of};
 
-use cad_declarations::{Argument as Transferred, discard_arguments, discard_type};
+use cad_declarations::discard_type;
 use cad_environment::{
     Base, Environment, Head, Hidden, Position, Receiver, Typing, at_entry, base_of_head, behind,
     beside, head_named, is_before, is_postcondition, self_value, value_of_head,
 };
 use cad_grammar::{Argument, Entry, Expr, TypeAnnotation};
 use cad_infer_calls::{Call, Callee, before_call, call_head};
-use cad_infer_containers::{Next, may_end, next_parameter};
+use cad_infer_containers::{Next, next_parameter};
 use cad_infer_literals::{
     bool_literal, fixed_literal, nil_literal, path_literal, text_literal, whole_literal,
 };
@@ -196,22 +194,6 @@ pub fn behind_argument<'a>(
     ensures { IfOk result (λ e. environment_of e ≡ befores.behind (grammar.argument_of argument.now).value (environment_of env.entry)) }
 {
     behind(alloc, &argument.value, env)
-}
-
-/// The arguments, where no further one is needed.
-pub fn if_ended(
-    count: Count,
-    left: &[Parameter],
-    found: Vec<Transferred>,
-) -> Option<Vec<Transferred>>
-    ensures { option_map (λ v. tree.arguments_of (map argument_of v.items)) result ≡ when (containers.may_end (count_view count) (map parameter_view left.now)) (Some (tree.arguments_of (map argument_of found.items))) }
-{
-    if may_end(count, left) {
-        Some(found)
-    } else {
-        discard_arguments(found);
-        None
-    }
 }
 
 /// The parameter for an argument, and those behind it. None where none is left, or the label is another.

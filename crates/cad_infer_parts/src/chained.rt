@@ -14,7 +14,7 @@ use cad_syntax::Name;
 use std::alloc::{AllocError, Global};
 
 /// The value of a member of what stands before the `?.`.
-#[tactic(auto, unfolding(cad_infer_parts::specs::Code::Steps::chain_then))]
+#[tactic(auto, unfolding(crate::specs::Code::Steps::chain_then))]
 pub fn chain_then(
     alloc: Global,
     env: Environment<'_>,
@@ -30,7 +30,7 @@ pub fn chain_then(
 }
 
 /// Where a member of what stands before the `?.` stands.
-#[tactic(auto, unfolding(cad_infer_parts::specs::Code::Steps::chain_place_then))]
+#[tactic(auto, unfolding(crate::specs::Code::Steps::chain_place_then))]
 pub fn chain_place_then(
     alloc: Global,
     env: Environment<'_>,
@@ -46,7 +46,7 @@ pub fn chain_place_then(
 }
 
 /// A call of a member of what stands before the `?.`.
-#[tactic(auto, unfolding(cad_infer_parts::specs::Code::Steps::chain_call_then))]
+#[tactic(auto, unfolding(crate::specs::Code::Steps::chain_call_then))]
 pub fn chain_call_then(
     alloc: Global,
     env: Environment<'_>,
@@ -63,7 +63,7 @@ pub fn chain_call_then(
 }
 
 /// Where the content of a receiver stands.
-#[tactic(auto, unfolding(cad_infer_parts::specs::Code::Steps::force_place_then))]
+#[tactic(auto, unfolding(crate::specs::Code::Steps::force_place_then))]
 pub fn force_place_then(
     alloc: Global,
     env: Environment<'_>,
