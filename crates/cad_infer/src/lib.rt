@@ -3,8 +3,12 @@
 
 mod expression;
 mod flat;
+mod operators;
+mod places;
+mod rows;
 mod typed;
 
 pub use typed::{infer, infer_place};
 // For the crates above alone: what stands before `.` and `[`, and arguments, by the definitions that the recursion follows.
-pub use expression::{based, infer_arguments};
+pub use places::based;
+pub use rows::infer_arguments;

@@ -5,7 +5,8 @@ ghost use Rattle.cad_typing.specs.Expressions as spec;
 ghost use Rattle.cad_environment.specs.Views.{environment_of, position_of, typing_of, base_of};
 ghost use Rattle.cad_infer_parts.specs.Views.{expected_of};
 
-use crate::expression::{place, typing};
+use crate::expression::typing;
+use crate::places::place;
 use cad_environment::{Base, Environment, Position, Typing};
 use cad_grammar::Expr;
 use cad_syntax::CadType;

@@ -1,5 +1,5 @@
 -- Turns over the values of cases.
-use Rattle.std.proofs.Common.{◌≡◌, ◌∙◌, ℕ, suc, ◌+◌, ◌<◌, ◌≤◌, Bool, true, false, List, [], ◌∷◌, ◌++◌, length, drop, get_or, map, refl, ap, sym, append_assoc}
+use Rattle.std.proofs.Common.{◌≡◌, ◌∙◌, ℕ, ◌+◌, ◌<◌, ◌≤◌, List, [], ◌∷◌, ◌++◌, length, drop, get_or, map, refl, ap, sym, append_assoc}
 use Rattle.std.specs.Prelude.{Option, Some, None, option_map}
 use Rattle.std.proofs.lemmas.List.{append-nil, drop_all}
 use Rattle.cad_syntax.specs.Types.{PureType}
@@ -7,7 +7,7 @@ use Rattle.cad_grammar.specs.Trees as t
 use Rattle.cad_grammar.specs.Views.{case_of}
 use Rattle.cad_grammar.specs.declared.statement.Case.{Case}
 use Rattle.cad_declarations.specs.Typed as e
-use Rattle.cad_typing.specs.Environments.{Environment, Typing, when, ◌>=>◌}
+use Rattle.cad_typing.specs.Environments.{Environment, Typing, ◌>=>◌}
 use Rattle.cad_typing.specs.StatementForms.{infer_case, infer_cases}
 use Rattle.cad_statement_parts.proofs.Sums.{cases_at}
 use Rattle.cad_statement_forms.specs.Views.{terms_before}
