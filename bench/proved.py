@@ -22,7 +22,7 @@ def build(folder, libraries, name, uses, source, proofs, words):
     crates = folder / "crates"
     crates.mkdir(parents=True)
     for library in libraries:
-        shutil.copytree(ROOT / "crates" / library, crates / library, ignore=shutil.ignore_patterns("out", "must-fail"))
+        shutil.copytree(ROOT / "crates" / library, crates / library, ignore=shutil.ignore_patterns("out", "must-fail", "edits"))
     subprocess.run(["git", "init", "-q", "."], cwd=folder, check=True)
     lines = lines_of(libraries) + [f"{name}: {' '.join([*libraries, *uses])}"]
     (folder / "crates.txt").write_text("\n".join(lines) + "\n")
