@@ -11,6 +11,7 @@ String~{\"type\":\"String\",\"value\":\"a\\\"\\\\\\né😀\"}~{\"type\":\"String
 Character~{\"type\":\"Character\",\"value\":\"é\"}~{\"type\":\"Character\",\"value\":\"é\"}\n\
 Character~{\"type\":\"Character\",\"value\":\"é\"}~{\"type\":\"Character\",\"value\":\"é\"}\n\
 Address~{\"type\":\"Address\",\"value\":\"0x1\"}~{\"type\":\"Address\",\"value\":\"0x0000000000000001\"}\n\
+Address~{\"value\":\"0x1\",\"type\":\"Address\"}~{\"type\":\"Address\",\"value\":\"0x0000000000000001\"}\n\
 Address~{\"type\":\"Address\",\"value\":\"0xFfffffffffffffff\"}~{\"type\":\"Address\",\"value\":\"0xffffffffffffffff\"}\n\
 Path~{\"type\":\"Path\",\"value\":{\"domain\":\"storage\",\"identifier\":\"x\"}}~{\"type\":\"Path\",\"value\":{\"domain\":\"storage\",\"identifier\":\"x\"}}\n\
 StoragePath~{\"type\":\"Path\",\"value\":{\"domain\":\"storage\",\"identifier\":\"\"}}~{\"type\":\"Path\",\"value\":{\"domain\":\"storage\",\"identifier\":\"\"}}\n\
