@@ -1,12 +1,13 @@
 #!/usr/bin/env python3
 """Times the checks of programs, and of twice as many or as long ones, through cadence_check.
 
-Each program is accepted. The least processor time of three runs counts, less that of a run over an empty program. The last
-figure is the rate at which Python compiles a text of its own of equal length.
+Each program is accepted. The least processor time of three runs counts, less that of a run over an empty program; the exponent
+is that of the growth between the two sizes. Branches are timed in 1 loop and in 100 too. The last figures are the rate and the
+peak memory on tokens of 1 MB, and the rate at which Python compiles a text of its own of equal length.
 
-usage: bench/checking.py [PROGRAM]
+usage: bench/checking.py [PROGRAM [DIVISOR]]        DIVISOR makes all sizes smaller, for builds that aren't optimized
 """
-import json, pathlib, resource, subprocess, sys, time
+import json, math, os, pathlib, subprocess, sys, time
 
 ROOT = pathlib.Path(__file__).resolve().parent.parent
 TOKEN = """  access(all) entitlement Withdraw%d
@@ -83,14 +84,13 @@ def variables(n):
 
 
 def nested(n):
-    """Values that are negated as deep as it may be, n times."""
-    return main_of("  var a = 1\n" + ("  a = " + "(" * 100 + "a" + ")" * 100 + "\n") * n)
+    """Values in as many brackets as may nest, n times."""
+    return main_of("  var a = 1\n" + ("  a = " + "(" * 127 + "a" + ")" * 127 + "\n") * n)
 
 
-def branches(n):
+def branches(n, loops=100):
     """Resources that each of n branches in a row moves or keeps, inside loops."""
-    one = "    if flag { destroy <-make() } else { let r <- make()\n destroy r }\n"
-    loops = 60
+    one = "    if flag { destroy <-self.make() } else { let r <- self.make()\n destroy r }\n"
     body = "  while flag {\n" * loops + one * n + "  }\n" * loops
     return contract("  access(all) resource R {}\n  access(all) fun make(): @R { return <-create R() }\n  access(all) fun f(flag: Bool) {\n" + body + "  }\n")
 
@@ -103,8 +103,8 @@ ROWS = [
     ("calls of a struct with 500 functions", looks, 5_000, "contract"),
     ("statements", statements, 10_000, "script"),
     ("variables in scope", variables, 1_000, "script"),
-    ("statements with 100 brackets", nested, 500, "script"),
-    ("branches in a row in 60 loops", branches, 500, "contract"),
+    ("statements with 127 brackets", nested, 500, "script"),
+    ("branches in a row in 100 loops", branches, 1_000, "contract"),
 ]
 
 
@@ -113,17 +113,22 @@ def line_of(kind, code):
     return json.dumps({"kind": kind, "code": code, **place}).encode() + b"\n"
 
 
+def once(program, line):
+    """The processor time of a run, and its peak memory in bytes."""
+    with subprocess.Popen(program, stdin=subprocess.PIPE, stdout=subprocess.PIPE) as child:
+        child.stdin.write(line)
+        child.stdin.close()
+        out = child.stdout.read()
+        _, status, used = os.wait4(child.pid, 0)
+        child.returncode = status
+    assert (status, out) == (0, b'{"reply":"accepted"}\n'), out[:300]
+    return used.ru_utime + used.ru_stime, used.ru_maxrss * 1024
+
+
 def run(program, line):
-    """The least time of three runs."""
-    best = None
-    for _ in range(3):
-        before = resource.getrusage(resource.RUSAGE_CHILDREN)
-        out = subprocess.run(program, input=line, check=True, capture_output=True).stdout
-        after = resource.getrusage(resource.RUSAGE_CHILDREN)
-        seconds = after.ru_utime + after.ru_stime - before.ru_utime - before.ru_stime
-        assert out == b'{"reply":"accepted"}\n', out[:300]
-        best = seconds if best is None else min(best, seconds)
-    return best
+    """The least time of three runs, and the peak memory."""
+    runs = [once(program, line) for _ in range(3)]
+    return min(seconds for seconds, _ in runs), max(peak for _, peak in runs)
 
 
 def python_rate(length):
@@ -138,18 +143,32 @@ def timed(text):
     return time.process_time() - start
 
 
+def growth(program, what, code, count, kind, nothing):
+    """Prints the time of a row, its rate, and the growth to twice as many."""
+    one, two = code(count), code(2 * count)
+    first, second = (run(program, line_of(kind, text))[0] - nothing for text in (one, two))
+    rate, exponent = len(one) / first / 1e6, math.log2(second / first)
+    print(f"{what}, {count}: {first * 1000:.0f} ms, {rate:.2f} MB a second; {2 * count}: {second / first:.2f} times, exponent {exponent:.2f}", flush=True)
+
+
+def loops(program, count, nothing):
+    """Prints the time of branches by the nesting of loops."""
+    one, deep = (run(program, line_of("contract", branches(count, depth)))[0] - nothing for depth in (1, 100))
+    print(f"{count} branches in 100 loops: {deep / one:.2f} times the time of 1 loop", flush=True)
+
+
 def main():
-    program = sys.argv[1:] or [str(ROOT / "crates/cadence_check/out/cadence_check")]
-    nothing = run(program, line_of("script", "access(all) fun main() {}"))
+    words = sys.argv[1:]
+    program = words[0] if words else str(ROOT / "crates/cadence_check/out/cadence_check")
+    part = int(words[1]) if words[1:] else 1
+    nothing, held = run(program, line_of("script", "access(all) fun main() {}"))
     for what, code, count, kind in ROWS:
-        one, two = code(count), code(2 * count)
-        first, second = run(program, line_of(kind, one)) - nothing, run(program, line_of(kind, two)) - nothing
-        print(f"{what}, {count}: {first * 1000:.0f} ms, {len(one) / first / 1e6:.2f} MB a second; {2 * count}: {second / first:.2f} times the time", flush=True)
-    whole = tokens(1_100)
-    seconds = run(program, line_of("contract", whole)) - nothing
-    peak = resource.getrusage(resource.RUSAGE_CHILDREN).ru_maxrss * 1024
-    rate = len(whole) / seconds
-    print(f"{len(whole)} bytes of tokens: {rate / 1e6:.2f} MB a second; the most memory of all runs {peak / 1e6:.0f} MB, {peak / len(whole):.0f} times the source")
+        growth(program, what, code, count // part, kind, nothing)
+    loops(program, 1_000 // part, nothing)
+    whole = tokens(1_240 // part)
+    seconds, peak = run(program, line_of("contract", whole))
+    rate = len(whole) / (seconds - nothing)
+    print(f"{len(whole)} bytes of tokens: {rate / 1e6:.2f} MB a second; {peak / 1e6:.0f} MB, {(peak - held) / len(whole):.0f} times the source over an empty program")
     print(f"Python compiles {python_rate(len(whole)) / 1e6:.2f} MB a second: {rate / python_rate(len(whole)):.2f} times its rate")
 
 
