@@ -1,0 +1,9 @@
+mod Complete
+mod Entries
+mod Leaves
+mod Linear
+mod Plain
+mod Settings
+mod Sound
+mod Stable
+mod States
