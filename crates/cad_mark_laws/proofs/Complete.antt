@@ -20,7 +20,7 @@ entered_over : (us : List ℕ) (o : Option (List MarkEntry)) (f : List MarkEntry
 entered_over us None f l d e g = subst (λ z. OverAll us z) (same_some nowhere l e) (nowhere_over us)
 entered_over us (Some n) f l d e g = g n d e
 
-abbrev begun : Bool → PathVariable → List MarkEntry → List MarkEntry
+abbrev pub begun : Bool → PathVariable → List MarkEntry → List MarkEntry
 begun fields v m = record { variable = v.number; mark = begin_mark fields } ∷ m
 
 pub shape : (fields : Bool) (b : PathBody) (m : List MarkEntry) (l : Leaves) → marks fields b m ≡ Some l → OverAll (variables m) l

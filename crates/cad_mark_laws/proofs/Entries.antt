@@ -1,12 +1,12 @@
 -- Lists of marks by the number of a variable.
 use Rattle.std.proofs.Common.{◌≡◌, refl, sym, ◌∙◌, ap, subst, ◌⊎◌, inl, inr, ℕ, Bool, true, false, not, ◌&&◌, ◌||◌, List, [], ◌∷◌, nat_eq, eqb-true, if◌then◌else◌}
-use Rattle.std.proofs.lemmas.Bool.{both_ways, not-true, eqb-false, and_parts, and_cases, cases_Bool, eq-eqb, ne_eqb}
+use Rattle.std.proofs.lemmas.Bool.{true≢false, false≢true, both_ways, not-true, eqb-false, and_parts, and_cases, cases_Bool, eq-eqb, ne_eqb}
 use Rattle.std.specs.Prelude.{Option, Some, None}
 use Rattle.cad_paths.specs.declared.letter.Letter.{Letter}
 use Rattle.cad_paths.specs.declared.letter.Position.{Position}
 use Rattle.cad_paths.specs.Paths.{LetterAt, letter_at, spelled}
 use Rattle.cad_paths.specs.Marks.{Mark, MarkEntry, joined, after_letter, on_entry, on_rest, after_spelling, meet, join, says_less, all_say_less, among}
-use Rattle.cad_mark_laws.proofs.States.{State, is_in, Inhabited, step, onward, run, letter_to, letter_from, letter_inhabited, letter_stuck, in_left, in_right, in_joined}
+use Rattle.cad_mark_laws.proofs.States.{some_is, none_is, some_none, nil_cons, same_head, same_tail, State, is_in, Inhabited, step, onward, run, letter_to, letter_from, letter_inhabited, letter_stuck, joined_left, joined_right, in_joined}
 
 abbrev pub variables : List MarkEntry → List ℕ
 variables [] = []
@@ -29,11 +29,11 @@ distinct [] = true
 distinct (u ∷ us) = not (among us u) && distinct us
 
 pub same_some : {A : Type 0} (x y : A) → Some x ≡ Some y → x ≡ y
-same_some x y e = cc
+same_some x y e = some_is x y e
 
 pub none_some : {A : Type 0} (o : Option A) (x : A) → o ≡ None → o ≡ Some x → ⊥
-none_some None x d e = cc
-none_some (Some y) x d e = cc
+none_some None x d e = none_is x e
+none_some (Some y) x d e = some_none y d
 
 pub same_mark : (o : Option Mark) (q r : Mark) → o ≡ Some q → o ≡ Some r → q ≡ r
 same_mark o q r d e = same_some q r (sym d ∙ e)
@@ -49,7 +49,7 @@ behind x xs u e = ap (λ z. if z then Some x.mark else mark_at u xs) e
 -- ---- which variables there are
 
 pub is_among : (m : List MarkEntry) (u : ℕ) (q : Mark) → mark_at u m ≡ Some q → among (variables m) u ≡ true
-is_among [] u q e = cc
+is_among [] u q e = absurd (none_is q e)
 is_among (x ∷ xs) u q e = by_head (nat_eq x.variable u) refl (λ d. is_among xs u q d)
   where
     by_head : (b : Bool) → nat_eq x.variable u ≡ b → (mark_at u xs ≡ Some q → among (variables xs) u ≡ true) → (nat_eq x.variable u || among (variables xs) u) ≡ true
@@ -57,7 +57,7 @@ is_among (x ∷ xs) u q e = by_head (nat_eq x.variable u) refl (λ d. is_among x
     by_head false d f = ap (λ z. z || among (variables xs) u) d ∙ f (sym (behind x xs u d) ∙ e)
 
 pub has_mark : (m : List MarkEntry) (u : ℕ) → among (variables m) u ≡ true → (q : Mark) × (mark_at u m ≡ Some q)
-has_mark [] u e = cc
+has_mark [] u e = absurd (false≢true e)
 has_mark (x ∷ xs) u e = by_head (nat_eq x.variable u) refl (λ h. has_mark xs u h)
   where
     rest : nat_eq x.variable u ≡ false → among (variables xs) u ≡ true
@@ -82,10 +82,10 @@ abbrev pub Becomes : Bool → Letter → Mark → Mark → Type 0
 Becomes true l q r = after_letter l q ≡ Some r
 Becomes false l q r = q ≡ r
 
-abbrev put : ℕ → Bool → MarkEntry → Option Mark → List MarkEntry → Option (List MarkEntry) → Option (List MarkEntry)
+abbrev pub put : ℕ → Bool → MarkEntry → Option Mark → List MarkEntry → Option (List MarkEntry) → Option (List MarkEntry)
 put v b x o all rest = if b then on_entry v o all else on_rest x rest
 
-Spelled : ℕ → Letter → List MarkEntry → List MarkEntry → Type 0
+abbrev pub Spelled : ℕ → Letter → List MarkEntry → List MarkEntry → Type 0
 Spelled v l m n = (variables n ≡ variables m) × ((u : ℕ) (q r : Mark) → mark_at u m ≡ Some q → mark_at u n ≡ Some r → Becomes (nat_eq u v) l q r)
 
 becomes_by : (a b : Bool) (l : Letter) (q r : Mark) → a ≡ b → Becomes b l q r → Becomes a l q r
@@ -94,7 +94,6 @@ becomes_by a b l q r e h = subst (λ z. Becomes z l q r) (sym e) h
 -- the letter is this entry's
 at_entry : (v : ℕ) (l : Letter) (x : MarkEntry) (xs : List MarkEntry) (r : Mark) → nat_eq x.variable v ≡ true → after_letter l x.mark ≡ Some r
     → Spelled v l (x ∷ xs) (record { variable = v; mark = r } ∷ xs)
-unfolding Spelled
 at_entry v l x xs r d e = (ap (λ z. z ∷ variables xs) (sym same), λ u q k h i. by_same u q k h i (nat_eq v u) refl)
   where
     same : x.variable ≡ v
@@ -112,7 +111,6 @@ at_entry v l x xs r d e = (ap (λ z. z ∷ variables xs) (sym same), λ u q k h 
 
 -- the letter is a later entry's
 at_rest : (v : ℕ) (l : Letter) (x : MarkEntry) (xs ys : List MarkEntry) → nat_eq x.variable v ≡ false → Spelled v l xs ys → Spelled v l (x ∷ xs) (x ∷ ys)
-unfolding Spelled
 at_rest v l x xs ys d h = (ap (λ z. x.variable ∷ z) h.0, λ u q k i j. by_same u q k i j (nat_eq x.variable u) refl)
   where
     by_same : (u : ℕ) (q k : Mark) → mark_at u (x ∷ xs) ≡ Some q → mark_at u (x ∷ ys) ≡ Some k → (b : Bool) → nat_eq x.variable u ≡ b → Becomes (nat_eq u v) l q k
@@ -124,40 +122,37 @@ at_rest v l x xs ys d h = (ap (λ z. x.variable ∷ z) h.0, λ u q k i j. by_sam
 
 spelled_by : (v : ℕ) (l : Letter) (x : MarkEntry) (xs n : List MarkEntry) (b : Bool) (o : Option Mark) (rest : Option (List MarkEntry))
     → nat_eq x.variable v ≡ b → after_letter l x.mark ≡ o → put v b x o xs rest ≡ Some n → ((ys : List MarkEntry) → rest ≡ Some ys → Spelled v l xs ys) → Spelled v l (x ∷ xs) n
-spelled_by v l x xs n true None rest d e h f = cc
+spelled_by v l x xs n true None rest d e h f = absurd (none_is n h)
 spelled_by v l x xs n true (Some r) rest d e h f = subst (λ z. Spelled v l (x ∷ xs) z) (same_some (record { variable = v; mark = r } ∷ xs) n h) (at_entry v l x xs r d e)
-spelled_by v l x xs n false o None d e h f = cc
+spelled_by v l x xs n false o None d e h f = absurd (none_is n h)
 spelled_by v l x xs n false o (Some ys) d e h f = subst (λ z. Spelled v l (x ∷ xs) z) (same_some (x ∷ ys) n h) (at_rest v l x xs ys d (f ys refl))
 
 spelled_marks : (v : ℕ) (l : Letter) (m n : List MarkEntry) → after_spelling v l m ≡ Some n → Spelled v l m n
 spelled_marks v l [] n e = subst (λ z. Spelled v l [] z) (same_some [] n e) nothing
   where
     nothing : Spelled v l [] []
-    unfolding Spelled
-    nothing = (refl, λ u q r h i. cc)
+    nothing = (refl, λ u q r h i. absurd (none_is q h))
 spelled_marks v l (x ∷ xs) n e = spelled_by v l x xs n (nat_eq x.variable v) (after_letter l x.mark) (after_spelling v l xs) refl refl e (λ ys d. spelled_marks v l xs ys d)
 
 pub spelling_keeps : (v : ℕ) (l : Letter) (m n : List MarkEntry) → after_spelling v l m ≡ Some n → variables n ≡ variables m
-unfolding Spelled
 spelling_keeps v l m n e = (spelled_marks v l m n e).0
 
 pub spelling_at : (v : ℕ) (l : Letter) (m n : List MarkEntry) (u : ℕ) (q r : Mark) → after_spelling v l m ≡ Some n → mark_at u m ≡ Some q → mark_at u n ≡ Some r → Becomes (nat_eq u v) l q r
-unfolding Spelled
 spelling_at v l m n u q r e h i = (spelled_marks v l m n e).1 u q r h i
 
 -- the mark for which the letter isn't allowed
-abbrev Refused : ℕ → Letter → List MarkEntry → Type 0
+abbrev pub Refused : ℕ → Letter → List MarkEntry → Type 0
 Refused v l m = (q : Mark) × (mark_at v m ≡ Some q) × (after_letter l q ≡ None)
 
 refused_by : (v : ℕ) (l : Letter) (x : MarkEntry) (xs : List MarkEntry) (b : Bool) (o : Option Mark) (rest : Option (List MarkEntry))
     → nat_eq x.variable v ≡ b → after_letter l x.mark ≡ o → put v b x o xs rest ≡ None → (rest ≡ None → Refused v l xs) → Refused v l (x ∷ xs)
 refused_by v l x xs true None rest d e h f = (x.mark, here x xs v d, e)
-refused_by v l x xs true (Some r) rest d e h f = cc
+refused_by v l x xs true (Some r) rest d e h f = absurd (some_none (record { variable = v; mark = r } ∷ xs) h)
 refused_by v l x xs false o None d e h f = let p = f refl in (p.0, behind x xs v d ∙ p.1, p.2)
-refused_by v l x xs false o (Some ys) d e h f = cc
+refused_by v l x xs false o (Some ys) d e h f = absurd (some_none (x ∷ ys) h)
 
 pub spelling_refused : (v : ℕ) (l : Letter) (m : List MarkEntry) → after_spelling v l m ≡ None → Refused v l m
-spelling_refused v l [] e = cc
+spelling_refused v l [] e = absurd (some_none {A = List MarkEntry} [] e)
 spelling_refused v l (x ∷ xs) e = refused_by v l x xs (nat_eq x.variable v) (after_letter l x.mark) (after_spelling v l xs) refl refl e (λ d. spelling_refused v l xs d)
 
 -- ---- states and the letter
@@ -205,22 +200,19 @@ spelling_stuck v l p m e =
 
 pub meet_keeps : (m n : List MarkEntry) → variables n ≡ variables m → variables (meet m n) ≡ variables m
 meet_keeps [] n e = refl
-meet_keeps (x ∷ xs) [] e = cc
-meet_keeps (x ∷ xs) (y ∷ ys) e = let p : variables ys ≡ variables xs = cc in ap (λ z. x.variable ∷ z) (meet_keeps xs ys p)
+meet_keeps (x ∷ xs) [] e = absurd (nil_cons x.variable (variables xs) e)
+meet_keeps (x ∷ xs) (y ∷ ys) e = ap (λ z. x.variable ∷ z) (meet_keeps xs ys (same_tail y.variable x.variable (variables ys) (variables xs) e))
 
 pub meet_at : (m n : List MarkEntry) (u : ℕ) (q r : Mark) → variables n ≡ variables m → mark_at u m ≡ Some q → mark_at u n ≡ Some r → mark_at u (meet m n) ≡ Some (joined q r)
-meet_at [] n u q r e h i = cc
-meet_at (x ∷ xs) [] u q r e h i = cc
+meet_at [] n u q r e h i = absurd (none_is q h)
+meet_at (x ∷ xs) [] u q r e h i = absurd (nil_cons x.variable (variables xs) e)
 meet_at (x ∷ xs) (y ∷ ys) u q r e h i = by_head (nat_eq x.variable u) refl (λ d j k. meet_at xs ys u q r d j k)
   where
     first : y.variable ≡ x.variable
-    first = cc
+    first = same_head y.variable x.variable (variables ys) (variables xs) e
 
     others : variables ys ≡ variables xs
-    others = cc
-
-    both : MarkEntry
-    both = record { variable = x.variable; mark = joined x.mark y.mark }
+    others = same_tail y.variable x.variable (variables ys) (variables xs) e
 
     by_head : (b : Bool) → nat_eq x.variable u ≡ b → (variables ys ≡ variables xs → mark_at u xs ≡ Some q → mark_at u ys ≡ Some r → mark_at u (meet xs ys) ≡ Some (joined q r))
         → mark_at u (record { variable = x.variable; mark = joined x.mark y.mark } ∷ meet xs ys) ≡ Some (joined q r)
@@ -240,10 +232,10 @@ meet_from m n u k e h =
     (a.0, b.0, a.1, b.1, same_mark (mark_at u (meet m n)) k (joined a.0 b.0) h (meet_at m n u a.0 b.0 e a.1 b.1))
 
 pub meet_left : (m n : List MarkEntry) (u : ℕ) (s : State) → variables n ≡ variables m → HasState u s m → HasState u s (meet m n)
-meet_left m n u s e (q, h, i) = let b = other_mark n m u q (sym e) h in (joined q b.0, meet_at m n u q b.0 e h b.1, in_left q b.0 s i)
+meet_left m n u s e (q, h, i) = let b = other_mark n m u q (sym e) h in (joined q b.0, meet_at m n u q b.0 e h b.1, joined_left q b.0 s i)
 
 pub meet_right : (m n : List MarkEntry) (u : ℕ) (s : State) → variables n ≡ variables m → HasState u s n → HasState u s (meet m n)
-meet_right m n u s e (r, h, i) = let a = other_mark m n u r e h in (joined a.0 r, meet_at m n u a.0 r e a.1 h, in_right a.0 r s i)
+meet_right m n u s e (r, h, i) = let a = other_mark m n u r e h in (joined a.0 r, meet_at m n u a.0 r e a.1 h, joined_right a.0 r s i)
 
 pub meet_split : (m n : List MarkEntry) (u : ℕ) (s : State) → variables n ≡ variables m → HasState u s (meet m n) → HasState u s m ⊎ HasState u s n
 meet_split m n u s e (k, h, i) =
@@ -255,7 +247,7 @@ meet_split m n u s e (k, h, i) =
 
 pub meet_inhabited : (m n : List MarkEntry) → variables n ≡ variables m → AreInhabited m → AreInhabited (meet m n)
 meet_inhabited m n e f u k h =
-    let p = meet_from m n u k e h in let g = f u p.0 p.2 in (g.0, subst (λ z. is_in z g.0 ≡ true) (sym p.4) (in_left p.0 p.1 g.0 g.1))
+    let p = meet_from m n u k e h in let g = f u p.0 p.2 in (g.0, subst (λ z. is_in z g.0 ≡ true) (sym p.4) (joined_left p.0 p.1 g.0 g.1))
 
 -- ---- what says more
 
@@ -269,15 +261,15 @@ differs_later x y xs ys e d (u, r, q, h, i, j) =
     (u, r, q, behind y ys u (subst (λ z. nat_eq z u ≡ false) (sym e) p) ∙ h, behind x xs u p ∙ i, j)
 
 pub differs : (n m : List MarkEntry) → variables n ≡ variables m → distinct (variables m) ≡ true → all_say_less n m ≡ false → Differs n m
-differs [] m e d h = cc
-differs (y ∷ ys) [] e d h = cc
+differs [] m e d h = absurd (true≢false h)
+differs (y ∷ ys) [] e d h = absurd (nil_cons y.variable (variables ys) (sym e))
 differs (y ∷ ys) (x ∷ xs) e d h = by_head (and_cases (says_less y.mark x.mark) (all_say_less ys xs) h) (λ a b c. differs ys xs a b c)
   where
     first : y.variable ≡ x.variable
-    first = cc
+    first = same_head y.variable x.variable (variables ys) (variables xs) e
 
     others : variables ys ≡ variables xs
-    others = cc
+    others = same_tail y.variable x.variable (variables ys) (variables xs) e
 
     apart : (not (among (variables xs) x.variable) ≡ true) × (distinct (variables xs) ≡ true)
     apart = and_parts (not (among (variables xs) x.variable)) (distinct (variables xs)) d
@@ -288,15 +280,15 @@ differs (y ∷ ys) (x ∷ xs) e d h = by_head (and_cases (says_less y.mark x.mar
 
 -- a list that says less
 pub says_less_at : (n m : List MarkEntry) (u : ℕ) (r q : Mark) → variables n ≡ variables m → all_say_less n m ≡ true → mark_at u n ≡ Some r → mark_at u m ≡ Some q → says_less r q ≡ true
-says_less_at [] m u r q e d h i = cc
-says_less_at (y ∷ ys) [] u r q e d h i = cc
+says_less_at [] m u r q e d h i = absurd (none_is r h)
+says_less_at (y ∷ ys) [] u r q e d h i = absurd (nil_cons y.variable (variables ys) (sym e))
 says_less_at (y ∷ ys) (x ∷ xs) u r q e d h i = by_head (nat_eq x.variable u) refl (λ a b c j. says_less_at ys xs u r q a b c j)
   where
     first : y.variable ≡ x.variable
-    first = cc
+    first = same_head y.variable x.variable (variables ys) (variables xs) e
 
     others : variables ys ≡ variables xs
-    others = cc
+    others = same_tail y.variable x.variable (variables ys) (variables xs) e
 
     parts : (says_less y.mark x.mark ≡ true) × (all_say_less ys xs ≡ true)
     parts = and_parts (says_less y.mark x.mark) (all_say_less ys xs) d

@@ -7,7 +7,8 @@ use Rattle.cad_paths.specs.Paths.{goes_on, caught}
 use Rattle.cad_paths.specs.Linear.{closes}
 use Rattle.cad_paths.specs.Marks.{Mark, MarkEntry, meet, join, all_say_less, Leaves, nowhere, only, together, cut_off, catching, ◌>=>◌, entered, followed, turned, turned_by, turns, begin_mark, ends_well, left_scope, scope_left}
 use Rattle.cad_mark_laws.specs.Laws.{IsStable}
-use Rattle.cad_mark_laws.proofs.States.{State, is_in, Inhabited}
+use Rattle.std.proofs.lemmas.Bool.{true≢false}
+use Rattle.cad_mark_laws.proofs.States.{none_is, nil_cons, same_head, same_tail, State, is_in, Inhabited}
 use Rattle.cad_mark_laws.proofs.Entries.{variables, mark_at, HasState, AreInhabited, same_some, meet_keeps, meet_left, meet_right, meet_split, meet_inhabited, behind}
 
 abbrev pub at : Leaves → Way → Option (List MarkEntry)
@@ -20,7 +21,7 @@ at a Never = None
 -- ---- options
 
 pub bind_some : {A B : Type 0} (o : Option A) (f : A → Option B) (y : B) → (o >=> f) ≡ Some y → (x : A) × (o ≡ Some x) × (f x ≡ Some y)
-bind_some None f y e = cc
+bind_some None f y e = absurd (none_is y e)
 bind_some (Some x) f y e = (x, refl, e)
 
 -- ---- what leaves
@@ -182,14 +183,14 @@ together_right us a b Returned u s f g h = join_right us a.returned b.returned u
 together_right us a b Never u s f g h = tt
 
 pub cut_at : (a : Leaves) (x : Way) (u : ℕ) (s : State) → goes_on x ≡ false → HoldsAt a x u s → HoldsAt (cut_off a) x u s
-cut_at a Next u s e h = cc
+cut_at a Next u s e h = absurd (true≢false e)
 cut_at a Broken u s e h = h
 cut_at a Continued u s e h = h
 cut_at a Returned u s e h = h
 cut_at a Never u s e h = tt
 
 pub turned_at : (m : List MarkEntry) (a : Leaves) (x : Way) (u : ℕ) (s : State) → goes_on x ≡ false → HoldsAt a x u s → HoldsAt (turned m a) x u s
-turned_at m a Next u s e h = cc
+turned_at m a Next u s e h = absurd (true≢false e)
 turned_at m a Broken u s e h = h
 turned_at m a Continued u s e h = h
 turned_at m a Returned u s e h = h
@@ -225,7 +226,7 @@ pub data Grows (f : List MarkEntry → Option Leaves) : List MarkEntry → List 
 abbrev pub Stands : (List MarkEntry → Option Leaves) → List MarkEntry → Leaves → Type 0
 Stands f m l = (k : List MarkEntry) × (a : Leaves) × Grows f m k × (f k ≡ Some a) × IsStable a.next k × (l ≡ turned k a)
 
-abbrev less_by : (List MarkEntry → Option Leaves) → List MarkEntry → Leaves → List MarkEntry → Bool → Option Leaves
+abbrev pub less_by : (List MarkEntry → Option Leaves) → List MarkEntry → Leaves → List MarkEntry → Bool → Option Leaves
 less_by again m a n b = if b then Some (turned m a) else again (meet m n)
 
 stands_on : (f : List MarkEntry → Option Leaves) (m : List MarkEntry) (l : Leaves) (a : Leaves) (n : List MarkEntry) → f m ≡ Some a → a.next ≡ Some n → Stands f (meet m n) l → Stands f m l
@@ -242,7 +243,7 @@ stands_next f again m l a None d e h g = (m, a, last_turn, d, subst (λ z. IsSta
 stands_next f again m l a (Some n) d e h g = stands_less f again m l a n (all_say_less n m) d e refl h (g n)
 
 pub turns_stand : (i : ℕ) (f : List MarkEntry → Option Leaves) (m : List MarkEntry) (l : Leaves) → turns i f m ≡ Some l → Stands f m l
-turns_stand zero f m l e = cc
+turns_stand zero f m l e = absurd (none_is l e)
 turns_stand (suc i) f m l e =
     let p = bind_some (f m) (λ a. turned_by (turns i f) m a a.next) l e in
     stands_next f (turns i f) m l p.0 p.0.next p.1 refl p.2 (λ n d. turns_stand i f (meet m n) l d)
@@ -270,8 +271,11 @@ grows_hold us f g (next_turn {m = m} a n d i j) e u s h =
 
 -- ---- scopes
 
+abbrev pub leaving : Option (List MarkEntry) → Option (List MarkEntry) → Option (List MarkEntry) → Option (List MarkEntry) → Leaves
+leaving n b c r = record { next = n; broken = b; continued = c; returned = r }
+
 parts_by : (fields : Bool) (a l : Leaves) (n b c r : Option (List MarkEntry)) → left_scope fields a.next ≡ Some n → left_scope fields a.broken ≡ Some b
-    → left_scope fields a.continued ≡ Some c → left_scope fields a.returned ≡ Some r → record { next = n; broken = b; continued = c; returned = r } ≡ l
+    → left_scope fields a.continued ≡ Some c → left_scope fields a.returned ≡ Some r → leaving n b c r ≡ l
     → (x : Way) → left_scope fields (at a x) ≡ Some (at l x)
 parts_by fields a l n b c r d e f g h Next = d ∙ ap (λ (z : Leaves). Some z.next) h
 parts_by fields a l n b c r d e f g h Broken = e ∙ ap (λ (z : Leaves). Some z.broken) h
@@ -283,32 +287,32 @@ parts_by fields a l n b c r d e f g h Never = refl
 pub scope_parts : (fields : Bool) (a l : Leaves) → scope_left fields a ≡ Some l → (x : Way) → left_scope fields (at a x) ≡ Some (at l x)
 scope_parts fields a l e x =
     let n = bind_some (left_scope fields a.next) (λ n. left_scope fields a.broken >=> (λ b. left_scope fields a.continued >=> (λ c. left_scope fields a.returned >=> (λ r.
-        Some (record { next = n; broken = b; continued = c; returned = r }))))) l e in
+        Some (leaving n b c r))))) l e in
     let b = bind_some (left_scope fields a.broken) (λ b. left_scope fields a.continued >=> (λ c. left_scope fields a.returned >=> (λ r.
-        Some (record { next = n.0; broken = b; continued = c; returned = r })))) l n.2 in
+        Some (leaving n.0 b c r)))) l n.2 in
     let c = bind_some (left_scope fields a.continued) (λ c. left_scope fields a.returned >=> (λ r.
-        Some (record { next = n.0; broken = b.0; continued = c; returned = r }))) l b.2 in
-    let r = bind_some (left_scope fields a.returned) (λ r. Some (record { next = n.0; broken = b.0; continued = c.0; returned = r })) l c.2 in
-    parts_by fields a l n.0 b.0 c.0 r.0 n.1 b.1 c.1 r.1 (same_some (record { next = n.0; broken = b.0; continued = c.0; returned = r.0 }) l r.2) x
+        Some (leaving n.0 b.0 c r))) l b.2 in
+    let r = bind_some (left_scope fields a.returned) (λ r. Some (leaving n.0 b.0 c.0 r)) l c.2 in
+    parts_by fields a l n.0 b.0 c.0 r.0 n.1 b.1 c.1 r.1 (same_some (leaving n.0 b.0 c.0 r.0) l r.2) x
 
-abbrev tested : Bool → List MarkEntry → Option (Option (List MarkEntry))
+abbrev pub tested : Bool → List MarkEntry → Option (Option (List MarkEntry))
 tested b all = if b then Some (Some all) else None
 
 tested_is : (b : Bool) (all : List MarkEntry) (p : Option (List MarkEntry)) → tested b all ≡ Some p → Some all ≡ p
 tested_is true all p e = same_some (Some all) p e
-tested_is false all p e = cc
+tested_is false all p e = absurd (none_is p e)
 
 pub left_over : (fields : Bool) (v : ℕ) (us : List ℕ) (o p : Option (List MarkEntry)) → Over (v ∷ us) o → left_scope fields o ≡ Some p → Over us p
 left_over fields v us None p d e = subst (λ z. Over us z) (same_some None p e) tt
-left_over fields v us (Some []) p d e = cc
-left_over fields v us (Some (y ∷ all)) p d e = let k : variables all ≡ us = cc in subst (λ z. Over us z) (tested_is (ends_well fields y.mark) all p e) k
+left_over fields v us (Some []) p d e = absurd (nil_cons v us d)
+left_over fields v us (Some (y ∷ all)) p d e = let k = same_tail y.variable v (variables all) us d in subst (λ z. Over us z) (tested_is (ends_well fields y.mark) all p e) k
 
 -- a variable that isn't the newest keeps its state
 pub left_holds : (fields : Bool) (v : ℕ) (us : List ℕ) (o p : Option (List MarkEntry)) (u : ℕ) (s : State) → Over (v ∷ us) o → left_scope fields o ≡ Some p → nat_eq v u ≡ false → Holds u s o → Holds u s p
 left_holds fields v us None p u s d e c h = absurd h
-left_holds fields v us (Some []) p u s d e c h = cc
+left_holds fields v us (Some []) p u s d e c h = absurd (nil_cons v us d)
 left_holds fields v us (Some (y ∷ all)) p u s d e c h =
-    let k : y.variable ≡ v = cc in
+    let k = same_head y.variable v (variables all) us d in
     let g : HasState u s all = (h.0, sym (behind y all u (subst (λ z. nat_eq z u ≡ false) (sym k) c)) ∙ h.1, h.2) in
     subst (λ z. Holds u s z) (tested_is (ends_well fields y.mark) all p e) g
 

@@ -10,23 +10,25 @@ use Rattle.cad_paths.specs.Paths.{LetterAt, letter_at}
 use Rattle.cad_paths.specs.Linear.{LifeLetter, make, spells, close, life_letter, life_word, Uses, no_uses, and_use, and_fill, Looks, no_looks, and_look, LinearWord, spent, left_nil, spent_nil, filled_again, BeginsLinear, IsLinear}
 use Rattle.cad_paths.specs.Marks.{LinearHasMarks}
 use Rattle.cad_mark_laws.proofs.States.{State, valued, emptied, left, lacking, onward, run}
+use Rattle.std.proofs.lemmas.Bool.{false≢true}
+use Rattle.cad_mark_laws.proofs.Entries.{none_some}
 use Rattle.cad_mark_laws.proofs.Sound.{IsBad, unmarked}
 
 -- ---- words with their ends
 
-abbrev closed : Option State → Option State
+abbrev pub closed : Option State → Option State
 closed None = None
 closed (Some valued) = None
 closed (Some emptied) = Some emptied
 closed (Some left) = Some left
 closed (Some lacking) = Some lacking
 
-abbrev made : Option State → Option State
+abbrev pub made : Option State → Option State
 made None = None
 made (Some s) = Some valued
 
 -- the state after a life's letters; None where one isn't allowed
-abbrev goes : Option State → List LifeLetter → Option State
+abbrev pub goes : Option State → List LifeLetter → Option State
 goes q [] = q
 goes q (make a ∷ w) = goes (made q) w
 goes q (spells l a ∷ w) = goes (onward l q) w
@@ -77,12 +79,13 @@ linear_goes (filled_again a b c d e {u = u} {r = r} {v = v} h k l) =
 -- ---- lives
 
 begins_well : (w z : List LifeLetter) (q : Option State) → goes (Some valued) w ≡ q → LinearWord (w ++ z) → q ≡ None → ⊥
-begins_well w z q e h d = let p = linear_goes h in let g = goes_on_behind (Some valued) q w z e in let f = ap (λ o. goes o z) d in let n = goes_none z in cc
+begins_well w z q e h d = let p = linear_goes h in let g = goes_on_behind (Some valued) q w z e in let f = ap (λ o. goes o z) d in let n = goes_none z in none_some (goes (Some valued) (w ++ z)) p.0 (g ∙ f ∙ n) p.1
 
 ended_well : (s : Position) (w : List LetterAt) (q : Option State) → run (Some valued) w ≡ q → LinearWord (make s ∷ (map life_letter w ++ (close s ∷ []))) → (closed q ≡ None) → ⊥
 ended_well s w q e h d =
     let p = linear_goes h in
-    let g = goes_on_behind (Some valued) q (map life_letter w) (close s ∷ []) (goes_run (Some valued) w ∙ e) in cc
+    let g = goes_on_behind (Some valued) q (map life_letter w) (close s ∷ []) (goes_run (Some valued) w ∙ e) in
+    none_some (goes (Some valued) (map life_letter w ++ (close s ∷ []))) p.0 (g ∙ d) p.1
 
 ends_linear : (s : Position) (w : List LetterAt) (x : Way) (q : Option State) → run (Some valued) w ≡ q → LinearWord (make s ∷ (map life_letter w ++ (close s ∷ []))) → IsBad false x q → ⊥
 ends_linear s w x None e h i = ended_well s w None e h refl
@@ -91,7 +94,7 @@ ends_linear s w x (Some k) e h i = ended_well s w (Some k) e h (ap (λ z. closed
 never_linear : (s : Position) (w : List LetterAt) (q : Option State) → run (Some valued) w ≡ q → BeginsLinear (make s ∷ (map life_letter w ++ [])) → IsBad false Never q → ⊥
 never_linear s w None e h i =
     begins_well (make s ∷ (map life_letter w ++ [])) h.0 None (ap (λ z. goes (Some valued) z) (append-nil (map life_letter w)) ∙ (goes_run (Some valued) w ∙ e)) h.1 refl
-never_linear s w (Some k) e h i = let p = i.0 in cc
+never_linear s w (Some k) e h i = false≢true i.0
 
 -- a linear life is allowed, and ends as it may
 linear_well : (s : Position) (w : List LetterAt) (x : Way) → IsLinear x (life_word s w x) → IsBad false x (run (Some valued) w) → ⊥

@@ -1,6 +1,6 @@
 -- A body that sets its fields has marks.
 use Rattle.std.proofs.Common.{◌≡◌, refl, sym, ◌∙◌, ap, subst, ◌⊎◌, inl, inr, ℕ, Bool, true, false, ◌&&◌, List, [], ◌∷◌, ◌++◌, append_assoc, append-nil}
-use Rattle.std.proofs.lemmas.Bool.{and_parts}
+use Rattle.std.proofs.lemmas.Bool.{false≢true, both_ways, and_parts}
 use Rattle.std.specs.Prelude.{Option, Some, None, if◌then◌else◌}
 use Rattle.cad_declarations.specs.Typed.{PartBody}
 use Rattle.cad_paths.specs.declared.letter.Letter.{Letter}
@@ -19,7 +19,7 @@ use Rattle.cad_mark_laws.proofs.Sound.{IsBad, WrongLife, unmarked}
 
 -- ---- the words of a body of letters of fields
 
-abbrev sets_word : List LetterAt → Bool
+abbrev pub sets_word : List LetterAt → Bool
 sets_word [] = true
 sets_word (letter_at l s ∷ w) = is_field_letter l && sets_word w
 
@@ -72,7 +72,7 @@ set_last [] s = set_here
 set_last (m ∷ u) s = set_later (set_last u s)
 
 -- a letter that sets nothing
-abbrev is_set_letter : LetterAt → Bool
+abbrev pub is_set_letter : LetterAt → Bool
 is_set_letter (letter_at Set s) = true
 is_set_letter (letter_at Use s) = false
 is_set_letter (letter_at Fill s) = false
@@ -88,18 +88,18 @@ set_split (set_later {m = n} {w = w} h) m u e = let p : w ≡ u = cc in inr (sub
 
 set_first : (m : LetterAt) (u : List LetterAt) → is_set_letter m ≡ true → IsSet (m ∷ u)
 set_first (letter_at Set s) u e = set_here
-set_first (letter_at Use s) u e = cc
-set_first (letter_at Fill s) u e = cc
-set_first (letter_at Spend s) u e = cc
-set_first (letter_at Empty s) u e = cc
-set_first (letter_at Need s) u e = cc
-set_first (letter_at Fresh s) u e = cc
+set_first (letter_at Use s) u e = absurd (false≢true e)
+set_first (letter_at Fill s) u e = absurd (false≢true e)
+set_first (letter_at Spend s) u e = absurd (false≢true e)
+set_first (letter_at Empty s) u e = absurd (false≢true e)
+set_first (letter_at Need s) u e = absurd (false≢true e)
+set_first (letter_at Fresh s) u e = absurd (false≢true e)
 
 still_unset : (u : List LetterAt) (m : LetterAt) → is_set_letter m ≡ false → (IsSet u → ⊥) → IsSet (u ++ (m ∷ [])) → ⊥
 still_unset [] m e f h = pick (set_split h m [] refl)
   where
     pick : (is_set_letter m ≡ true) ⊎ IsSet [] → ⊥
-    pick (inl d) = cc
+    pick (inl d) = both_ways (is_set_letter m) e d
     pick (inr i) = not_set i
 still_unset (n ∷ u) m e f h = pick (set_split h n (u ++ (m ∷ [])) refl) (λ g i. still_unset u m e g i)
   where
@@ -110,13 +110,13 @@ still_unset (n ∷ u) m e f h = pick (set_split h n (u ++ (m ∷ [])) refl) (λ 
 -- ---- lives that go wrong
 
 -- where a word has come to: the field was set or not, as the state says
-abbrev Agrees : State → List LetterAt → Type 0
+abbrev pub Agrees : State → List LetterAt → Type 0
 Agrees valued u = IsSet u
 Agrees emptied u = ⊥
 Agrees left u = ⊥
 Agrees lacking u = IsSet u → ⊥
 
-abbrev SomeMisset : PathBody → Type 0
+abbrev pub SomeMisset : PathBody → Type 0
 SomeMisset b = (s : Position) × Misset b s
 
 joined_word : (u w z : List LetterAt) (m : LetterAt) → z ≡ u ++ (m ∷ w) → z ≡ (u ++ (m ∷ [])) ++ w
@@ -124,7 +124,7 @@ joined_word u w z m e = e ∙ sym (append_assoc u (m ∷ []) w)
 
 missets : (b : PathBody) (v : PathVariable) (s : Position) (x : Way) (z : List LetterAt) → Life b v s z x → (w u : List LetterAt) (q : State) → z ≡ u ++ w → sets_word w ≡ true → Agrees q u → IsBad true x (run (Some q) w) → SomeMisset b
 missets b v s x z h [] u lacking e d g i = (s, left_unset h i.0 (λ k. g (subst IsSet (e ∙ append-nil u) k)))
-missets b v s x z h [] u valued e d g i = let p = i.1 in cc
+missets b v s x z h [] u valued e d g i = let p : valued ≡ lacking = i.1 in cc
 missets b v s x z h [] u emptied e d g i = absurd g
 missets b v s x z h [] u left e d g i = absurd g
 missets b v s x z h (letter_at Need t ∷ w) u lacking e d g i = (t, used_unset u w h e g)
@@ -133,10 +133,10 @@ missets b v s x z h (letter_at Fresh t ∷ w) u valued e d g i = (t, set_again u
 missets b v s x z h (letter_at Fresh t ∷ w) u lacking e d g i = missets b v s x z h w (u ++ (letter_at Fresh t ∷ [])) lacking (joined_word u w z (letter_at Fresh t) e) d (still_unset u (letter_at Fresh t) refl g) i
 missets b v s x z h (letter_at Set t ∷ w) u valued e d g i = missets b v s x z h w (u ++ (letter_at Set t ∷ [])) valued (joined_word u w z (letter_at Set t) e) d (set_last u t) i
 missets b v s x z h (letter_at Set t ∷ w) u lacking e d g i = missets b v s x z h w (u ++ (letter_at Set t ∷ [])) valued (joined_word u w z (letter_at Set t) e) d (set_last u t) i
-missets b v s x z h (letter_at Use t ∷ w) u q e d g i = cc
-missets b v s x z h (letter_at Fill t ∷ w) u q e d g i = cc
-missets b v s x z h (letter_at Spend t ∷ w) u q e d g i = cc
-missets b v s x z h (letter_at Empty t ∷ w) u q e d g i = cc
+missets b v s x z h (letter_at Use t ∷ w) u q e d g i = absurd (false≢true d)
+missets b v s x z h (letter_at Fill t ∷ w) u q e d g i = absurd (false≢true d)
+missets b v s x z h (letter_at Spend t ∷ w) u q e d g i = absurd (false≢true d)
+missets b v s x z h (letter_at Empty t ∷ w) u q e d g i = absurd (false≢true d)
 missets b v s x z h (letter_at Need t ∷ w) u emptied e d g i = absurd g
 missets b v s x z h (letter_at Need t ∷ w) u left e d g i = absurd g
 missets b v s x z h (letter_at Fresh t ∷ w) u emptied e d g i = absurd g

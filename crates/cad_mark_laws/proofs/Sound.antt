@@ -9,21 +9,21 @@ use Rattle.cad_paths.specs.declared.letter.Position.{Position}
 use Rattle.cad_paths.specs.Paths.{PathVariable, PathBody, leave, spell, seq, either, loop, catch, scope, LetterAt, spelled, goes_on, caught, Words, by_leaving, by_letter, by_both, by_first_alone, by_left, by_right, by_no_turn, by_turn, by_last_turn, by_catching, by_scope, Life, in_scope, in_inner, in_first, in_second, in_left, in_right, in_turn, in_catch}
 use Rattle.cad_paths.specs.Linear.{closes}
 use Rattle.cad_paths.specs.Marks.{Mark, MarkEntry, joined, after_spelling, meet, join, says_less, all_say_less, Leaves, nowhere, only, together, cut_off, catching, ◌>=>◌, entered, followed, turned, turned_by, turns, begin_mark, ends_well, left_scope, scope_left, marks, among, declares_anew}
-use Rattle.cad_mark_laws.proofs.States.{State, is_in, Inhabited, run, run_on, run_wrong, less_in, less_by, in_left, in_joined, size, size_most, size_least, size_grown, begins, begin_is, begin_in, bad_end, ends_badly}
+use Rattle.cad_mark_laws.proofs.States.{none_is, some_none, nil_cons, same_head, same_tail, State, is_in, Inhabited, run, run_on, run_wrong, less_in, less_by, joined_left, in_joined, size, size_most, size_least, size_grown, begins, begin_is, begin_in, bad_end, ends_badly}
 use Rattle.cad_mark_laws.proofs.Entries.{variables, mark_at, HasState, AreInhabited, distinct, same_some, same_mark, other_mark, is_among, is_other, here, behind, spelling_keeps, spelling_to, spelling_from, spelling_inhabited, spelling_stuck, meet_keeps, meet_from, meet_split, meet_inhabited, Differs, differs, says_less_at}
-use Rattle.cad_mark_laws.proofs.Leaves.{at, bind_some, Over, Good, Holds, OverAll, HoldsAt, good_join, good_map, tested}
+use Rattle.cad_mark_laws.proofs.Leaves.{at, bind_some, Over, Good, Holds, OverAll, HoldsAt, good_join, good_map, tested, leaving}
 use Rattle.cad_mark_laws.proofs.Complete.{begun, complete}
 
 -- some path leaves by this way
-abbrev Comes : PathBody → Way → Type 0
+abbrev pub Comes : PathBody → Way → Type 0
 Comes b x = (w : List LetterAt) × Words None b w x
 
 -- some word leaves by this way, and comes to this state from one in the marks
-abbrev From : PathBody → Way → List MarkEntry → ℕ → State → Type 0
+abbrev pub From : PathBody → Way → List MarkEntry → ℕ → State → Type 0
 From b x m u t = (s : State) × (w : List LetterAt) × HasState u s m × Words (Some u) b w x × (run (Some s) w ≡ Some t)
 
 -- some word of a variable in scope isn't allowed
-abbrev WrongWord : PathBody → List MarkEntry → Type 0
+abbrev pub WrongWord : PathBody → List MarkEntry → Type 0
 WrongWord b m = (u : ℕ) × (s : State) × (w : List LetterAt) × (x : Way) × HasState u s m × Words (Some u) b w x × (run (Some s) w ≡ None)
 
 abbrev pub IsBad : Bool → Way → Option State → Type 0
@@ -34,22 +34,22 @@ IsBad fields x (Some q) = (closes x ≡ true) × (q ≡ bad_end fields)
 abbrev pub WrongLife : Bool → PathBody → Type 0
 WrongLife fields b = (v : PathVariable) × (p : Position) × (w : List LetterAt) × (x : Way) × Life b v p w x × IsBad fields x (run (Some (begins fields)) w)
 
-abbrev Wrong : Bool → PathBody → List MarkEntry → Type 0
+abbrev pub Wrong : Bool → PathBody → List MarkEntry → Type 0
 Wrong fields b m = WrongWord b m ⊎ WrongLife fields b
 
-abbrev Leads : PathBody → List MarkEntry → List ℕ → Leaves → Type 0
+abbrev pub Leads : PathBody → List MarkEntry → List ℕ → Leaves → Type 0
 Leads b m us l = (x : Way) → Good us (Comes b x) (From b x m) (at l x)
 
-abbrev Judged : Bool → PathBody → List MarkEntry → List ℕ → Option Leaves → Type 0
+abbrev pub Judged : Bool → PathBody → List MarkEntry → List ℕ → Option Leaves → Type 0
 Judged fields b m us None = Wrong fields b m
 Judged fields b m us (Some l) = Leads b m us l
 
 wrong_life : (fields : Bool) (x : Way) (q : Option State) → q ≡ None → IsBad fields x q
 wrong_life fields x None e = tt
-wrong_life fields x (Some k) e = cc
+wrong_life fields x (Some k) e = absurd (some_none k e)
 
 bad_life : (fields : Bool) (x : Way) (q : Option State) → closes x ≡ true → q ≡ Some (bad_end fields) → IsBad fields x q
-bad_life fields x None d e = cc
+bad_life fields x None d e = absurd (none_is (bad_end fields) e)
 bad_life fields x (Some k) d e = (d, same_some k (bad_end fields) e)
 
 -- ---- words
@@ -266,7 +266,7 @@ ends_wrong fields v p b m x c (s, w, h, i, e) =
     (v, p, w, x, in_scope i, bad_life fields x (run (Some (begins fields)) w) c (ap (λ z. run (Some z) w) (sym d) ∙ e))
 
 -- what leaves the scope by a way
-abbrev WayJudged : Bool → PathVariable → Position → PathBody → List ℕ → List MarkEntry → Way → Option (Option (List MarkEntry)) → Type 0
+abbrev pub WayJudged : Bool → PathVariable → Position → PathBody → List ℕ → List MarkEntry → Way → Option (Option (List MarkEntry)) → Type 0
 WayJudged fields v p b us m x None = WrongLife fields (scope v p b)
 WayJudged fields v p b us m x (Some q) = Good us (Comes (scope v p b) x) (From (scope v p b) x m) q
 
@@ -274,25 +274,22 @@ way_tested : (fields : Bool) (v : PathVariable) (p : Position) (b : PathBody) (u
     → not (among us v.number) ≡ true → variables m ≡ us → closes x ≡ true → ends_well fields y.mark ≡ c
     → Good (v.number ∷ us) (Comes b x) (From b x (begun fields v m)) (Some (y ∷ all)) → WayJudged fields v p b us m x (tested c all)
 way_tested fields v p b us m x y all true apart k d e h =
-    let first : y.variable ≡ v.number = cc in
-    let others : variables all ≡ us = cc in
+    let first = same_head y.variable v.number (variables all) us h.0 in
+    let others = same_tail y.variable v.number (variables all) us h.0 in
     let other = λ (u : ℕ) (q : Mark) (i : mark_at u all ≡ Some q). is_other us v.number u apart (subst (λ z. among z u ≡ true) others (is_among all u q i)) in
     let up = λ (u : ℕ) (q : Mark) (i : mark_at u all ≡ Some q). behind y all u (subst (λ z. nat_eq z u ≡ false) (sym first) (other u q i)) ∙ i in
     (others, (h.1.0, by_scope h.1.1), λ u q i. h.2 u q (up u q i),
      λ u s i. let g = h.3 u s (i.0, up u i.0 i.1, i.2) in (g.0, g.1, older fields v m u g.0 (other u i.0 i.1) g.2, by_scope g.3, g.4))
 way_tested fields v p b us m x y all false apart k d e h =
-    let first : y.variable ≡ v.number = cc in
+    let first = same_head y.variable v.number (variables all) us h.0 in
     ends_wrong fields v p b m x d (h.3 v.number (bad_end fields) (y.mark, here y all v.number (eq-eqb y.variable v.number first), ends_badly fields y.mark e))
 
 way_judged : (fields : Bool) (v : PathVariable) (p : Position) (b : PathBody) (us : List ℕ) (m : List MarkEntry) (x : Way) (o : Option (List MarkEntry))
     → not (among us v.number) ≡ true → variables m ≡ us → closes x ≡ true
     → Good (v.number ∷ us) (Comes b x) (From b x (begun fields v m)) o → WayJudged fields v p b us m x (left_scope fields o)
 way_judged fields v p b us m x None apart k d h = tt
-way_judged fields v p b us m x (Some []) apart k d h = let c : [] ≡ v.number ∷ us = h.0 in cc
+way_judged fields v p b us m x (Some []) apart k d h = absurd (nil_cons v.number us h.0)
 way_judged fields v p b us m x (Some (y ∷ all)) apart k d h = way_tested fields v p b us m x y all (ends_well fields y.mark) apart k d refl h
-
-abbrev leaving : Option (List MarkEntry) → Option (List MarkEntry) → Option (List MarkEntry) → Option (List MarkEntry) → Leaves
-leaving n b c r = record { next = n; broken = b; continued = c; returned = r }
 
 scope_leads : (fields : Bool) (v : PathVariable) (p : Position) (b : PathBody) (us : List ℕ) (m : List MarkEntry) (n k c r : Option (List MarkEntry))
     → WayJudged fields v p b us m Next (Some n) → WayJudged fields v p b us m Broken (Some k) → WayJudged fields v p b us m Continued (Some c) → WayJudged fields v p b us m Returned (Some r)
@@ -341,7 +338,7 @@ turn_more who by_no_turn e d w y h = h
 turn_more who {a = a} (by_turn {a = c} {u = u} {w = v} i j) e d w y h =
     let p : c ≡ a = cc in
     subst (λ z. Words who (loop a) z y) (sym (append_assoc u v w)) (by_turn (subst (λ z. Words who z u Next) p i) (turn_more who j e d w y h))
-turn_more who (by_last_turn {x = x} g i) e d w y h = let p = ap goes_on d in cc
+turn_more who (by_last_turn {x = x} g i) e d w y h = let p : goes_on x ≡ true = ap goes_on d in absurd (both_ways (goes_on x) g p)
 turn_more who (by_catching i) e d w y h = cc
 turn_more who (by_scope i) e d w y h = cc
 
@@ -357,15 +354,15 @@ module _ (fields : Bool) (a : PathBody) (us : List ℕ) (m0 : List MarkEntry) (a
     (judge : (m : List MarkEntry) → variables m ≡ us → AreInhabited m → Judged fields a m us (marks fields a m)) where
 
   -- turns lead from the loop's begin to these marks
-  abbrev Reached : List MarkEntry → Type 0
+  abbrev pub Reached : List MarkEntry → Type 0
   Reached m = (u : ℕ) (s : State) → HasState u s m → From (loop a) Next m0 u s
 
   -- a turn adds nothing to this mark
-  abbrev Settled : ℕ → Mark → Type 0
+  abbrev pub Settled : ℕ → Mark → Type 0
   Settled u q = (s t : State) (w : List LetterAt) → is_in q s ≡ true → Words (Some u) a w Next → run (Some s) w ≡ Some t → is_in q t ≡ true
 
   -- each mark is settled, or has as many states
-  abbrev Progress : ℕ → List MarkEntry → Type 0
+  abbrev pub Progress : ℕ → List MarkEntry → Type 0
   Progress k m = (u : ℕ) (q : Mark) → mark_at u m ≡ Some q → Settled u q ⊎ (k ≤ size q)
 
   loop_wrong : (m : List MarkEntry) → Reached m → Wrong fields a m → Wrong fields (loop a) m0
@@ -404,7 +401,7 @@ module _ (fields : Bool) (a : PathBody) (us : List ℕ) (m0 : List MarkEntry) (a
       subst (λ z. is_in q z ≡ true) same (less_in r q g.0 l (subst (λ z. is_in z g.0 ≡ true) (same_mark (mark_at u n) o.0 r o.1 j) o.2))
 
   settled_joined : (u : ℕ) (q r : Mark) → Settled u q → says_less r q ≡ true → Settled u (joined q r)
-  settled_joined u q r f l s t w i c b = in_left q r t (f s t w (old (in_joined q r s i)) c b)
+  settled_joined u q r f l s t w i c b = joined_left q r t (f s t w (old (in_joined q r s i)) c b)
     where
       old : (is_in q s ≡ true) ⊎ (is_in r s ≡ true) → is_in q s ≡ true
       old (inl h) = h
@@ -442,7 +439,7 @@ module _ (fields : Bool) (a : PathBody) (us : List ℕ) (m0 : List MarkEntry) (a
       pick (inl i) = f u s i
       pick (inr i) = turn (g.3 u s i)
 
-  abbrev Turning : ℕ → Type 0
+  abbrev pub Turning : ℕ → Type 0
   Turning i = (k : ℕ) (m : List MarkEntry) → 1 ≤ i → k + i ≡ 5 → variables m ≡ us → AreInhabited m → Reached m → Progress k m → Judged fields (loop a) m0 us (turns i (marks fields a) m)
 
   less_judged : (i k : ℕ) (m n : List MarkEntry) (x : Leaves) (b : Bool) → k + suc i ≡ 5 → variables m ≡ us → AreInhabited m → Reached m → Progress k m → marks fields a m ≡ Some x → x.next ≡ Some n → all_say_less n m ≡ b
@@ -490,8 +487,8 @@ sound fields (scope v p b) us m e c d f =
 
 -- a body without marks has a life that isn't allowed, or ends as it may not
 pub unmarked : (fields : Bool) (b : PathBody) → declares_anew [] b ≡ true → marks fields b [] ≡ None → WrongLife fields b
-unmarked fields b d e = pick (subst (λ z. Judged fields b [] [] z) e (sound fields b [] [] refl refl d (λ u q h. cc)))
+unmarked fields b d e = pick (subst (λ z. Judged fields b [] [] z) e (sound fields b [] [] refl refl d (λ u q h. absurd (none_is q h))))
   where
     pick : Wrong fields b [] → WrongLife fields b
-    pick (inl (u, s, w, x, (q, h, i), c, r)) = cc
+    pick (inl (u, s, w, x, (q, h, i), c, r)) = absurd (none_is q h)
     pick (inr h) = h

@@ -1,12 +1,12 @@
 -- Marks that hold before each turn of a loop.
 use Rattle.std.proofs.Common.{◌≡◌, refl, sym, ◌∙◌, ap, subst, ◌⊎◌, inl, inr, ℕ, Bool, true, false, not, ◌&&◌, ◌||◌, List, [], ◌∷◌}
-use Rattle.std.proofs.lemmas.Bool.{and_parts, and_from}
+use Rattle.std.proofs.lemmas.Bool.{false≢true, and_parts, and_from}
 use Rattle.std.specs.Prelude.{Option, Some, None}
 use Rattle.cad_paths.specs.Paths.{PathBody, loop}
 use Rattle.cad_paths.specs.declared.letter.Way.TheVariants.{Next}
 use Rattle.cad_paths.specs.Marks.{Mark, MarkEntry, joined, meet, says_less, all_say_less, Leaves, turned, marks}
 use Rattle.cad_mark_laws.specs.Laws.{LoopsAreStable}
-use Rattle.cad_mark_laws.proofs.States.{State, is_in, in_left, less_in, less_by}
+use Rattle.cad_mark_laws.proofs.States.{nil_cons, same_tail, State, is_in, joined_left, less_in, less_by}
 use Rattle.cad_mark_laws.proofs.Entries.{variables, meet_keeps}
 use Rattle.cad_mark_laws.proofs.Leaves.{Over, OverAll, Grows, last_turn, next_turn, turns_stand}
 use Rattle.cad_mark_laws.proofs.Complete.{shape}
@@ -15,7 +15,7 @@ less_itself : (m : Mark) → says_less m m ≡ true
 less_itself m = less_by m m (λ s h. h)
 
 less_joined : (a b : Mark) → says_less a (joined a b) ≡ true
-less_joined a b = less_by a (joined a b) (λ s h. in_left a b s h)
+less_joined a b = less_by a (joined a b) (λ s h. joined_left a b s h)
 
 less_on : (a b c : Mark) → says_less a b ≡ true → says_less b c ≡ true → says_less a c ≡ true
 less_on a b c h i = less_by a c (λ s j. less_in b c s i (less_in a b s h j))
@@ -26,15 +26,15 @@ all_itself (x ∷ xs) = and_from (says_less x.mark x.mark) (all_say_less xs xs) 
 
 all_met : (m n : List MarkEntry) → variables n ≡ variables m → all_say_less m (meet m n) ≡ true
 all_met [] n e = refl
-all_met (x ∷ xs) [] e = cc
+all_met (x ∷ xs) [] e = absurd (nil_cons x.variable (variables xs) e)
 all_met (x ∷ xs) (y ∷ ys) e =
-    let p : variables ys ≡ variables xs = cc in
+    let p = same_tail y.variable x.variable (variables ys) (variables xs) e in
     and_from (says_less x.mark (joined x.mark y.mark)) (all_say_less xs (meet xs ys)) (less_joined x.mark y.mark) (all_met xs ys p)
 
 all_on : (a b c : List MarkEntry) → all_say_less a b ≡ true → all_say_less b c ≡ true → all_say_less a c ≡ true
 all_on [] b c h i = refl
-all_on (x ∷ xs) [] c h i = cc
-all_on (x ∷ xs) (y ∷ ys) [] h i = cc
+all_on (x ∷ xs) [] c h i = absurd (false≢true h)
+all_on (x ∷ xs) (y ∷ ys) [] h i = absurd (false≢true i)
 all_on (x ∷ xs) (y ∷ ys) (z ∷ zs) h i =
     let p = and_parts (says_less x.mark y.mark) (all_say_less xs ys) h in let q = and_parts (says_less y.mark z.mark) (all_say_less ys zs) i in
     and_from (says_less x.mark z.mark) (all_say_less xs zs) (less_on x.mark y.mark z.mark p.0 q.0) (all_on xs ys zs p.1 q.1)

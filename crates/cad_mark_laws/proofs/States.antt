@@ -1,12 +1,30 @@
 -- The states of a mark one by one, and what letters do to them.
 use Rattle.std.proofs.Common.{◌≡◌, refl, sym, ◌∙◌, ap, subst, ◌⊎◌, inl, inr, ℕ, ◌+◌, ◌≤◌, arith, Bool, true, false, not, ◌&&◌, ◌||◌, List, [], ◌∷◌, ◌++◌}
-use Rattle.std.proofs.lemmas.Bool.{both_ways, not-true, not-false, and_parts, and_from, and_cases, or_cases, cases_Bool}
+use Rattle.std.proofs.lemmas.Bool.{true≢false, false≢true, both_ways, not-true, not-false, and_parts, and_from, and_cases, or_cases, cases_Bool}
 use Rattle.std.specs.Prelude.{Option, Some, None}
 use Rattle.cad_paths.specs.declared.letter.Letter.{Letter}
 use Rattle.cad_paths.specs.declared.letter.Letter.TheVariants.{Use, Fill, Spend, Empty, Need, Fresh, Set}
 use Rattle.cad_paths.specs.declared.letter.Position.{Position}
 use Rattle.cad_paths.specs.Paths.{LetterAt, letter_at}
 use Rattle.cad_paths.specs.Marks.{Mark, is_value, is_nil, is_gone, is_unset, joined, is_there, if_allowed, after_letter, says_less, begin_mark, ends_well}
+
+pub some_is : {A : Type 0} (x y : A) → Some x ≡ Some y → x ≡ y
+some_is x y e = cc
+
+pub none_is : {A : Type 0} (y : A) → None ≡ Some y → ⊥
+none_is y e = cc
+
+pub some_none : {A : Type 0} (x : A) → Some x ≡ None → ⊥
+some_none x e = cc
+
+pub nil_cons : {A : Type 0} (x : A) (xs : List A) → [] ≡ x ∷ xs → ⊥
+nil_cons x xs e = cc
+
+pub same_head : {A : Type 0} (x y : A) (xs ys : List A) → x ∷ xs ≡ y ∷ ys → x ≡ y
+same_head x y xs ys e = cc
+
+pub same_tail : {A : Type 0} (x y : A) (xs ys : List A) → x ∷ xs ≡ y ∷ ys → xs ≡ ys
+same_tail x y xs ys e = cc
 
 pub data State : Type 0 where
   valued : State
@@ -81,11 +99,11 @@ run_wrong q u w e = run_on q None u w e ∙ run_none w
 -- ---- what a mark allows
 
 pub allowed_is : (b : Bool) (m n : Mark) → if_allowed b m ≡ Some n → (b ≡ true) × (m ≡ n)
-allowed_is true m n e = let p : m ≡ n = cc in (refl, p)
-allowed_is false m n e = cc
+allowed_is true m n e = (refl, some_is m n e)
+allowed_is false m n e = absurd (none_is n e)
 
 pub refused_is : (b : Bool) (m : Mark) → if_allowed b m ≡ None → b ≡ false
-refused_is true m e = cc
+refused_is true m e = absurd (some_none m e)
 refused_is false m e = refl
 
 pub not_gone : (m : Mark) → is_there m ≡ true → is_in m left ≡ true → ⊥
@@ -97,7 +115,7 @@ not_lacking m e h = both_ways m.unset (not-true m.unset (and_parts (not m.gone) 
 pub not_unset : (m : Mark) → not m.unset ≡ true → is_in m lacking ≡ true → ⊥
 not_unset m e h = both_ways m.unset (not-true m.unset e) h
 
-abbrev nothing_set : Mark → Bool
+abbrev pub nothing_set : Mark → Bool
 nothing_set m = not m.value && (not m.nil && not m.gone)
 
 fresh_value : (m : Mark) → nothing_set m ≡ true → is_in m valued ≡ true → ⊥
@@ -117,7 +135,7 @@ back_in m n s e h = subst (λ z. is_in z s ≡ true) (sym e) h
 
 -- ---- each state goes on
 
-abbrev Goes : Letter → Mark → State → Type 0
+abbrev pub Goes : Letter → Mark → State → Type 0
 Goes l n s = (t : State) × (step l s ≡ Some t) × (is_in n t ≡ true)
 
 pub letter_to : (l : Letter) (m n : Mark) (s : State) → after_letter l m ≡ Some n → is_in m s ≡ true → Goes l n s
@@ -152,7 +170,7 @@ letter_to Set m n lacking e h = (valued, refl, same_in is_value n valued (allowe
 
 -- ---- each state that is left came from one
 
-abbrev Came : Letter → Mark → State → Type 0
+abbrev pub Came : Letter → Mark → State → Type 0
 Came l m t = (s : State) × (is_in m s ≡ true) × (step l s ≡ Some t)
 
 fill_from : (m : Mark) (s : State) → is_there m ≡ true → is_in m s ≡ true → step Fill s ≡ Some valued
@@ -180,7 +198,7 @@ set_from left = refl
 set_from lacking = refl
 
 -- a mark of one state has no other
-abbrev single : State → Mark
+abbrev pub single : State → Mark
 single valued = is_value
 single emptied = is_nil
 single left = is_gone
@@ -188,20 +206,20 @@ single lacking = is_unset
 
 single_is : (s t : State) → is_in (single s) t ≡ true → t ≡ s
 single_is valued valued h = refl
-single_is valued emptied h = cc
-single_is valued left h = cc
-single_is valued lacking h = cc
-single_is emptied valued h = cc
+single_is valued emptied h = absurd (false≢true h)
+single_is valued left h = absurd (false≢true h)
+single_is valued lacking h = absurd (false≢true h)
+single_is emptied valued h = absurd (false≢true h)
 single_is emptied emptied h = refl
-single_is emptied left h = cc
-single_is emptied lacking h = cc
-single_is left valued h = cc
-single_is left emptied h = cc
+single_is emptied left h = absurd (false≢true h)
+single_is emptied lacking h = absurd (false≢true h)
+single_is left valued h = absurd (false≢true h)
+single_is left emptied h = absurd (false≢true h)
 single_is left left h = refl
-single_is left lacking h = cc
-single_is lacking valued h = cc
-single_is lacking emptied h = cc
-single_is lacking left h = cc
+single_is left lacking h = absurd (false≢true h)
+single_is lacking valued h = absurd (false≢true h)
+single_is lacking emptied h = absurd (false≢true h)
+single_is lacking left h = absurd (false≢true h)
 single_is lacking lacking h = refl
 
 -- a letter that leaves one state
@@ -240,7 +258,7 @@ letter_inhabited l m n e (s, h) = let p = letter_to l m n s e h in (p.0, p.2)
 
 -- ---- where a letter isn't allowed, some state doesn't allow it
 
-abbrev Stuck : Letter → Mark → Type 0
+abbrev pub Stuck : Letter → Mark → Type 0
 Stuck l m = (s : State) × (is_in m s ≡ true) × (step l s ≡ None)
 
 not_there : (m : Mark) → is_there m ≡ false → (is_in m left ≡ true) ⊎ (is_in m lacking ≡ true)
@@ -272,7 +290,7 @@ letter_stuck Spend m e = stuck_by Spend m refl refl (not_there m (refused_is (is
 letter_stuck Empty m e = stuck_by Empty m refl refl (not_there m (refused_is (is_there m) is_nil e))
 letter_stuck Need m e = (lacking, not-false m.unset (refused_is (not m.unset) m e), refl)
 letter_stuck Fresh m e = fresh_stuck m (refused_is (nothing_set m) m e)
-letter_stuck Set m e = cc
+letter_stuck Set m e = absurd (some_none is_value e)
 
 -- ---- marks that are joined
 
@@ -284,17 +302,17 @@ or_right : (a b : Bool) → b ≡ true → (a || b) ≡ true
 or_right true b e = refl
 or_right false b e = e
 
-pub in_left : (a b : Mark) (s : State) → is_in a s ≡ true → is_in (joined a b) s ≡ true
-in_left a b valued h = or_left a.value b.value h
-in_left a b emptied h = or_left a.nil b.nil h
-in_left a b left h = or_left a.gone b.gone h
-in_left a b lacking h = or_left a.unset b.unset h
+pub joined_left : (a b : Mark) (s : State) → is_in a s ≡ true → is_in (joined a b) s ≡ true
+joined_left a b valued h = or_left a.value b.value h
+joined_left a b emptied h = or_left a.nil b.nil h
+joined_left a b left h = or_left a.gone b.gone h
+joined_left a b lacking h = or_left a.unset b.unset h
 
-pub in_right : (a b : Mark) (s : State) → is_in b s ≡ true → is_in (joined a b) s ≡ true
-in_right a b valued h = or_right a.value b.value h
-in_right a b emptied h = or_right a.nil b.nil h
-in_right a b left h = or_right a.gone b.gone h
-in_right a b lacking h = or_right a.unset b.unset h
+pub joined_right : (a b : Mark) (s : State) → is_in b s ≡ true → is_in (joined a b) s ≡ true
+joined_right a b valued h = or_right a.value b.value h
+joined_right a b emptied h = or_right a.nil b.nil h
+joined_right a b left h = or_right a.gone b.gone h
+joined_right a b lacking h = or_right a.unset b.unset h
 
 pub in_joined : (a b : Mark) (s : State) → is_in (joined a b) s ≡ true → (is_in a s ≡ true) ⊎ (is_in b s ≡ true)
 in_joined a b valued h = or_cases a.value b.value h
@@ -312,7 +330,7 @@ implies : (a b : Bool) → (a ≡ true → b ≡ true) → (not a || b) ≡ true
 implies true b f = f refl
 implies false b f = refl
 
-abbrev less_of : Mark → Mark → State → Bool
+abbrev pub less_of : Mark → Mark → State → Bool
 less_of a b s = not (is_in a s) || is_in b s
 
 less_parts : (a b : Mark) (s : State) → says_less a b ≡ true → less_of a b s ≡ true
@@ -332,7 +350,7 @@ less_by a b f =
 
 -- ---- how many states a mark has
 
-abbrev one : Bool → ℕ
+abbrev pub one : Bool → ℕ
 one true = 1
 one false = 0
 
@@ -362,10 +380,10 @@ one_grown false true = omega arith
 one_grown false false = omega arith
 
 one_more : (a b : Bool) → (not b || a) ≡ false → one a + 1 ≤ one (a || b)
-one_more true true e = cc
-one_more true false e = cc
+one_more true true e = absurd (true≢false e)
+one_more true false e = absurd (true≢false e)
 one_more false true e = omega arith
-one_more false false e = cc
+one_more false false e = absurd (true≢false e)
 
 -- a mark that says more than another says grows when they are joined
 pub size_grown : (a b : Mark) → says_less b a ≡ false → size a + 1 ≤ size (joined a b)
