@@ -2,6 +2,7 @@ mod Complete
 mod Entries
 mod Leaves
 mod Linear
+mod Numbered
 mod Plain
 mod Settings
 mod Sound

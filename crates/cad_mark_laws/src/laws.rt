@@ -1,10 +1,15 @@
 // Laws of marks.
 ghost use Rattle.cad_paths.specs.Marks.{LinearHasMarks};
-ghost use Rattle.cad_mark_laws.specs.Laws.{LoopsAreStable, SetFieldsHaveMarks};
+ghost use Rattle.cad_mark_laws.specs.Laws.{FunctionsHaveMarks, LoopsAreStable, SetFieldsHaveMarks};
 
 /// A body whose lives are linear has marks.
 pub fn linear_has_marks()
     ensures { LinearHasMarks }
+{}
+
+/// An elaborated function whose lives are linear has marks.
+pub fn functions_have_marks()
+    ensures { FunctionsHaveMarks }
 {}
 
 /// What sets its fields on every path, and before they are used, has marks.
