@@ -9,7 +9,7 @@ use Rattle.cad_paths.specs.declared.letter.Position.{Position}
 use Rattle.cad_paths.specs.Paths.{PathVariable, PathBody, leave, spell, seq, either, loop, catch, scope, LetterAt, spelled, goes_on, caught, Words, by_leaving, by_letter, by_both, by_first_alone, by_left, by_right, by_no_turn, by_turn, by_last_turn, by_catching, by_scope}
 use Rattle.cad_paths.specs.Marks.{Mark, MarkEntry, after_spelling, all_say_less, Leaves, nowhere, only, together, cut_off, catching, ◌>=>◌, entered, followed, turned, turns, begin_mark, scope_left, marks, among, declares_anew}
 use Rattle.cad_mark_laws.specs.Laws.{IsStable}
-use Rattle.cad_mark_laws.proofs.States.{State, is_in, run, run_on, less_in}
+use Rattle.cad_mark_laws.proofs.States.{State, is_in, run, run_then, less_in}
 use Rattle.cad_mark_laws.proofs.Entries.{variables, mark_at, HasState, same_some, other_mark, is_among, is_other, behind, spelling_keeps, spelling_to, says_less_at}
 use Rattle.cad_mark_laws.proofs.Leaves.{at, bind_some, Over, Holds, OverAll, HoldsAt, nowhere_over, only_over, together_over, cut_over, catching_over, turned_over, only_at, together_left, together_right, cut_at, turned_at, catching_at, Grows, Stands, turns_stand, turns_again, grows_keep, grows_hold, scope_over, scope_at}
 
@@ -86,7 +86,7 @@ complete fields u (by_both {a = a} {b = b} {u = w1} {w = w2} {x = x} i j) m l s 
     let n = entered_at k.0.next (marks fields b) q.0 u r.0 r.2 q.1 in
     let same : variables n.0 ≡ variables m = over_some (variables m) k.0.next n.0 (over Next) n.1 in
     let t = complete fields u j n.0 q.0 r.0 (subst (λ z. declares_anew z b ≡ true) (sym same) c.1) n.3 n.2 in
-    (t.0, run_on (Some s) (Some r.0) w1 w2 r.1 ∙ t.1, subst (λ z. HoldsAt z x u t.0) (same_some (together (cut_off k.0) q.0) l q.2)
+    (t.0, run_then (Some s) (Some r.0) (Some t.0) w1 w2 r.1 t.1, subst (λ z. HoldsAt z x u t.0) (same_some (together (cut_off k.0) q.0) l q.2)
     (together_right (variables m) (cut_off k.0) q.0 x u t.0 (cut_over (variables m) k.0 over) (subst (λ z. OverAll z q.0) same (shape fields b n.0 q.0 n.3)) t.2))
 complete fields u (by_first_alone {a = a} {b = b} {x = x} g i) m l s d e h =
     let c = and_parts (declares_anew (variables m) a) (declares_anew (variables m) b) d in
@@ -123,7 +123,7 @@ complete fields u (by_turn {a = a} {u = w1} {w = w2} {y = y} i j) m l s d e h =
     let r = complete fields u i k.0 k.1 s decl k.3 (grows_hold (variables m) (marks fields a) keeps k.2 refl u s h) in
     let back = stable_at (variables k.0) k.1.next k.0 u r.0 (shape fields a k.0 k.1 k.3 Next) refl k.4 r.2 in
     let t = complete fields u j k.0 l r.0 decl (turns_again 3 (marks fields a) k.0 k.1 k.3 k.4 ∙ ap Some (sym k.5)) back in
-    (t.0, run_on (Some s) (Some r.0) w1 w2 r.1 ∙ t.1, t.2)
+    (t.0, run_then (Some s) (Some r.0) (Some t.0) w1 w2 r.1 t.1, t.2)
 complete fields u (by_last_turn {a = a} {x = x} g i) m l s d e h =
     let k = turns_stand 4 (marks fields a) m l e in
     let keeps = λ (n : List MarkEntry) (y : Leaves) (c : variables n ≡ variables m) (o : marks fields a n ≡ Some y). subst (λ z. OverAll z y) c (shape fields a n y o) in

@@ -1,5 +1,6 @@
 mod Complete
 mod Entries
+mod Examples
 mod Leaves
 mod Linear
 mod Numbered
@@ -8,3 +9,4 @@ mod Settings
 mod Sound
 mod Stable
 mod States
+mod Transactions

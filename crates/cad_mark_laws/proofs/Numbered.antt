@@ -44,11 +44,11 @@ use Rattle.cad_mark_laws.proofs.Plain.{Plain, plain_anew, variable_plain, take_p
 
 -- ---- what an option or a result holds
 
-abbrev Each : {A : Type 0} → (A → Type 0) → Option A → Type 0
+abbrev pub Each : {A : Type 0} → (A → Type 0) → Option A → Type 0
 Each P None = Unit {0}
 Each P (Some x) = P x
 
-abbrev Every : {A : Type 0} → (A → Type 0) → Result A ℕ → Type 0
+abbrev pub Every : {A : Type 0} → (A → Type 0) → Result A ℕ → Type 0
 Every P (Err n) = Unit {0}
 Every P (Ok x) = P x
 
@@ -72,7 +72,7 @@ every_map : {A : Type 0} (P Q : A → Type 0) (r : Result A ℕ) → ((x : A) �
 every_map P Q (Err n) f h = tt
 every_map P Q (Ok x) f h = f x h
 
-every_ok : {A : Type 0} (P : A → Type 0) (r : Result A ℕ) (x : A) → r ≡ Ok x → Every P r → P x
+pub every_ok : {A : Type 0} (P : A → Type 0) (r : Result A ℕ) (x : A) → r ≡ Ok x → Every P r → P x
 every_ok P r x e h = subst (λ z. Every P z) e h
 
 anything : {A : Type 0} (o : Option A) → Each (λ x. Unit {0}) o
@@ -83,7 +83,7 @@ all_right : {A : Type 0} (r : Result A ℕ) → Every (λ x. Unit {0}) r
 all_right (Err n) = tt
 all_right (Ok x) = tt
 
-suc_in : (n k : ℕ) → suc n + k ≡ n + suc k
+pub suc_in : (n k : ℕ) → suc n + k ≡ n + suc k
 suc_in n k = omega arith
 
 count_is : {A : Type 0} (xs : List A) (n : ℕ) → length xs ≡ n → 0 + length xs ≡ n
@@ -91,10 +91,10 @@ count_is xs n e = let p : 0 + length xs ≡ length xs = omega arith in p ∙ e
 
 -- ---- numbers in use
 
-abbrev Anew : List ℕ → PathBody → Type 0
+abbrev pub Anew : List ℕ → PathBody → Type 0
 Anew us a = declares_anew us a ≡ true
 
-below_more : (us : List ℕ) (n k : ℕ) → n ≤ k → AreBelow us n → AreBelow us k
+pub below_more : (us : List ℕ) (n k : ℕ) → n ≤ k → AreBelow us n → AreBelow us k
 below_more us n k h f u i = let p = f u i in omega arith
 
 below_next : (us : List ℕ) (n k : ℕ) → n < k → AreBelow us n → AreBelow (n ∷ us) k
@@ -111,24 +111,24 @@ scope_by true v at n k us a e h f g =
     (g (v.number ∷ us) (subst (λ z. AreBelow (z ∷ us) k) (sym e) (below_next us n k h f)))
 scope_by false v at n k us a e h f g = g us (below_more us n k (omega arith) f)
 
-scope_anew : (v : e.VariableEntry) (at : Position) (n k : ℕ) (us : List ℕ) (a : PathBody) → v.number ≡ n → n < k → AreBelow us n → ((vs : List ℕ) → AreBelow vs k → Anew vs a) → Anew us (b.declared resources v at a)
+pub scope_anew : (v : e.VariableEntry) (at : Position) (n k : ℕ) (us : List ℕ) (a : PathBody) → v.number ≡ n → n < k → AreBelow us n → ((vs : List ℕ) → AreBelow vs k → Anew vs a) → Anew us (b.declared resources v at a)
 scope_anew v at n k us a e h f g = scope_by v.is_resource v at n k us a e h f g
 
 -- ---- statements
 
-abbrev AreFine : BodyPart → ℕ → e.Statements → Type 0
+abbrev pub AreFine : BodyPart → ℕ → e.Statements → Type 0
 AreFine part n all = (us : List ℕ) → AreBelow us n → Anew us (statements_letters resources part all)
 
-abbrev BlockFine : BodyPart → ℕ → e.BlockTree → Type 0
+abbrev pub BlockFine : BodyPart → ℕ → e.BlockTree → Type 0
 BlockFine part n a = (us : List ℕ) → AreBelow us n → Anew us (block_letters resources part a)
 
 -- what stands behind the statement may declare from this number on
-abbrev Fine : BodyPart → Surroundings → StatementTyping → Type 0
+abbrev pub Fine : BodyPart → Surroundings → StatementTyping → Type 0
 Fine part w y = ((us : List ℕ) → AreBelow us w.env.in_use → Anew us (statement_letters resources part y.tree))
     × ((us : List ℕ) (rest : PathBody) → AreBelow us w.env.in_use → ((vs : List ℕ) → AreBelow vs (behind_statement y w).env.in_use → Anew vs rest) → Anew us (scope_behind resources part y.tree rest))
 
 -- one that declares nothing
-abbrev Bare : BodyPart → e.StatementTree → Type 0
+abbrev pub Bare : BodyPart → e.StatementTree → Type 0
 Bare part t = Plain resources (statement_letters resources part t) × ((rest : PathBody) → scope_behind resources part t rest ≡ rest)
 
 bare_fine : (part : BodyPart) (w : Surroundings) (t : e.StatementTree) → Bare part t → Fine part w (alone t)
@@ -233,7 +233,7 @@ declaration_fine part w n kind name written by a (Some second) =
 -- ---- tests
 
 -- a test's variable has the next number
-abbrev Next : Environment → TestTyping → Type 0
+abbrev pub Next : Environment → TestTyping → Type 0
 Next env (plain_test x) = Unit {0}
 Next env (content_test v x t) = v.number ≡ env.in_use
 Next env (cast_test v p t) = v.number ≡ env.in_use
@@ -277,7 +277,7 @@ test_next env (s.binding kind name written by a) = each_when (Next env) (may_dec
 
 -- ---- forms with statements in them
 
-seq_anew : (us : List ℕ) (x y : PathBody) → Anew us x → Anew us y → Anew us (seq x y)
+pub seq_anew : (us : List ℕ) (x y : PathBody) → Anew us x → Anew us y → Anew us (seq x y)
 seq_anew us x y h i = and_from (declares_anew us x) (declares_anew us y) h i
 
 either_anew : (us : List ℕ) (x y : PathBody) → Anew us x → Anew us y → Anew us (either x y)
@@ -293,14 +293,14 @@ if_let_anew us at (Some v) x a c h i j =
     (seq_anew us (variable_letters resources Spend at v) a refl i) (seq_anew us (variable_letters resources Empty at v) c refl j)
 
 -- what a statement with blocks owes: it declares nothing behind it
-abbrev BlocksFine : BodyPart → ℕ → e.StatementTree → Type 0
+abbrev pub BlocksFine : BodyPart → ℕ → e.StatementTree → Type 0
 BlocksFine part m t = ((us : List ℕ) → AreBelow us m → Anew us (statement_letters resources part t)) × ((rest : PathBody) → scope_behind resources part t rest ≡ rest)
 
 blocks_fine : (part : BodyPart) (w : Surroundings) (t : e.StatementTree) → BlocksFine part w.env.in_use t → Fine part w (alone t)
 blocks_fine part w t h = (h.0, λ us rest f g. subst (λ z. Anew us z) (sym (h.1 rest)) (g us f))
 
 -- a block that begins with more variables in use
-inner : (part : BodyPart) (m k : ℕ) (a : e.BlockTree) → m ≤ k → BlockFine part k a → BlockFine part m a
+pub inner : (part : BodyPart) (m k : ℕ) (a : e.BlockTree) → m ≤ k → BlockFine part k a → BlockFine part m a
 inner part m k a h f us g = f us (below_more us m k h g)
 
 if_fine : (part : BodyPart) (env : Environment) (n k j : ℕ) (x : TestTyping) (a c : e.BlockTree) → Next env x → env.in_use + length (test_locals x) ≤ k → env.in_use ≤ j → BlockFine part k a → BlockFine part j c → BlocksFine part env.in_use (test_tree env n x a c)
@@ -329,7 +329,7 @@ for_fine part env n k x a h f =
     (λ us d. seq_anew us (term_letters resources (position part n) x.array) (block_letters resources part a) (term_anew us part n x.array) (inner part env.in_use k a h f us d), λ rest. refl)
 
 -- blocks of cases
-abbrev AllFine : BodyPart → ℕ → List e.BlockTree → Type 0
+abbrev pub AllFine : BodyPart → ℕ → List e.BlockTree → Type 0
 AllFine part m [] = Unit {0}
 AllFine part m (a ∷ all) = BlockFine part m a × AllFine part m all
 
@@ -349,13 +349,13 @@ switch_fine part m n x all c f g =
 -- ---- all statements
 
 -- a block in a scope of its own begins with as many in use as there are outside it, and its variables
-abbrev begins_at : List Local → Surroundings → ℕ
+abbrev pub begins_at : List Local → Surroundings → ℕ
 begins_at locals w = (in_block locals w).env.in_use
 
-block_fine : (part : BodyPart) (locals : List Local) (w : Surroundings) (all : Surroundings → Result e.Statements ℕ) → Every (AreFine part (begins_at locals w)) (all (in_block locals w)) → Every (BlockFine part (begins_at locals w)) (block_in locals w all)
+pub block_fine : (part : BodyPart) (locals : List Local) (w : Surroundings) (all : Surroundings → Result e.Statements ℕ) → Every (AreFine part (begins_at locals w)) (all (in_block locals w)) → Every (BlockFine part (begins_at locals w)) (block_in locals w all)
 block_fine part locals w all h = every_bind (AreFine part (begins_at locals w)) (BlockFine part (begins_at locals w)) (all (in_block locals w)) (λ xs. Ok (e.block (in_block locals w).env.in_use xs)) h (λ xs f. f)
 
-no_less : (m : ℕ) (locals : List Local) (w : Surroundings) → m ≡ w.env.in_use → m ≤ begins_at locals w
+pub no_less : (m : ℕ) (locals : List Local) (w : Surroundings) → m ≡ w.env.in_use → m ≤ begins_at locals w
 no_less m locals w e = omega arith
 
 as_many : (locals : List Local) (w : Surroundings) → w.env.in_use + length locals ≤ begins_at locals w
@@ -394,7 +394,7 @@ mutual
   statement_fine part w n (s.swap a c) = single_fine part w n (swap w.env n a c) (swap_bare part w.env n a c)
   statement_fine part w n (s.expression a) = single_fine part w n (evaluated w.env n a) (evaluated_bare part w.env n a)
 
-  statements_fine : (part : BodyPart) (w : Surroundings) (n : ℕ) (all : s.Stmts) → Every (AreFine part w.env.in_use) (type_statements w n all)
+  pub statements_fine : (part : BodyPart) (w : Surroundings) (n : ℕ) (all : s.Stmts) → Every (AreFine part w.env.in_use) (type_statements w n all)
   statements_fine part w n s.no_stmts = λ us f. refl
   statements_fine part w n (s.stmts x all) =
       every_bind (Fine part w) (AreFine part w.env.in_use) (type_statement w n x) _ (statement_fine part w n x)

@@ -93,6 +93,9 @@ run_append q (letter_at l s ∷ u) w = run_append (onward l q) u w
 pub run_on : (q r : Option State) (u w : List LetterAt) → run q u ≡ r → run q (u ++ w) ≡ run r w
 run_on q r u w e = run_append q u w ∙ ap (λ z. run z w) e
 
+pub run_then : (q r k : Option State) (u w : List LetterAt) → run q u ≡ r → run r w ≡ k → run q (u ++ w) ≡ k
+run_then q r k u w e d = run_on q r u w e ∙ d
+
 pub run_wrong : (q : Option State) (u w : List LetterAt) → run q u ≡ None → run q (u ++ w) ≡ None
 run_wrong q u w e = run_on q None u w e ∙ run_none w
 

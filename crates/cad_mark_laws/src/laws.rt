@@ -1,6 +1,8 @@
 // Laws of marks.
 ghost use Rattle.cad_paths.specs.Marks.{LinearHasMarks};
-ghost use Rattle.cad_mark_laws.specs.Laws.{FunctionsHaveMarks, LoopsAreStable, SetFieldsHaveMarks};
+ghost use Rattle.cad_mark_laws.specs.Laws.{
+    FunctionsHaveMarks, LoopsAreStable, SetFieldsHaveMarks, TransactionsHaveMarks,
+};
 
 /// A body whose lives are linear has marks.
 pub fn linear_has_marks()
@@ -10,6 +12,11 @@ pub fn linear_has_marks()
 /// An elaborated function whose lives are linear has marks.
 pub fn functions_have_marks()
     ensures { FunctionsHaveMarks }
+{}
+
+/// An elaborated transaction whose lives are linear has marks.
+pub fn transactions_have_marks()
+    ensures { TransactionsHaveMarks }
 {}
 
 /// What sets its fields on every path, and before they are used, has marks.

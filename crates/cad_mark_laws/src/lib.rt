@@ -3,4 +3,7 @@
 
 mod laws;
 
-pub use laws::{functions_have_marks, linear_has_marks, loops_are_stable, set_fields_have_marks};
+pub use laws::{
+    functions_have_marks, linear_has_marks, loops_are_stable, set_fields_have_marks,
+    transactions_have_marks,
+};
