@@ -85,33 +85,45 @@ complete fields u (by_both {a = a} {b = b} {u = w1} {w = w2} {x = x} i j) m l s 
     let r = complete fields u i m k.0 s c.0 k.1 h in
     let n = entered_at k.0.next (marks fields b) q.0 u r.0 r.2 q.1 in
     let same : variables n.0 ≡ variables m = over_some (variables m) k.0.next n.0 (over Next) n.1 in
-    let t = complete fields u j n.0 q.0 r.0 (subst (λ z. declares_anew z b ≡ true) (sym same) c.1) n.3 n.2 in
-    (t.0, run_then (Some s) (Some r.0) (Some t.0) w1 w2 r.1 t.1, subst (λ z. HoldsAt z x u t.0) (same_some (together (cut_off k.0) q.0) l q.2)
-    (together_right (variables m) (cut_off k.0) q.0 x u t.0 (cut_over (variables m) k.0 over) (subst (λ z. OverAll z q.0) same (shape fields b n.0 q.0 n.3)) t.2))
+    let t = complete fields u j n.0 q.0 r.0 (subst (λ z. declares_anew z b ≡ true) (sym same) c.1) n.3 n.2 in (
+      t.0,
+      run_then (Some s) (Some r.0) (Some t.0) w1 w2 r.1 t.1,
+      subst (λ z. HoldsAt z x u t.0) (same_some (together (cut_off k.0) q.0) l q.2)
+          (together_right (variables m) (cut_off k.0) q.0 x u t.0 (cut_over (variables m) k.0 over) (subst (λ z. OverAll z q.0) same (shape fields b n.0 q.0 n.3)) t.2),
+    )
 complete fields u (by_first_alone {a = a} {b = b} {x = x} g i) m l s d e h =
     let c = and_parts (declares_anew (variables m) a) (declares_anew (variables m) b) d in
     let k = bind_some (marks fields a m) (λ y. followed y (marks fields b)) l e in
     let q = bind_some (entered k.0.next (marks fields b)) (λ y. Some (together (cut_off k.0) y)) l k.2 in
     let over = shape fields a m k.0 k.1 in
-    let r = complete fields u i m k.0 s c.0 k.1 h in
-    (r.0, r.1, subst (λ z. HoldsAt z x u r.0) (same_some (together (cut_off k.0) q.0) l q.2)
-    (together_left (variables m) (cut_off k.0) q.0 x u r.0 (cut_over (variables m) k.0 over)
-    (entered_over (variables m) k.0.next (marks fields b) q.0 (over Next) q.1 (λ n o y. subst (λ z. OverAll z q.0) o (shape fields b n q.0 y)))
-    (cut_at k.0 x u r.0 g r.2)))
+    let r = complete fields u i m k.0 s c.0 k.1 h in (
+      r.0,
+      r.1,
+      subst (λ z. HoldsAt z x u r.0) (same_some (together (cut_off k.0) q.0) l q.2)
+          (together_left (variables m) (cut_off k.0) q.0 x u r.0 (cut_over (variables m) k.0 over)
+          (entered_over (variables m) k.0.next (marks fields b) q.0 (over Next) q.1 (λ n o y. subst (λ z. OverAll z q.0) o (shape fields b n q.0 y)))
+          (cut_at k.0 x u r.0 g r.2)),
+    )
 complete fields u (by_left {a = a} {b = b} {x = x} i) m l s d e h =
     let c = and_parts (declares_anew (variables m) a) (declares_anew (variables m) b) d in
     let k = bind_some (marks fields a m) (λ y. marks fields b m >=> (λ z. Some (together y z))) l e in
     let q = bind_some (marks fields b m) (λ z. Some (together k.0 z)) l k.2 in
-    let r = complete fields u i m k.0 s c.0 k.1 h in
-    (r.0, r.1, subst (λ z. HoldsAt z x u r.0) (same_some (together k.0 q.0) l q.2)
-    (together_left (variables m) k.0 q.0 x u r.0 (shape fields a m k.0 k.1) (shape fields b m q.0 q.1) r.2))
+    let r = complete fields u i m k.0 s c.0 k.1 h in (
+      r.0,
+      r.1,
+      subst (λ z. HoldsAt z x u r.0) (same_some (together k.0 q.0) l q.2)
+          (together_left (variables m) k.0 q.0 x u r.0 (shape fields a m k.0 k.1) (shape fields b m q.0 q.1) r.2),
+    )
 complete fields u (by_right {a = a} {b = b} {x = x} i) m l s d e h =
     let c = and_parts (declares_anew (variables m) a) (declares_anew (variables m) b) d in
     let k = bind_some (marks fields a m) (λ y. marks fields b m >=> (λ z. Some (together y z))) l e in
     let q = bind_some (marks fields b m) (λ z. Some (together k.0 z)) l k.2 in
-    let r = complete fields u i m q.0 s c.1 q.1 h in
-    (r.0, r.1, subst (λ z. HoldsAt z x u r.0) (same_some (together k.0 q.0) l q.2)
-    (together_right (variables m) k.0 q.0 x u r.0 (shape fields a m k.0 k.1) (shape fields b m q.0 q.1) r.2))
+    let r = complete fields u i m q.0 s c.1 q.1 h in (
+      r.0,
+      r.1,
+      subst (λ z. HoldsAt z x u r.0) (same_some (together k.0 q.0) l q.2)
+          (together_right (variables m) k.0 q.0 x u r.0 (shape fields a m k.0 k.1) (shape fields b m q.0 q.1) r.2),
+    )
 complete fields u (by_no_turn {a = a}) m l s d e h =
     let k = turns_stand 4 (marks fields a) m l e in
     (s, refl, subst (λ z. HoldsAt z Next u s) (sym k.5) (grows_hold (variables m) (marks fields a) (λ n x c i. subst (λ z. OverAll z x) c (shape fields a n x i)) k.2 refl u s h))

@@ -287,11 +287,11 @@ parts_by fields a l n b c r d e f g h Never = refl
 pub scope_parts : (fields : Bool) (a l : Leaves) → scope_left fields a ≡ Some l → (x : Way) → left_scope fields (at a x) ≡ Some (at l x)
 scope_parts fields a l e x =
     let n = bind_some (left_scope fields a.next) (λ n. left_scope fields a.broken >=> (λ b. left_scope fields a.continued >=> (λ c. left_scope fields a.returned >=> (λ r.
-        Some (leaving n b c r))))) l e in
+    Some (leaving n b c r))))) l e in
     let b = bind_some (left_scope fields a.broken) (λ b. left_scope fields a.continued >=> (λ c. left_scope fields a.returned >=> (λ r.
-        Some (leaving n.0 b c r)))) l n.2 in
+    Some (leaving n.0 b c r)))) l n.2 in
     let c = bind_some (left_scope fields a.continued) (λ c. left_scope fields a.returned >=> (λ r.
-        Some (leaving n.0 b.0 c r))) l b.2 in
+    Some (leaving n.0 b.0 c r))) l b.2 in
     let r = bind_some (left_scope fields a.returned) (λ r. Some (leaving n.0 b.0 c.0 r)) l c.2 in
     parts_by fields a l n.0 b.0 c.0 r.0 n.1 b.1 c.1 r.1 (same_some (leaving n.0 b.0 c.0 r.0) l r.2) x
 

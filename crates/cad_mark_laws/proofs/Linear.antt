@@ -65,16 +65,22 @@ looks_keep (and_look h) = looks_keep h
 -- a linear word is allowed
 linear_goes : {w : List LifeLetter} → LinearWord w → (k : State) × (goes (Some valued) w ≡ Some k)
 linear_goes (spent a b c {u = u} h) = (left, goes_on_behind (Some valued) (Some valued) u (spells Spend b ∷ (close c ∷ [])) (uses_keep h))
-linear_goes (left_nil a b c {u = u} {r = r} h k) =
-    (emptied, goes_on_behind (Some valued) (Some valued) u (spells Empty b ∷ (r ++ (close c ∷ []))) (uses_keep h)
-    ∙ goes_on_behind (Some emptied) (Some emptied) r (close c ∷ []) (looks_keep k))
-linear_goes (spent_nil a b c d {u = u} {r = r} h k) =
-    (left, goes_on_behind (Some valued) (Some valued) u (spells Empty b ∷ (r ++ (spells Spend c ∷ (close d ∷ [])))) (uses_keep h)
-    ∙ goes_on_behind (Some emptied) (Some emptied) r (spells Spend c ∷ (close d ∷ [])) (looks_keep k))
-linear_goes (filled_again a b c d e {u = u} {r = r} {v = v} h k l) =
-    (left, goes_on_behind (Some valued) (Some valued) u (spells Empty b ∷ (r ++ (spells Fill c ∷ (v ++ (spells Spend d ∷ (close e ∷ [])))))) (uses_keep h)
-    ∙ goes_on_behind (Some emptied) (Some emptied) r (spells Fill c ∷ (v ++ (spells Spend d ∷ (close e ∷ [])))) (looks_keep k)
-    ∙ goes_on_behind (Some valued) (Some valued) v (spells Spend d ∷ (close e ∷ [])) (uses_keep l))
+linear_goes (left_nil a b c {u = u} {r = r} h k) = (
+  emptied,
+  goes_on_behind (Some valued) (Some valued) u (spells Empty b ∷ (r ++ (close c ∷ []))) (uses_keep h)
+      ∙ goes_on_behind (Some emptied) (Some emptied) r (close c ∷ []) (looks_keep k),
+)
+linear_goes (spent_nil a b c d {u = u} {r = r} h k) = (
+  left,
+  goes_on_behind (Some valued) (Some valued) u (spells Empty b ∷ (r ++ (spells Spend c ∷ (close d ∷ [])))) (uses_keep h)
+      ∙ goes_on_behind (Some emptied) (Some emptied) r (spells Spend c ∷ (close d ∷ [])) (looks_keep k),
+)
+linear_goes (filled_again a b c d e {u = u} {r = r} {v = v} h k l) = (
+  left,
+  goes_on_behind (Some valued) (Some valued) u (spells Empty b ∷ (r ++ (spells Fill c ∷ (v ++ (spells Spend d ∷ (close e ∷ [])))))) (uses_keep h)
+      ∙ goes_on_behind (Some emptied) (Some emptied) r (spells Fill c ∷ (v ++ (spells Spend d ∷ (close e ∷ [])))) (looks_keep k)
+      ∙ goes_on_behind (Some valued) (Some valued) v (spells Spend d ∷ (close e ∷ [])) (uses_keep l),
+)
 
 -- ---- lives
 

@@ -160,14 +160,18 @@ evaluated_bare part env n a =
     (λ x. each_when (Bare part) (not (resource (kinds env) x.type)) (Some (e.expression n x.term)) (term_plain resources (position part n) x.term, λ rest. refl))
 
 assign_bare : (part : BodyPart) (n : ℕ) (p : Target) (x : Typing) → Bare part (e.assign n p.place x.term p.type)
-assign_bare part n p x =
-    (plain_three (target_letters resources (position part n) p.place) (term_letters resources (position part n) x.term) (set_letters resources (position part n) p.place)
-    (target_plain resources (position part n) p.place) (term_plain resources (position part n) x.term) (set_plain resources (position part n) p.place), λ rest. refl)
+assign_bare part n p x = (
+  plain_three (target_letters resources (position part n) p.place) (term_letters resources (position part n) x.term) (set_letters resources (position part n) p.place)
+      (target_plain resources (position part n) p.place) (term_plain resources (position part n) x.term) (set_plain resources (position part n) p.place),
+  λ rest. refl,
+)
 
 force_bare : (part : BodyPart) (n : ℕ) (p : Target) (x : Typing) → Bare part (e.force_assign n p.place x.term p.type)
-force_bare part n p x =
-    (plain_three (target_letters resources (position part n) p.place) (term_letters resources (position part n) x.term) (fill_letters resources (position part n) p.place)
-    (target_plain resources (position part n) p.place) (term_plain resources (position part n) x.term) (fill_plain resources (position part n) p.place), λ rest. refl)
+force_bare part n p x = (
+  plain_three (target_letters resources (position part n) p.place) (term_letters resources (position part n) x.term) (fill_letters resources (position part n) p.place)
+      (target_plain resources (position part n) p.place) (term_plain resources (position part n) x.term) (fill_plain resources (position part n) p.place),
+  λ rest. refl,
+)
 
 assigned_bare : (part : BodyPart) (env : Environment) (n : ℕ) (by : Transfer) (a : s.ExprTree) (p : Target) → Each (Bare part) (assignment_to env n by a p)
 assigned_bare part env n sign.Copy a p = each_bind (Bare part) (infer_moved env sign.Copy p.type a) (λ x. Some (e.assign n p.place x.term p.type)) (λ x. assign_bare part n p x)
@@ -182,12 +186,14 @@ assignment_bare : (part : BodyPart) (env : Environment) (n : ℕ) (place : s.Exp
 assignment_bare part env n place by a = each_bind (Bare part) (infer_target env place) (assignment_to env n by a) (λ p. assigned_bare part env n by a p)
 
 swap_tree : (part : BodyPart) (n : ℕ) (p q : Target) → Bare part (e.swap n p.place p.type q.place q.type)
-swap_tree part n p q =
-    (plain_three (target_letters resources (position part n) p.place) (target_letters resources (position part n) q.place)
-    (seq (fill_letters resources (position part n) p.place) (fill_letters resources (position part n) q.place))
-    (target_plain resources (position part n) p.place) (target_plain resources (position part n) q.place)
-    (plain_both (fill_letters resources (position part n) p.place) (fill_letters resources (position part n) q.place)
-    (fill_plain resources (position part n) p.place) (fill_plain resources (position part n) q.place)), λ rest. refl)
+swap_tree part n p q = (
+  plain_three (target_letters resources (position part n) p.place) (target_letters resources (position part n) q.place)
+      (seq (fill_letters resources (position part n) p.place) (fill_letters resources (position part n) q.place))
+      (target_plain resources (position part n) p.place) (target_plain resources (position part n) q.place)
+      (plain_both (fill_letters resources (position part n) p.place) (fill_letters resources (position part n) q.place)
+      (fill_plain resources (position part n) p.place) (fill_plain resources (position part n) q.place)),
+  λ rest. refl,
+)
 
 swap_bare : (part : BodyPart) (env : Environment) (n : ℕ) (a c : s.ExprTree) → Each (Bare part) (swap env n a c)
 swap_bare part env n a c =
@@ -203,16 +209,18 @@ next_is : (n : ℕ) → n < n + 1
 next_is n = omega arith
 
 declared_fine : (part : BodyPart) (w : Surroundings) (n : ℕ) (kind : VariableKind) (name : Name) (x : e.TargetedTerm) → Fine part w (form.declared w.env n kind name x)
-declared_fine part w n kind name x =
-    (λ us f. plain_anew resources us (term_letters resources (position part n) x.value) (term_plain resources (position part n) x.value),
-     λ us rest f g. scope_anew (entry_of w.env (next_local w.env kind name x.target)) (position part n) w.env.in_use (w.env.in_use + 1) us rest refl (next_is w.env.in_use) f g)
+declared_fine part w n kind name x = (
+  λ us f. plain_anew resources us (term_letters resources (position part n) x.value) (term_plain resources (position part n) x.value),
+  λ us rest f g. scope_anew (entry_of w.env (next_local w.env kind name x.target)) (position part n) w.env.in_use (w.env.in_use + 1) us rest refl (next_is w.env.in_use) f g,
+)
 
 exchanged_fine : (part : BodyPart) (w : Surroundings) (n : ℕ) (kind : VariableKind) (name : Name) (p : Target) (t : PureType) (x : Typing) → Fine part w (exchanged w.env n kind name p t x)
-exchanged_fine part w n kind name p t x =
-    (λ us f. plain_anew resources us (statement_letters resources part (e.exchange n (entry_of w.env (next_local w.env kind name t)) p.place p.type x.term))
-    (plain_three (target_letters resources (position part n) p.place) (term_letters resources (position part n) x.term) (fill_letters resources (position part n) p.place)
-    (target_plain resources (position part n) p.place) (term_plain resources (position part n) x.term) (fill_plain resources (position part n) p.place)),
-     λ us rest f g. scope_anew (entry_of w.env (next_local w.env kind name t)) (position part n) w.env.in_use (w.env.in_use + 1) us rest refl (next_is w.env.in_use) f g)
+exchanged_fine part w n kind name p t x = (
+  λ us f. plain_anew resources us (statement_letters resources part (e.exchange n (entry_of w.env (next_local w.env kind name t)) p.place p.type x.term))
+      (plain_three (target_letters resources (position part n) p.place) (term_letters resources (position part n) x.term) (fill_letters resources (position part n) p.place)
+      (target_plain resources (position part n) p.place) (term_plain resources (position part n) x.term) (fill_plain resources (position part n) p.place)),
+  λ us rest f g. scope_anew (entry_of w.env (next_local w.env kind name t)) (position part n) w.env.in_use (w.env.in_use + 1) us rest refl (next_is w.env.in_use) f g,
+)
 
 exchange_fine : (part : BodyPart) (w : Surroundings) (n : ℕ) (kind : VariableKind) (name : Name) (written : Option s.Annotation) (place a : s.ExprTree) → Each (Fine part w) (exchange w.env n kind name written place a)
 exchange_fine part w n kind name written place a =
@@ -304,25 +312,32 @@ pub inner : (part : BodyPart) (m k : ℕ) (a : e.BlockTree) → m ≤ k → Bloc
 inner part m k a h f us g = f us (below_more us m k h g)
 
 if_fine : (part : BodyPart) (env : Environment) (n k j : ℕ) (x : TestTyping) (a c : e.BlockTree) → Next env x → env.in_use + length (test_locals x) ≤ k → env.in_use ≤ j → BlockFine part k a → BlockFine part j c → BlocksFine part env.in_use (test_tree env n x a c)
-if_fine part env n k j (plain_test x) a c h i l f g =
-    (λ us d. seq_anew us (term_letters resources (position part n) x) (either (block_letters resources part a) (block_letters resources part c)) (term_anew us part n x)
-    (either_anew us (block_letters resources part a) (block_letters resources part c) (inner part env.in_use k a (omega arith) f us d) (inner part env.in_use j c l g us d)), λ rest. refl)
-if_fine part env n k j (content_test v x t) a c h i l f g =
-    (λ us d. if_let_anew us (position part n) (taken_variable x) (term_letters resources (position part n) x) (b.declared resources (entry_of env v) (position part n) (block_letters resources part a)) (block_letters resources part c)
-    (term_anew us part n x) (scope_anew (entry_of env v) (position part n) env.in_use k us (block_letters resources part a) h (omega arith) d (λ vs y. f vs y)) (inner part env.in_use j c l g us d), λ rest. refl)
-if_fine part env n k j (cast_test v p t) a c h i l f g =
-    (λ us d. either_anew us (seq (take_letters resources (position part n) p (place_letters resources (position part n) p)) (b.declared resources (entry_of env v) (position part n) (block_letters resources part a)))
-    (seq (place_letters resources (position part n) p) (block_letters resources part c))
-    (seq_anew us (take_letters resources (position part n) p (place_letters resources (position part n) p)) (b.declared resources (entry_of env v) (position part n) (block_letters resources part a))
-    (plain_anew resources us (take_letters resources (position part n) p (place_letters resources (position part n) p)) (take_plain resources (position part n) p (place_letters resources (position part n) p) (place_plain resources (position part n) p)))
-    (scope_anew (entry_of env v) (position part n) env.in_use k us (block_letters resources part a) h (omega arith) d (λ vs y. f vs y)))
-    (seq_anew us (place_letters resources (position part n) p) (block_letters resources part c) (plain_anew resources us (place_letters resources (position part n) p) (place_plain resources (position part n) p)) (inner part env.in_use j c l g us d)),
-     λ rest. refl)
+if_fine part env n k j (plain_test x) a c h i l f g = (
+  λ us d. seq_anew us (term_letters resources (position part n) x) (either (block_letters resources part a) (block_letters resources part c)) (term_anew us part n x)
+      (either_anew us (block_letters resources part a) (block_letters resources part c) (inner part env.in_use k a (omega arith) f us d) (inner part env.in_use j c l g us d)),
+  λ rest. refl,
+)
+if_fine part env n k j (content_test v x t) a c h i l f g = (
+  λ us d. if_let_anew us (position part n) (taken_variable x) (term_letters resources (position part n) x) (b.declared resources (entry_of env v) (position part n) (block_letters resources part a)) (block_letters resources part c)
+      (term_anew us part n x) (scope_anew (entry_of env v) (position part n) env.in_use k us (block_letters resources part a) h (omega arith) d (λ vs y. f vs y)) (inner part env.in_use j c l g us d),
+  λ rest. refl,
+)
+if_fine part env n k j (cast_test v p t) a c h i l f g = (
+  λ us d. either_anew us (seq (take_letters resources (position part n) p (place_letters resources (position part n) p)) (b.declared resources (entry_of env v) (position part n) (block_letters resources part a)))
+      (seq (place_letters resources (position part n) p) (block_letters resources part c))
+      (seq_anew us (take_letters resources (position part n) p (place_letters resources (position part n) p)) (b.declared resources (entry_of env v) (position part n) (block_letters resources part a))
+      (plain_anew resources us (take_letters resources (position part n) p (place_letters resources (position part n) p)) (take_plain resources (position part n) p (place_letters resources (position part n) p) (place_plain resources (position part n) p)))
+      (scope_anew (entry_of env v) (position part n) env.in_use k us (block_letters resources part a) h (omega arith) d (λ vs y. f vs y)))
+      (seq_anew us (place_letters resources (position part n) p) (block_letters resources part c) (plain_anew resources us (place_letters resources (position part n) p) (place_plain resources (position part n) p)) (inner part env.in_use j c l g us d)),
+  λ rest. refl,
+)
 
 while_fine : (part : BodyPart) (n m k : ℕ) (x : e.TermTree) (a : e.BlockTree) → m ≤ k → BlockFine part k a → BlocksFine part m (e.while_loop n x a)
-while_fine part n m k x a h f =
-    (λ us d. seq_anew us (term_letters resources (position part n) x) (loop (seq (block_letters resources part a) (term_letters resources (position part n) x))) (term_anew us part n x)
-    (seq_anew us (block_letters resources part a) (term_letters resources (position part n) x) (inner part m k a h f us d) (term_anew us part n x)), λ rest. refl)
+while_fine part n m k x a h f = (
+  λ us d. seq_anew us (term_letters resources (position part n) x) (loop (seq (block_letters resources part a) (term_letters resources (position part n) x))) (term_anew us part n x)
+      (seq_anew us (block_letters resources part a) (term_letters resources (position part n) x) (inner part m k a h f us d) (term_anew us part n x)),
+  λ rest. refl,
+)
 
 for_fine : (part : BodyPart) (env : Environment) (n k : ℕ) (x : ForTyping) (a : e.BlockTree) → env.in_use ≤ k → BlockFine part k a → BlocksFine part env.in_use (for_tree env n x a)
 for_fine part env n k x a h f =
@@ -342,9 +357,11 @@ cases_anew part m n us (x ∷ xs) (a ∷ all) otherwise d f h =
     (either_anew us (block_letters resources part a) (cases_letters resources part n (cases_with xs all) otherwise) (f.0 us d) (cases_anew part m n us xs all otherwise d f.1 h))
 
 switch_fine : (part : BodyPart) (m n : ℕ) (x : SwitchTyping) (all : List e.BlockTree) (c : e.BlockTree) → AllFine part m all → BlockFine part m c → BlocksFine part m (e.switch n x.value (cases_with x.cases all) c)
-switch_fine part m n x all c f g =
-    (λ us d. seq_anew us (term_letters resources (position part n) x.value) (cases_letters resources part n (cases_with x.cases all) (block_letters resources part c)) (term_anew us part n x.value)
-    (cases_anew part m n us x.cases all (block_letters resources part c) d f (g us d)), λ rest. refl)
+switch_fine part m n x all c f g = (
+  λ us d. seq_anew us (term_letters resources (position part n) x.value) (cases_letters resources part n (cases_with x.cases all) (block_letters resources part c)) (term_anew us part n x.value)
+      (cases_anew part m n us x.cases all (block_letters resources part c) d f (g us d)),
+  λ rest. refl,
+)
 
 -- ---- all statements
 

@@ -102,9 +102,12 @@ only_good us m e f Never Returned = tt
 only_good us m e f Never Never = tt
 
 spell_good : (v : ℕ) (i : Letter) (p : Position) (us : List ℕ) (m n : List MarkEntry) → variables m ≡ us → AreInhabited m → after_spelling v i m ≡ Some n → Leads (spell v i p) m us (only Next n)
-spell_good v i p us m n e f d Next =
-    (spelling_keeps v i m n d ∙ e, (spelled None v i p, by_letter), spelling_inhabited v i m n d f,
-     λ u t h. let g = spelling_from v i p m n u t d f h in (g.0, spelled (Some u) v i p, g.1, by_letter, g.2))
+spell_good v i p us m n e f d Next = (
+  spelling_keeps v i m n d ∙ e,
+  (spelled None v i p, by_letter),
+  spelling_inhabited v i m n d f,
+  λ u t h. let g = spelling_from v i p m n u t d f h in (g.0, spelled (Some u) v i p, g.1, by_letter, g.2),
+)
 spell_good v i p us m n e f d Broken = tt
 spell_good v i p us m n e f d Continued = tt
 spell_good v i p us m n e f d Returned = tt
@@ -251,8 +254,14 @@ older fields v m u s e (q, h, i) = (q, sym (behind (record { variable = v.number
 begin_wrong : (fields : Bool) (v : PathVariable) (p : Position) (b : PathBody) (m : List MarkEntry) (u : ℕ) (s : State) (w : List LetterAt) (x : Way) (c : Bool) → nat_eq v.number u ≡ c
     → HasState u s (begun fields v m) → Words (Some u) b w x → run (Some s) w ≡ None → Wrong fields (scope v p b) m
 begin_wrong fields v p b m u s w x true c h i e =
-    inr (v, p, w, x, in_scope (subst (λ z. Words (Some z) b w x) (sym (eqb-true v.number u c)) i),
-    wrong_life fields x (run (Some (begins fields)) w) (ap (λ z. run (Some z) w) (sym (newest fields v m u s c h)) ∙ e))
+    inr (
+      v,
+      p,
+      w,
+      x,
+      in_scope (subst (λ z. Words (Some z) b w x) (sym (eqb-true v.number u c)) i),
+      wrong_life fields x (run (Some (begins fields)) w) (ap (λ z. run (Some z) w) (sym (newest fields v m u s c h)) ∙ e),
+    )
 begin_wrong fields v p b m u s w x false c h i e = inl (u, s, w, x, older fields v m u s c h, by_scope i, e)
 
 scope_wrong : (fields : Bool) (v : PathVariable) (p : Position) (b : PathBody) (m : List MarkEntry) → Wrong fields b (begun fields v m) → Wrong fields (scope v p b) m
@@ -277,9 +286,12 @@ way_tested fields v p b us m x y all true apart k d e h =
     let first = same_head y.variable v.number (variables all) us h.0 in
     let others = same_tail y.variable v.number (variables all) us h.0 in
     let other = λ (u : ℕ) (q : Mark) (i : mark_at u all ≡ Some q). is_other us v.number u apart (subst (λ z. among z u ≡ true) others (is_among all u q i)) in
-    let up = λ (u : ℕ) (q : Mark) (i : mark_at u all ≡ Some q). behind y all u (subst (λ z. nat_eq z u ≡ false) (sym first) (other u q i)) ∙ i in
-    (others, (h.1.0, by_scope h.1.1), λ u q i. h.2 u q (up u q i),
-     λ u s i. let g = h.3 u s (i.0, up u i.0 i.1, i.2) in (g.0, g.1, older fields v m u g.0 (other u i.0 i.1) g.2, by_scope g.3, g.4))
+    let up = λ (u : ℕ) (q : Mark) (i : mark_at u all ≡ Some q). behind y all u (subst (λ z. nat_eq z u ≡ false) (sym first) (other u q i)) ∙ i in (
+      others,
+      (h.1.0, by_scope h.1.1),
+      λ u q i. h.2 u q (up u q i),
+      λ u s i. let g = h.3 u s (i.0, up u i.0 i.1, i.2) in (g.0, g.1, older fields v m u g.0 (other u i.0 i.1) g.2, by_scope g.3, g.4),
+    )
 way_tested fields v p b us m x y all false apart k d e h =
     let first = same_head y.variable v.number (variables all) us h.0 in
     ends_wrong fields v p b m x d (h.3 v.number (bad_end fields) (y.mark, here y all v.number (eq-eqb y.variable v.number first), ends_badly fields y.mark e))
@@ -352,7 +364,6 @@ turn_word who a w Never h = (Never, subst (λ z. Words who (loop a) z Never) (sy
 
 module _ (fields : Bool) (a : PathBody) (us : List ℕ) (m0 : List MarkEntry) (apart : distinct us ≡ true) (anew : declares_anew us a ≡ true)
     (judge : (m : List MarkEntry) → variables m ≡ us → AreInhabited m → Judged fields a m us (marks fields a m)) where
-
   -- turns lead from the loop's begin to these marks
   abbrev pub Reached : List MarkEntry → Type 0
   Reached m = (u : ℕ) (s : State) → HasState u s m → From (loop a) Next m0 u s
@@ -431,9 +442,13 @@ module _ (fields : Bool) (a : PathBody) (us : List ℕ) (m0 : List MarkEntry) (a
     where
       turn : From a Next m u s → From (loop a) Next m0 u s
       turn (t, w, i, c, r) =
-          let q = f u t i in
-          (q.0, q.1 ++ (w ++ []), q.2, turn_more (Some u) q.3 refl refl (w ++ []) Next (by_turn c by_no_turn),
-           run_on (Some q.0) (Some t) q.1 (w ++ []) q.4 ∙ (ap (λ z. run (Some t) z) (append-nil w) ∙ r))
+          let q = f u t i in (
+            q.0,
+            q.1 ++ (w ++ []),
+            q.2,
+            turn_more (Some u) q.3 refl refl (w ++ []) Next (by_turn c by_no_turn),
+            run_on (Some q.0) (Some t) q.1 (w ++ []) q.4 ∙ (ap (λ z. run (Some t) z) (append-nil w) ∙ r),
+          )
 
       pick : HasState u s m ⊎ HasState u s n → From (loop a) Next m0 u s
       pick (inl i) = f u s i

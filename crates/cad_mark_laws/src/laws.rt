@@ -1,7 +1,10 @@
 // Laws of marks.
 ghost use Rattle.cad_paths.specs.Marks.{LinearHasMarks};
 ghost use Rattle.cad_mark_laws.specs.Laws.{
-    FunctionsHaveMarks, LoopsAreStable, SetFieldsHaveMarks, TransactionsHaveMarks,
+  FunctionsHaveMarks,
+  LoopsAreStable,
+  SetFieldsHaveMarks,
+  TransactionsHaveMarks,
 };
 
 /// A body whose lives are linear has marks.
