@@ -1,17 +1,15 @@
 -- What a word comes to stands in the marks.
-use Rattle.std.proofs.Common.{◌≡◌, refl, sym, ◌∙◌, ap, subst, ◌⊎◌, inl, inr, ℕ, Bool, true, false, not, ◌&&◌, List, [], ◌∷◌, ◌++◌, nat_eq}
+use Rattle.std.proofs.Common.{◌≡◌, refl, sym, ◌∙◌, ap, subst, ℕ, Bool, true, not, List, ◌∷◌}
 use Rattle.std.proofs.lemmas.Bool.{and_parts}
 use Rattle.std.specs.Prelude.{Option, Some, None}
-use Rattle.cad_paths.specs.declared.letter.Letter.{Letter}
 use Rattle.cad_paths.specs.declared.letter.Way.{Way}
-use Rattle.cad_paths.specs.declared.letter.Way.TheVariants.{Next, Broken, Continued, Returned, Never}
-use Rattle.cad_paths.specs.declared.letter.Position.{Position}
-use Rattle.cad_paths.specs.Paths.{PathVariable, PathBody, leave, spell, seq, either, loop, catch, scope, LetterAt, spelled, goes_on, caught, Words, by_leaving, by_letter, by_both, by_first_alone, by_left, by_right, by_no_turn, by_turn, by_last_turn, by_catching, by_scope}
-use Rattle.cad_paths.specs.Marks.{Mark, MarkEntry, after_spelling, all_say_less, Leaves, nowhere, only, together, cut_off, catching, ◌>=>◌, entered, followed, turned, turns, begin_mark, scope_left, marks, among, declares_anew}
+use Rattle.cad_paths.specs.declared.letter.Way.TheVariants.{Next}
+use Rattle.cad_paths.specs.Paths.{PathVariable, PathBody, leave, spell, seq, either, loop, catch, scope, LetterAt, caught, Words, by_leaving, by_letter, by_both, by_first_alone, by_left, by_right, by_no_turn, by_turn, by_last_turn, by_catching, by_scope}
+use Rattle.cad_paths.specs.Marks.{MarkEntry, after_spelling, Leaves, nowhere, only, together, cut_off, catching, ◌>=>◌, entered, followed, begin_mark, scope_left, marks, among, declares_anew}
 use Rattle.cad_mark_laws.specs.Laws.{IsStable}
-use Rattle.cad_mark_laws.proofs.States.{State, is_in, run, run_then, less_in}
-use Rattle.cad_mark_laws.proofs.Entries.{variables, mark_at, HasState, same_some, other_mark, is_among, is_other, behind, spelling_keeps, spelling_to, says_less_at}
-use Rattle.cad_mark_laws.proofs.Leaves.{at, bind_some, Over, Holds, OverAll, HoldsAt, nowhere_over, only_over, together_over, cut_over, catching_over, turned_over, only_at, together_left, together_right, cut_at, turned_at, catching_at, Grows, Stands, turns_stand, turns_again, grows_keep, grows_hold, scope_over, scope_at}
+use Rattle.cad_mark_laws.proofs.States.{State, run, run_then, less_in}
+use Rattle.cad_mark_laws.proofs.Entries.{variables, HasState, same_some, other_mark, is_among, is_other, behind, spelling_keeps, spelling_to, says_less_at}
+use Rattle.cad_mark_laws.proofs.Leaves.{bind_some, Over, Holds, OverAll, HoldsAt, nowhere_over, only_over, together_over, cut_over, catching_over, turned_over, only_at, together_left, together_right, cut_at, turned_at, catching_at, turns_stand, turns_again, grows_keep, grows_hold, scope_over, scope_at}
 
 -- ---- the variables stay
 

@@ -1,12 +1,12 @@
 -- Lists of marks by the number of a variable.
 use Rattle.std.proofs.Common.{◌≡◌, refl, sym, ◌∙◌, ap, subst, ◌⊎◌, inl, inr, ℕ, Bool, true, false, not, ◌&&◌, ◌||◌, List, [], ◌∷◌, nat_eq, eqb-true, if◌then◌else◌}
-use Rattle.std.proofs.lemmas.Bool.{true≢false, false≢true, both_ways, not-true, eqb-false, and_parts, and_cases, cases_Bool, eq-eqb, ne_eqb}
+use Rattle.std.proofs.lemmas.Bool.{true≢false, false≢true, both_ways, not-true, eqb-false, and_parts, and_cases, eq-eqb, ne_eqb}
 use Rattle.std.specs.Prelude.{Option, Some, None}
 use Rattle.cad_paths.specs.declared.letter.Letter.{Letter}
 use Rattle.cad_paths.specs.declared.letter.Position.{Position}
-use Rattle.cad_paths.specs.Paths.{LetterAt, letter_at, spelled}
-use Rattle.cad_paths.specs.Marks.{Mark, MarkEntry, joined, after_letter, on_entry, on_rest, after_spelling, meet, join, says_less, all_say_less, among}
-use Rattle.cad_mark_laws.proofs.States.{some_is, none_is, some_none, nil_cons, same_head, same_tail, State, is_in, Inhabited, step, onward, run, letter_to, letter_from, letter_inhabited, letter_stuck, joined_left, joined_right, in_joined}
+use Rattle.cad_paths.specs.Paths.{letter_at, spelled}
+use Rattle.cad_paths.specs.Marks.{Mark, MarkEntry, joined, after_letter, on_entry, on_rest, after_spelling, meet, says_less, all_say_less, among}
+use Rattle.cad_mark_laws.proofs.States.{some_is, none_is, some_none, nil_cons, same_head, same_tail, State, is_in, Inhabited, run, letter_to, letter_from, letter_inhabited, letter_stuck, joined_left, joined_right, in_joined}
 
 abbrev pub variables : List MarkEntry → List ℕ
 variables [] = []

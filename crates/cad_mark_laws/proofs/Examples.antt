@@ -1,17 +1,16 @@
 -- Why the laws have their premises: bodies without marks.
-use Rattle.std.proofs.Common.{◌≡◌, refl, sym, ◌∙◌, ap, subst, ◌⊎◌, inl, inr, ℕ, Bool, true, false, List, [], ◌∷◌, ◌++◌}
+use Rattle.std.proofs.Common.{◌≡◌, refl, sym, ◌∙◌, ap, subst, ◌⊎◌, inl, inr, ℕ, List, [], ◌∷◌, ◌++◌}
 use Rattle.std.proofs.lemmas.Bool.{both_ways}
-use Rattle.std.specs.Prelude.{Option, Some, None}
+use Rattle.std.specs.Prelude.{Option, Some}
 use Rattle.cad_syntax.specs.declared.text.Name.{Name}
 use Rattle.cad_paths.specs.declared.letter.Letter.{Letter}
-use Rattle.cad_paths.specs.declared.letter.Letter.TheVariants.{Use, Spend, Need, Fresh, Set}
+use Rattle.cad_paths.specs.declared.letter.Letter.TheVariants.{Use, Need, Fresh, Set}
 use Rattle.cad_paths.specs.declared.letter.Way.{Way}
 use Rattle.cad_paths.specs.declared.letter.Way.TheVariants.{Next}
 use Rattle.cad_paths.specs.declared.letter.Position.{Position}
 use Rattle.cad_paths.specs.Paths.{PathVariable, PathBody, leave, spell, seq, either, loop, catch, scope, LetterAt, letter_at, spelled, goes_on, Words, by_leaving, by_letter, by_both, by_first_alone, by_left, by_right, by_no_turn, by_turn, by_last_turn, by_catching, by_scope, Life, in_scope, in_inner, in_first, in_second, in_left, in_right, in_turn, in_catch}
-use Rattle.cad_paths.specs.Linear.{IsLinear, life_word, LinearWord, spent, no_uses, Linear}
 use Rattle.cad_paths.specs.Initialisation.{IsSet, set_here, set_later, Misset, used_unset, set_again, left_unset}
-use Rattle.cad_paths.specs.Marks.{marks, SettingHasMarks}
+use Rattle.cad_paths.specs.Marks.{SettingHasMarks}
 
 abbrev variable : Name → PathVariable
 variable name = record { number = 0; name = name }

@@ -4,12 +4,11 @@ use Rattle.std.specs.Prelude.{Option, Some, None, if◌then◌else◌}
 use Rattle.cad_paths.specs.declared.letter.Way.{Way}
 use Rattle.cad_paths.specs.declared.letter.Way.TheVariants.{Next, Broken, Continued, Returned, Never}
 use Rattle.cad_paths.specs.Paths.{goes_on, caught}
-use Rattle.cad_paths.specs.Linear.{closes}
-use Rattle.cad_paths.specs.Marks.{Mark, MarkEntry, meet, join, all_say_less, Leaves, nowhere, only, together, cut_off, catching, ◌>=>◌, entered, followed, turned, turned_by, turns, begin_mark, ends_well, left_scope, scope_left}
+use Rattle.cad_paths.specs.Marks.{MarkEntry, meet, join, all_say_less, Leaves, nowhere, only, together, cut_off, catching, ◌>=>◌, turned, turned_by, turns, ends_well, left_scope, scope_left}
 use Rattle.cad_mark_laws.specs.Laws.{IsStable}
 use Rattle.std.proofs.lemmas.Bool.{true≢false}
-use Rattle.cad_mark_laws.proofs.States.{none_is, nil_cons, same_head, same_tail, State, is_in, Inhabited}
-use Rattle.cad_mark_laws.proofs.Entries.{variables, mark_at, HasState, AreInhabited, same_some, meet_keeps, meet_left, meet_right, meet_split, meet_inhabited, behind}
+use Rattle.cad_mark_laws.proofs.States.{none_is, nil_cons, same_head, same_tail, State}
+use Rattle.cad_mark_laws.proofs.Entries.{variables, HasState, AreInhabited, same_some, meet_keeps, meet_left, meet_right, meet_split, meet_inhabited, behind}
 
 abbrev pub at : Leaves → Way → Option (List MarkEntry)
 at a Next = a.next

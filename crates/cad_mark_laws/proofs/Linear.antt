@@ -1,8 +1,7 @@
 -- A body whose lives are linear has marks.
-use Rattle.std.proofs.Common.{◌≡◌, refl, sym, ◌∙◌, ap, subst, ◌⊎◌, inl, inr, ℕ, Bool, true, false, List, [], ◌∷◌, ◌++◌, map, append-nil}
+use Rattle.std.proofs.Common.{◌≡◌, refl, ◌∙◌, ap, false, List, [], ◌∷◌, ◌++◌, map, append-nil}
 use Rattle.std.specs.Prelude.{Option, Some, None}
-use Rattle.cad_paths.specs.declared.letter.Letter.{Letter}
-use Rattle.cad_paths.specs.declared.letter.Letter.TheVariants.{Use, Fill, Spend, Empty, Need, Fresh, Set}
+use Rattle.cad_paths.specs.declared.letter.Letter.TheVariants.{Fill, Spend, Empty}
 use Rattle.cad_paths.specs.declared.letter.Way.{Way}
 use Rattle.cad_paths.specs.declared.letter.Way.TheVariants.{Next, Broken, Continued, Returned, Never}
 use Rattle.cad_paths.specs.declared.letter.Position.{Position}

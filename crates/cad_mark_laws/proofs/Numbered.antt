@@ -20,27 +20,26 @@ use Rattle.cad_paths.specs.declared.letter.Letter.TheVariants.{Spend, Empty}
 use Rattle.cad_paths.specs.declared.letter.BodyPart.{BodyPart}
 use Rattle.cad_paths.specs.declared.letter.BodyPart.TheVariants.{Whole}
 use Rattle.cad_paths.specs.declared.letter.Position.{Position}
-use Rattle.cad_paths.specs.Paths.{PathBody, seq, either, loop, catch, scope, skip}
-use Rattle.cad_paths.specs.Letters.{resources, variable_letters, term_letters, place_letters, arguments_letters, ending, take_letters}
+use Rattle.cad_paths.specs.Paths.{PathBody, seq, either, loop, scope, skip}
+use Rattle.cad_paths.specs.Letters.{resources, variable_letters, term_letters, place_letters, ending, take_letters}
 use Rattle.cad_paths.specs.Bodies.{position, path_variable, target_letters, set_letters, fill_letters, taken_variable, if_let_letters, return_letters, scope_behind, statement_letters, block_letters, statements_letters, cases_letters, conditions_letters, before_letters, part_letters, has_no_block, inner_letters, from_start, function_letters}
 use Rattle.cad_paths.specs.Bodies as b
 use Rattle.cad_paths.specs.Marks.{among, declares_anew}
-use Rattle.cad_typing.specs.Containers.{targeted}
 use Rattle.cad_typing.specs.Environments.{Environment, Local, Typing, ordinary, kinds, when, ◌>=>◌}
 use Rattle.cad_typing.specs.Environments as environment
 use Rattle.cad_typing.specs.Expressions.{infer}
-use Rattle.cad_typing.specs.Locals.{next_local, entry_of, entries_of, is_free, locals_from, declaring}
+use Rattle.cad_typing.specs.Locals.{next_local, entry_of, entries_of, is_free, locals_from}
 use Rattle.cad_typing.specs.Places.{Target, infer_target, infer_variable, infer_moved, infer_declared, infer_returned, infer_event}
 use Rattle.cad_typing.specs.References.{may_be_cast}
-use Rattle.cad_typing.specs.Types.{content, is_optional_type, element_type}
+use Rattle.cad_typing.specs.Types.{content, is_optional_type}
 use Rattle.cad_typing.specs.StatementForms.{StatementTyping, alone, beside_variable, declared_value, declaration, exchange, exchanged, type_for, may_declare, is_move_sign, TestTyping, plain_test, content_test, cast_test, test_locals, test_tree, infer_test, content_of_value, cast_of_variable, cast_or_content, bound_value, test_typing, ForTyping, for_locals, for_tree, for_typing, SwitchTyping, cases_with, switch_typing, assignment_to, assignment, swap, returned, evaluated}
 use Rattle.cad_typing.specs.StatementForms as form
-use Rattle.cad_typing.specs.Statements.{◌>>=◌, Surroundings, behind_statement, in_block, in_loop, in_switch, block_in, empty_block, count, count_all, count_otherwise, count_cases, single, emitted, type_statement, type_statements, type_otherwise, type_cases, type_default}
-use Rattle.cad_typing.specs.Functions.{Routine, head_is_right, type_body, type_optional_body, parameter_types, routine_locals, routine_body, routine_environment, before_environment, after_environment, body_surroundings, count_conditions, type_parts, type_routine}
+use Rattle.cad_typing.specs.Statements.{◌>>=◌, Surroundings, behind_statement, in_block, in_loop, in_switch, block_in, empty_block, count, count_all, count_cases, single, emitted, type_statement, type_statements, type_otherwise, type_cases, type_default}
+use Rattle.cad_typing.specs.Functions.{Routine, head_is_right, type_body, type_optional_body, parameter_types, routine_body, before_environment, after_environment, body_surroundings, count_conditions, type_parts, type_routine}
 use Rattle.cad_typing.specs.Conditions.{type_conditions}
 use Rattle.cad_mark_laws.specs.Laws.{FunctionsHaveMarks}
 use Rattle.cad_mark_laws.proofs.Linear.{linear_marked}
-use Rattle.cad_mark_laws.proofs.Plain.{Plain, plain_anew, variable_plain, take_plain, ending_plain, place_plain, term_plain, arguments_plain, target_plain, set_plain, fill_plain, return_plain, conditions_plain, before_plain, AreBelow, not_among, none_below}
+use Rattle.cad_mark_laws.proofs.Plain.{Plain, plain_anew, take_plain, ending_plain, place_plain, term_plain, arguments_plain, target_plain, set_plain, fill_plain, return_plain, conditions_plain, before_plain, AreBelow, not_among, none_below}
 
 -- ---- what an option or a result holds
 

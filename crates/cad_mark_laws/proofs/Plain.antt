@@ -1,6 +1,6 @@
 -- What sets fields spells letters of fields alone, and no declaration stands in the scope of one with its number.
-use Rattle.std.proofs.Common.{◌≡◌, refl, sym, ◌∙◌, ap, subst, ◌⊎◌, inl, inr, ℕ, ◌+◌, ◌<◌, arith, Bool, true, false, not, ◌&&◌, ◌||◌, List, [], ◌∷◌, nat_eq, eqb-true, if◌then◌else◌}
-use Rattle.std.proofs.lemmas.Bool.{false≢true, and_parts, and_from, or_cases, cases_Bool}
+use Rattle.std.proofs.Common.{◌≡◌, refl, subst, ◌⊎◌, inl, inr, ℕ, ◌+◌, ◌<◌, arith, Bool, true, false, not, ◌&&◌, List, [], ◌∷◌, nat_eq, eqb-true, if◌then◌else◌}
+use Rattle.std.proofs.lemmas.Bool.{false≢true, and_parts, and_from, or_cases}
 use Rattle.std.specs.Prelude.{Option, Some, None}
 use Rattle.cad_syntax.specs.declared.text.Name.{Name}
 use Rattle.cad_grammar.specs.declared.expression.BinaryOperator.{BinaryOperator}

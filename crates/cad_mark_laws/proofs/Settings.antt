@@ -1,19 +1,16 @@
 -- A body that sets its fields has marks.
 use Rattle.std.proofs.Common.{◌≡◌, refl, sym, ◌∙◌, ap, subst, ◌⊎◌, inl, inr, ℕ, Bool, true, false, ◌&&◌, List, [], ◌∷◌, ◌++◌, append_assoc, append-nil}
 use Rattle.std.proofs.lemmas.Bool.{false≢true, both_ways, and_parts}
-use Rattle.std.specs.Prelude.{Option, Some, None, if◌then◌else◌}
-use Rattle.cad_declarations.specs.Typed.{PartBody}
+use Rattle.std.specs.Prelude.{Option, Some, if◌then◌else◌}
 use Rattle.cad_paths.specs.declared.letter.Letter.{Letter}
 use Rattle.cad_paths.specs.declared.letter.Letter.TheVariants.{Use, Fill, Spend, Empty, Need, Fresh, Set}
-use Rattle.cad_paths.specs.declared.letter.FieldRule.{FieldRule}
 use Rattle.cad_paths.specs.declared.letter.Way.{Way}
 use Rattle.cad_paths.specs.declared.letter.Position.{Position}
-use Rattle.cad_paths.specs.Paths.{PathVariable, PathBody, leave, spell, seq, either, loop, catch, scope, LetterAt, letter_at, is_spelled, Words, by_leaving, by_letter, by_both, by_first_alone, by_left, by_right, by_no_turn, by_turn, by_last_turn, by_catching, by_scope, Life, in_scope, in_inner, in_first, in_second, in_left, in_right, in_turn, in_catch}
-use Rattle.cad_paths.specs.Linear.{closes}
+use Rattle.cad_paths.specs.Paths.{PathVariable, PathBody, LetterAt, letter_at, is_spelled, Words, by_leaving, by_letter, by_both, by_first_alone, by_left, by_right, by_no_turn, by_turn, by_last_turn, by_catching, by_scope, Life, in_scope, in_inner, in_first, in_second, in_left, in_right, in_turn, in_catch}
 use Rattle.cad_paths.specs.Bodies.{field_letters}
 use Rattle.cad_paths.specs.Initialisation.{IsSet, set_here, set_later, Misset, used_unset, set_again, left_unset}
 use Rattle.cad_mark_laws.specs.Laws.{SetFieldsHaveMarks}
-use Rattle.cad_mark_laws.proofs.States.{State, valued, emptied, left, lacking, onward, run}
+use Rattle.cad_mark_laws.proofs.States.{State, valued, emptied, left, lacking, run}
 use Rattle.cad_mark_laws.proofs.Plain.{is_field_letter, sets, letters_set, letters_anew}
 use Rattle.cad_mark_laws.proofs.Sound.{IsBad, WrongLife, unmarked}
 

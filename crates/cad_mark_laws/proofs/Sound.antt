@@ -1,5 +1,5 @@
 -- Each state in the marks is what some word comes to, and where there are no marks some word or life goes wrong.
-use Rattle.std.proofs.Common.{◌≡◌, refl, sym, ◌∙◌, ap, subst, ◌⊎◌, inl, inr, ℕ, ◌+◌, ◌≤◌, arith, zero, suc, Bool, true, false, not, ◌&&◌, List, [], ◌∷◌, ◌++◌, nat_eq, eqb-true, append_assoc, append-nil}
+use Rattle.std.proofs.Common.{◌≡◌, refl, sym, ◌∙◌, ap, subst, ◌⊎◌, inl, inr, ℕ, ◌+◌, ◌≤◌, arith, zero, suc, Bool, true, false, not, List, [], ◌∷◌, ◌++◌, nat_eq, eqb-true, append_assoc, append-nil}
 use Rattle.std.proofs.lemmas.Bool.{and_parts, and_from, both_ways, eq-eqb}
 use Rattle.std.specs.Prelude.{Option, Some, None, if◌then◌else◌}
 use Rattle.cad_paths.specs.declared.letter.Letter.{Letter}
@@ -10,8 +10,8 @@ use Rattle.cad_paths.specs.Paths.{PathVariable, PathBody, leave, spell, seq, eit
 use Rattle.cad_paths.specs.Linear.{closes}
 use Rattle.cad_paths.specs.Marks.{Mark, MarkEntry, joined, after_spelling, meet, join, says_less, all_say_less, Leaves, nowhere, only, together, cut_off, catching, ◌>=>◌, entered, followed, turned, turned_by, turns, begin_mark, ends_well, left_scope, scope_left, marks, among, declares_anew}
 use Rattle.cad_mark_laws.proofs.States.{none_is, some_none, nil_cons, same_head, same_tail, State, is_in, Inhabited, run, run_on, run_wrong, less_in, less_by, joined_left, in_joined, size, size_most, size_least, size_grown, begins, begin_is, begin_in, bad_end, ends_badly}
-use Rattle.cad_mark_laws.proofs.Entries.{variables, mark_at, HasState, AreInhabited, distinct, same_some, same_mark, other_mark, is_among, is_other, here, behind, spelling_keeps, spelling_to, spelling_from, spelling_inhabited, spelling_stuck, meet_keeps, meet_from, meet_split, meet_inhabited, Differs, differs, says_less_at}
-use Rattle.cad_mark_laws.proofs.Leaves.{at, bind_some, Over, Good, Holds, OverAll, HoldsAt, good_join, good_map, tested, leaving}
+use Rattle.cad_mark_laws.proofs.Entries.{variables, mark_at, HasState, AreInhabited, distinct, same_some, same_mark, is_among, is_other, here, behind, spelling_keeps, spelling_from, spelling_inhabited, spelling_stuck, meet_keeps, meet_from, meet_split, meet_inhabited, Differs, differs}
+use Rattle.cad_mark_laws.proofs.Leaves.{at, Good, Holds, good_join, good_map, tested, leaving}
 use Rattle.cad_mark_laws.proofs.Complete.{begun, complete}
 
 -- some path leaves by this way

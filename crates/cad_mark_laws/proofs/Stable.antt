@@ -1,12 +1,11 @@
 -- Marks that hold before each turn of a loop.
-use Rattle.std.proofs.Common.{◌≡◌, refl, sym, ◌∙◌, ap, subst, ◌⊎◌, inl, inr, ℕ, Bool, true, false, not, ◌&&◌, ◌||◌, List, [], ◌∷◌}
+use Rattle.std.proofs.Common.{◌≡◌, refl, sym, ◌∙◌, subst, ℕ, true, List, [], ◌∷◌}
 use Rattle.std.proofs.lemmas.Bool.{false≢true, and_parts, and_from}
-use Rattle.std.specs.Prelude.{Option, Some, None}
-use Rattle.cad_paths.specs.Paths.{PathBody, loop}
+use Rattle.std.specs.Prelude.{Option, Some}
 use Rattle.cad_paths.specs.declared.letter.Way.TheVariants.{Next}
-use Rattle.cad_paths.specs.Marks.{Mark, MarkEntry, joined, meet, says_less, all_say_less, Leaves, turned, marks}
+use Rattle.cad_paths.specs.Marks.{Mark, MarkEntry, joined, meet, says_less, all_say_less, Leaves, marks}
 use Rattle.cad_mark_laws.specs.Laws.{LoopsAreStable}
-use Rattle.cad_mark_laws.proofs.States.{nil_cons, same_tail, State, is_in, joined_left, less_in, less_by}
+use Rattle.cad_mark_laws.proofs.States.{nil_cons, same_tail, joined_left, less_in, less_by}
 use Rattle.cad_mark_laws.proofs.Entries.{variables, meet_keeps}
 use Rattle.cad_mark_laws.proofs.Leaves.{Over, OverAll, Grows, last_turn, next_turn, turns_stand}
 use Rattle.cad_mark_laws.proofs.Complete.{shape}

@@ -1,10 +1,9 @@
 -- The states of a mark one by one, and what letters do to them.
 use Rattle.std.proofs.Common.{◌≡◌, refl, sym, ◌∙◌, ap, subst, ◌⊎◌, inl, inr, ℕ, ◌+◌, ◌≤◌, arith, Bool, true, false, not, ◌&&◌, ◌||◌, List, [], ◌∷◌, ◌++◌}
-use Rattle.std.proofs.lemmas.Bool.{true≢false, false≢true, both_ways, not-true, not-false, and_parts, and_from, and_cases, or_cases, cases_Bool}
+use Rattle.std.proofs.lemmas.Bool.{true≢false, false≢true, both_ways, not-true, not-false, and_parts, and_from, and_cases, or_cases}
 use Rattle.std.specs.Prelude.{Option, Some, None}
 use Rattle.cad_paths.specs.declared.letter.Letter.{Letter}
 use Rattle.cad_paths.specs.declared.letter.Letter.TheVariants.{Use, Fill, Spend, Empty, Need, Fresh, Set}
-use Rattle.cad_paths.specs.declared.letter.Position.{Position}
 use Rattle.cad_paths.specs.Paths.{LetterAt, letter_at}
 use Rattle.cad_paths.specs.Marks.{Mark, is_value, is_nil, is_gone, is_unset, joined, is_there, if_allowed, after_letter, says_less, begin_mark, ends_well}
 

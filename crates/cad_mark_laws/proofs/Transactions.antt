@@ -1,11 +1,10 @@
 -- In an elaborated transaction no variable is declared in the scope of one with its number.
-use Rattle.std.proofs.Common.{◌≡◌, refl, sym, ◌∙◌, ap, subst, ℕ, ◌+◌, ◌≤◌, suc, arith, Bool, true, false, List, [], ◌∷◌, length, if◌then◌else◌}
+use Rattle.std.proofs.Common.{refl, subst, ℕ, ◌+◌, ◌≤◌, suc, arith, Bool, true, false, List, [], ◌∷◌, length, if◌then◌else◌}
 use Rattle.std.specs.Prelude.{Option, Some, None, Result, Ok, Err, option_and_then}
 use Rattle.std.specs.Result.{result_ok}
 use Rattle.cad_grammar.specs.Trees as s
 use Rattle.cad_declarations.specs.Entries.{type_entry}
 use Rattle.cad_declarations.specs.Kinds.{scope_of}
-use Rattle.cad_declarations.specs.Points.{option_parameters}
 use Rattle.cad_declarations.specs.Scopes.{Scope}
 use Rattle.cad_declarations.specs.Tables.{ProgramTables}
 use Rattle.cad_declarations.specs.Typed as e
@@ -19,11 +18,11 @@ use Rattle.cad_typing.specs.Environments.{Environment, precondition, execute_bod
 use Rattle.cad_typing.specs.Functions.{type_body}
 use Rattle.cad_typing.specs.Locals.{entry_of, entries_of, is_var_word}
 use Rattle.cad_typing.specs.Statements.{Surroundings, in_block, type_statements}
-use Rattle.cad_typing.specs.Transactions.{field_locals, own_fields, own_count, signer_parameters, part_in, prepare_environment, without_result, are_signers, type_prepare, type_execute, transaction_body}
+use Rattle.cad_typing.specs.Transactions.{field_locals, part_in, prepare_environment, without_result, are_signers, type_prepare, type_execute, transaction_body}
 use Rattle.cad_mark_laws.specs.Laws.{TransactionsHaveMarks}
 use Rattle.cad_mark_laws.proofs.Linear.{linear_marked}
 use Rattle.cad_mark_laws.proofs.Plain.{plain_anew, conditions_plain, before_plain, AreBelow, none_below}
-use Rattle.cad_mark_laws.proofs.Numbered.{Every, Anew, BlockFine, below_more, scope_anew, seq_anew, block_fine, no_less, inner, begins_at, statements_fine, suc_in}
+use Rattle.cad_mark_laws.proofs.Numbered.{Every, Anew, BlockFine, below_more, scope_anew, seq_anew, block_fine, begins_at, statements_fine, suc_in}
 
 fields_start : (env : Environment) (at : Position) (scope : Scope) (n : ℕ) (fs : List s.TransactionFieldTree) (us : List ℕ) (a : PathBody) → AreBelow us n → ((vs : List ℕ) → AreBelow vs (n + length fs) → Anew vs a)
     → Anew us (from_start (entries_of env (field_locals scope n fs)) at a)

@@ -1,5 +1,5 @@
 -- What marks promise beside what cad_paths states of them.
-use Rattle.std.specs.Prelude.{◌≡◌, List, [], Option, Some, None, Result, Ok, Bool, true, false}
+use Rattle.std.specs.Prelude.{◌≡◌, List, [], Option, Some, None, Ok, Bool, true, false}
 use Rattle.cad_grammar.specs.Trees.{TransactionTree}
 use Rattle.cad_declarations.specs.Tables.{ProgramTables}
 use Rattle.cad_declarations.specs.Typed.{FunctionBody, PartBody}
