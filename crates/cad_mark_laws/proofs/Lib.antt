@@ -1,0 +1,12 @@
+mod Complete
+mod Entries
+mod Examples
+mod Leaves
+mod Linear
+mod Numbered
+mod Plain
+mod Settings
+mod Sound
+mod Stable
+mod States
+mod Transactions
