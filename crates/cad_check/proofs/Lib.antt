@@ -1,5 +1,0 @@
-mod Ordered
-mod Refused
-mod Texts
-mod Unique
-mod Verdicts

@@ -1,3 +1,0 @@
-mod Items
-mod Judged
-mod Told

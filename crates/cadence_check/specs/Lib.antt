@@ -1,4 +1,0 @@
-pub mod Requests
-pub mod Verdicts
-pub mod Views
-pub mod Code
