@@ -37,20 +37,25 @@ def function_at(text, place):
     return owner + name
 
 
-def applied(crate, edit):
-    """Writes the edit into the crate, and answers the function that it changes, or stops."""
+def changed(crate, edit):
+    """The function that an edit changes, by its path in the crate as it stands, or stops."""
     file, pairs = read(edit)
-    path = crate / file
-    text = path.read_text()
-    name = None
-    for old, new in pairs:
+    text, name = (crate / file).read_text(), None
+    for old, _ in pairs:
         if text.count(old) != 1:
             sys.exit(f"{edit}: a text stands {text.count(old)} times in {file}, and not once")
         name = function_at(text, text.index(old))
-        text = text.replace(old, new)
-    path.write_text(text)
     modules = [it for it in pathlib.Path(file).with_suffix("").parts[1:] if it not in ("lib", "main", "mod")]
     return "::".join([*modules, str(name)])
+
+
+def apply(crate, edit):
+    """Writes the edit into the crate."""
+    file, pairs = read(edit)
+    text = (crate / file).read_text()
+    for old, new in pairs:
+        text = text.replace(old, new)
+    (crate / file).write_text(text)
 
 
 def goals_of(said, name, function):
@@ -68,13 +73,11 @@ def judged(name, edits, room):
     crate, functions, later = room / "crates" / name, {}, []
     shutil.copytree(ROOT / "crates" / name / "src", crate / "src", dirs_exist_ok=True)
     for edit in edits:
-        was = {it: it.read_text() for it in crate.glob("src/**/*.rt")}
-        function = applied(crate, edit)
+        function = changed(ROOT / "crates" / name, edit)
         if function in functions.values():
             later.append(edit)
-            for path, text in was.items():
-                path.write_text(text)
         else:
+            apply(crate, edit)
             functions[edit.stem] = function
     only = [word for it in functions.values() for word in ("--only", it)]
     ran = subprocess.run(["rt", "check", "--jobs", "1", "--allow-holes", *only], cwd=crate, capture_output=True, text=True)
