@@ -26,24 +26,46 @@ def read(path):
 
 
 def function_at(text, place):
-    """The name of the function in which this place stands."""
-    found = re.findall(r"^\s*(?:pub(?:\([a-z]+\))? )?(?:const )?fn (\w+)", text[:place], re.M)
-    return found[-1] if found else None
+    """The function in which this place stands, as a check names it below its module: behind its type, and a trait, where it is a method."""
+    begun = [*re.finditer(r"^( *)(?:pub(?:\([a-z ]+\))? )?(?:const )?(?:unsafe )?fn (\w+)", text[:place], re.M)]
+    if not begun:
+        return None
+    name, owner = begun[-1][2], ""
+    if begun[-1][1]:
+        trait, owner = re.findall(r"^impl(?:<[^>]*>)? (?:(\w+)(?:<[^{]*>)? for )?(\w+)", text[: begun[-1].start()], re.M)[-1]
+        owner += f"{trait}::"
+    return owner + name
 
 
-def applied(crate, edit):
-    """Writes the edit into the crate, and answers the function that it changes, or stops."""
+def changed(crate, edit):
+    """The function that an edit changes, by its path in the crate as it stands, or stops."""
     file, pairs = read(edit)
-    path = crate / file
-    text = path.read_text()
-    name = None
-    for old, new in pairs:
+    text, name = (crate / file).read_text(), None
+    for old, _ in pairs:
         if text.count(old) != 1:
             sys.exit(f"{edit}: a text stands {text.count(old)} times in {file}, and not once")
         name = function_at(text, text.index(old))
+    modules = [it for it in pathlib.Path(file).with_suffix("").parts[1:] if it not in ("lib", "main", "mod")]
+    return "::".join([*modules, str(name)])
+
+
+def apply(crate, edit):
+    """Writes the edit into the crate."""
+    file, pairs = read(edit)
+    text = (crate / file).read_text()
+    for old, new in pairs:
         text = text.replace(old, new)
-    path.write_text(text)
-    return f"{path.stem}::{name}" if path.stem not in ("lib", "main") else name
+    (crate / file).write_text(text)
+
+
+def goals_of(said, name, function):
+    """What was told of a function in a check's output, and its goals that are not proved: those that `search` left, and what was refused in its own proof."""
+    told = re.findall(rf"^fn {name}::{re.escape(function)}: (.*)", said, re.M)
+    left = [it for line in told if line.startswith("no proof") for it in re.findall(r"`search` did not prove (`[^`]+`(?:(?:, | and )`[^`]+`)*)", line)]
+    folder = re.escape(f"./proofs/{function.replace('::', '/')}/")
+    refused = re.findall(rf"^({folder}\S+ error: .*)", said, re.M)
+    gone = [it for it in refused if re.search(r" has no `|not in scope|is not declared|unknown name|was not admitted", it)]
+    return told, left + [it for it in refused if it not in gone], gone
 
 
 def judged(name, edits, room):
@@ -51,42 +73,57 @@ def judged(name, edits, room):
     crate, functions, later = room / "crates" / name, {}, []
     shutil.copytree(ROOT / "crates" / name / "src", crate / "src", dirs_exist_ok=True)
     for edit in edits:
-        was = {it: it.read_text() for it in crate.glob("src/**/*.rt")}
-        function = applied(crate, edit)
+        function = changed(ROOT / "crates" / name, edit)
         if function in functions.values():
             later.append(edit)
-            for path, text in was.items():
-                path.write_text(text)
         else:
+            apply(crate, edit)
             functions[edit.stem] = function
-    ran = subprocess.run(["rt", "check", "--jobs", "2", "--allow-holes"], cwd=crate, capture_output=True, text=True)
-    told = {}
-    for edit, function in functions.items():
-        found = re.findall(rf"^fn {name}::(?:\w+::)*?{function}(?:\+\w+)*: (.*)", ran.stdout, re.M)
-        told[edit] = function, found
-    if not any(found for _, found in told.values()):
-        print("\n".join(ran.stdout.splitlines()[-6:] + ran.stderr.splitlines()[-6:]))
+    only = [word for it in functions.values() for word in ("--only", it)]
+    ran = subprocess.run(["rt", "check", "--jobs", "1", "--allow-holes", *only], cwd=crate, capture_output=True, text=True)
+    kept = ROOT / "crates" / name / "out" / "edits.txt"
+    kept.parent.mkdir(exist_ok=True)
+    with kept.open("a") as it:
+        it.write(ran.stdout + ran.stderr)
+    told = {edit: (function, *goals_of(ran.stdout, name, function)) for edit, function in functions.items()}
+    if not any(found for _, found, _, _ in told.values()):
+        print("\n".join(ran.stdout.splitlines()[-12:] + ran.stderr.splitlines()[-6:]))
     return told, later
+
+
+def with_below(name):
+    """The lines of crates.txt of a crate and of all below it, by name."""
+    lines = {it.split(":")[0].split()[0]: it for it in (ROOT / "crates.txt").read_text().splitlines() if ":" in it and not it.startswith("#")}
+    found, left = {}, [name]
+    while left:
+        it = left.pop()
+        if it in lines and it not in found:
+            found[it] = lines[it]
+            left += lines[it].split(":")[1].split()
+    return found
 
 
 def attempt(name):
     """Tries all edits of a crate, and answers how many were not refused."""
     edits = sorted((ROOT / "crates" / name / "edits").glob("*.edit"))
     missed = 0
+    (ROOT / "crates" / name / "out" / "edits.txt").unlink(missing_ok=True)
     with tempfile.TemporaryDirectory(prefix="cadence-edits-") as room:
         room = pathlib.Path(room)
-        for part in ("crates.txt", "HANDLES"):
-            shutil.copy(ROOT / part, room / part)
-        shutil.copytree(ROOT / "crates", room / "crates", ignore=shutil.ignore_patterns("out"))
-        for built in (ROOT / "crates").glob("*/out/rlib"):
-            shutil.copytree(built, room / built.relative_to(ROOT), copy_function=os.link)
+        lines = with_below(name)
+        (room / "crates.txt").write_text("\n".join(lines.values()) + "\n")
+        shutil.copy(ROOT / "HANDLES", room / "HANDLES")
+        for it in lines:
+            shutil.copytree(ROOT / "crates" / it, room / "crates" / it, ignore=shutil.ignore_patterns("out"))
+            if it != name and (ROOT / "crates" / it / "out" / "rlib").is_dir():
+                shutil.copytree(ROOT / "crates" / it / "out" / "rlib", room / "crates" / it / "out" / "rlib", copy_function=os.link)
         subprocess.run(["git", "init", "-q", "."], cwd=room, check=True)
         while edits:
             told, edits = judged(name, edits, room)
-            for edit, (function, found) in told.items():
-                refused = any(it.startswith("no proof") and not it.startswith("no proof: it calls") for it in found)
-                missed += not refused
-                print(f"{name}/{edit}: {'refused' if refused else 'NOT REFUSED'}: {function}: {'; '.join(found)[:120] or 'not told'}", flush=True)
+            for edit, (function, found, goals, gone) in told.items():
+                missed += not goals
+                says = "refused" if goals else "NOT TRIED" if gone or not found else "NOT REFUSED"
+                print(f"{name}/{edit}: {says}: {function}: {'; '.join(goals or gone or found)[:200] or 'not told'}", flush=True)
     return missed
 
 
