@@ -1,0 +1,5 @@
+mod Ordered
+mod Refused
+mod Texts
+mod Unique
+mod Verdicts

@@ -1,0 +1,14 @@
+use Rattle.std.proofs.Common.{subst}
+use Rattle.cad_pieces.specs.Answers.{StopAnswer}
+use Rattle.cad_check.specs.Answers.{piece_refused}
+use Rattle.cad_check.specs.declared.refusals.BodyPhase.TheVariants as by
+use Rattle.cad_declarations.specs.Views.{tables_of}
+use Rattle.cad_pieces.specs.Views.{pieces_of}
+use Rattle.cad_check.proofs.Ordered.{in_moves}
+use Rattle.cad_check.proofs.phases.behind_conformance.Goals as goal
+
+pub returns-in-Some : goal.returns-in-Some
+returns-in-Some c = λ typed conform program is. in_moves (tables_of c.args.tables.now) program (pieces_of c.args.pieces.now) is c.in-Some.stop typed conform (subst (StopAnswer (piece_refused (tables_of c.args.tables.now) by.Moves) (pieces_of c.args.pieces.now)) c.in-Some.is c.in_ok-stop.ensures)
+
+pub returns-in-None : goal.returns-in-None
+returns-in-None c = λ typed conform. c.behind_moves.ensures typed conform (subst (StopAnswer (piece_refused (tables_of c.args.tables.now) by.Moves) (pieces_of c.args.pieces.now)) c.in-None.is c.in_ok-stop.ensures)
