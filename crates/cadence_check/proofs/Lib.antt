@@ -1,0 +1,3 @@
+mod Items
+mod Judged
+mod Told

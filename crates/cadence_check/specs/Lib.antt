@@ -1,0 +1,4 @@
+pub mod Requests
+pub mod Verdicts
+pub mod Views
+pub mod Code

@@ -1,0 +1,19 @@
+// Verdicts.
+use cad_declarations::Rejected;
+
+/// Why a code is refused.
+#[derive(Debug, Drop)]
+pub enum Refusal {
+    /// A phase refuses it.
+    Stopped(Rejected),
+    /// The request is none, by the number of its fault.
+    Bad(u16),
+}
+
+/// What is answered to a request.
+#[derive(Debug, Drop)]
+pub enum Verdict {
+    Accepted,
+    /// One of the contracts that are judged first is refused, by its place in their list, or else what is judged beside them.
+    Refused(Option<u64>, Refusal),
+}
