@@ -207,6 +207,7 @@ fn push_composite_member(
     }
 }
 
+/// Adds the pieces of members of a composite, in their order.
 fn push_composite_members(
     all: &mut Vec<Piece>,
     alloc: Global,
@@ -253,6 +254,7 @@ fn push_interface_member(
     }
 }
 
+/// Adds the pieces of members of an interface, in their order.
 fn push_interface_members(
     all: &mut Vec<Piece>,
     alloc: Global,
@@ -320,6 +322,7 @@ fn push_contract_member(
     }
 }
 
+/// Adds the pieces of members of a contract, in their order.
 fn push_contract_members(
     all: &mut Vec<Piece>,
     alloc: Global,
@@ -582,6 +585,7 @@ fn push_declaration(
     }
 }
 
+/// Adds the pieces of declarations, in their order.
 fn push_declarations(
     all: &mut Vec<Piece>,
     alloc: Global,

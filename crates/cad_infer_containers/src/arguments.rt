@@ -33,6 +33,7 @@ pub fn expected_argument(takes: Option<&Takes>) -> Option<&CadType>
     }
 }
 
+/// The type that a parameter takes, where it takes what fits a type.
 fn fitting_type(takes: &Takes) -> Option<&CadType>
     ensures { option_map (λ t. pure_type t.now) result ≡ spec.expected_argument (takes_view takes.now) }
 {
@@ -228,6 +229,7 @@ fn has_label(text: &Option<Text>, label: Option<&Name>) -> bool
     }
 }
 
+/// Whether a name has this text.
 fn is_spelled(name: &Name, text: &str) -> bool
     ensures { result ≡ pointwise ◌==◌ text.now name.now.0 }
 {

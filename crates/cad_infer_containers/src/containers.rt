@@ -136,6 +136,7 @@ pub fn expected_value(expected: Option<&CadType>) -> Option<&CadType>
     }
 }
 
+/// The type of the keys, where a type is a dictionary's.
 fn key_in(t: &CadType) -> Option<&CadType>
     ensures { option_map (λ part. pure_type part.now) result ≡ spec.key_in (pure_type t.now) }
 {
@@ -145,6 +146,7 @@ fn key_in(t: &CadType) -> Option<&CadType>
     }
 }
 
+/// The type of the values, where a type is a dictionary's.
 fn value_in(t: &CadType) -> Option<&CadType>
     ensures { option_map (λ part. pure_type part.now) result ≡ spec.value_in (pure_type t.now) }
 {

@@ -107,6 +107,7 @@ pub(crate) fn entries_of(
     Ok(entries)
 }
 
+/// The terms of a key and its value.
 fn entry_of(pair: (Typing, Typing)) -> TermEntry
     ensures { pair_of result ≡ spec.pair_term (typings_of pair) }
 {

@@ -132,6 +132,7 @@ fn entries_come(all: &[TermEntry]) -> bool
     true
 }
 
+/// Whether some path comes to the end of an argument.
 #[cycle(comes)]
 fn argument_comes(argument: &Argument) -> bool
     ensures { result ≡ spec.term_comes (argument_of argument.now).value }
@@ -139,6 +140,7 @@ fn argument_comes(argument: &Argument) -> bool
     term_comes(&argument.value)
 }
 
+/// Whether some path comes to the end of an entry's key.
 #[cycle(comes)]
 fn key_comes(entry: &TermEntry) -> bool
     ensures { result ≡ spec.term_comes (pair_of entry.now).key }
@@ -146,6 +148,7 @@ fn key_comes(entry: &TermEntry) -> bool
     term_comes(&entry.key)
 }
 
+/// Whether some path comes to the end of an entry's value.
 #[cycle(comes)]
 fn value_comes(entry: &TermEntry) -> bool
     ensures { result ≡ spec.term_comes (pair_of entry.now).value }
@@ -198,6 +201,7 @@ fn are_never(types: &[CadType]) -> bool
     }
 }
 
+/// Whether a type is `Never`.
 fn is_never(t: &CadType) -> bool
     ensures { result ≡ letters.are_never (pure_type t.now ∷ []) }
 {

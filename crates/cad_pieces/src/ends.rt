@@ -91,6 +91,7 @@ pub(crate) fn tested(comes: bool, a: Ends) -> Ends
     behind(coming(comes), a)
 }
 
+/// A body any number of times, also none.
 fn turning(a: Ends) -> Ends
     ensures { result ≡ spec.turning a }
 {

@@ -43,6 +43,7 @@ pub fn bodies(
     gathered(alloc, tables.contract.as_ref(), program, pieces)
 }
 
+/// The bodies of a program, whose contract has this identifier, out of pieces.
 fn gathered(
     alloc: Global,
     contract: Option<&TypeId>,
@@ -73,6 +74,7 @@ fn function_in(piece: Piece) -> Option<TypedFunction>
     }
 }
 
+/// The function or initializer of a piece that is well-typed.
 fn function_in_body(body: PieceBody) -> Option<TypedFunction>
     ensures { option_map function_of result ≡ spec.function_in (Ok (piece_body_of body)) }
 {
@@ -94,6 +96,7 @@ fn function_in_body(body: PieceBody) -> Option<TypedFunction>
     }
 }
 
+/// The transaction of a piece.
 fn transaction_in(piece: Piece) -> Option<TypedTransaction>
     ensures { option_map transaction_of result ≡ spec.transaction_in (piece_of piece).typing }
 {
@@ -104,6 +107,7 @@ fn transaction_in(piece: Piece) -> Option<TypedTransaction>
     }
 }
 
+/// The transaction of a piece that is well-typed.
 fn transaction_in_body(body: PieceBody) -> Option<TypedTransaction>
     ensures { option_map transaction_of result ≡ spec.transaction_in (Ok (piece_body_of body)) }
 {
@@ -128,6 +132,7 @@ fn transaction_in_body(body: PieceBody) -> Option<TypedTransaction>
     }
 }
 
+/// The event `ResourceDestroyed` of a piece.
 fn destroyed_in(piece: Piece) -> Option<DestroyedEvent>
     ensures { option_map destroyed_of result ≡ spec.destroyed_in (piece_of piece).typing }
 {
@@ -138,6 +143,7 @@ fn destroyed_in(piece: Piece) -> Option<DestroyedEvent>
     }
 }
 
+/// The event `ResourceDestroyed` of a piece that is well-typed.
 fn destroyed_in_body(body: PieceBody) -> Option<DestroyedEvent>
     ensures { option_map destroyed_of result ≡ spec.destroyed_in (Ok (piece_body_of body)) }
 {
@@ -238,6 +244,7 @@ fn push_named(
     }
 }
 
+/// The first function, where there is one, else the second.
 fn first_function(
     first: Option<TypedFunction>,
     second: Option<TypedFunction>,
@@ -253,6 +260,7 @@ fn first_function(
     }
 }
 
+/// The first event, where there is one, else the second.
 fn first_destroyed(
     first: Option<DestroyedEvent>,
     second: Option<DestroyedEvent>,
@@ -268,6 +276,7 @@ fn first_destroyed(
     }
 }
 
+/// The first transaction, where there is one, else the second.
 fn first_transaction(
     first: Option<TypedTransaction>,
     second: Option<TypedTransaction>,
@@ -283,6 +292,7 @@ fn first_transaction(
     }
 }
 
+/// A type with one more function under its name, where there is one.
 fn add_function(
     body: TypedType,
     name: &Name,
@@ -307,6 +317,7 @@ fn add_function(
     }
 }
 
+/// A type with this initializer, where there is one and it has none.
 fn add_initializer(body: TypedType, function: Option<TypedFunction>) -> TypedType
     ensures { type_body_of result ≡ spec.add_initializer (option_map function_of function) (type_body_of body) }
 {
@@ -318,6 +329,7 @@ fn add_initializer(body: TypedType, function: Option<TypedFunction>) -> TypedTyp
     }
 }
 
+/// A type with this event, where there is one and it has none.
 fn add_destroyed(body: TypedType, event: Option<DestroyedEvent>) -> TypedType
     ensures { type_body_of result ≡ spec.add_destroyed (option_map destroyed_of event) (type_body_of body) }
 {
@@ -341,6 +353,7 @@ fn take_function(
     add_function(body, name, function)
 }
 
+/// Takes the initializer of a type.
 fn take_initializer(body: TypedType, left: &mut VecDeque<Piece>) -> TypedType
     ensures { spec.walk (type_body_of result) (pieces_of left.new.items) ≡ spec.take_initializer (spec.walk (type_body_of body) (pieces_of left.old.items)) }
 {
@@ -348,6 +361,7 @@ fn take_initializer(body: TypedType, left: &mut VecDeque<Piece>) -> TypedType
     add_initializer(body, function)
 }
 
+/// Takes the event `ResourceDestroyed` of a type.
 fn take_destroyed(body: TypedType, left: &mut VecDeque<Piece>) -> TypedType
     ensures { spec.walk (type_body_of result) (pieces_of left.new.items) ≡ spec.take_destroyed (spec.walk (type_body_of body) (pieces_of left.old.items)) }
 {
@@ -355,6 +369,7 @@ fn take_destroyed(body: TypedType, left: &mut VecDeque<Piece>) -> TypedType
     add_destroyed(body, event)
 }
 
+/// A member of a composite: a field has no piece, any other has one.
 fn composite_member(
     member: &CompositeMember,
     body: TypedType,
@@ -370,6 +385,7 @@ fn composite_member(
     }
 }
 
+/// Members of a composite, in their order.
 fn composite_members(
     members: &[CompositeMember],
     body: TypedType,
@@ -384,6 +400,7 @@ fn composite_members(
     Ok(all)
 }
 
+/// A member of an interface: a field has no piece, a function has one.
 fn interface_member(
     member: &InterfaceMember,
     body: TypedType,
@@ -397,6 +414,7 @@ fn interface_member(
     }
 }
 
+/// Members of an interface, in their order.
 fn interface_members(
     members: &[InterfaceMember],
     body: TypedType,
@@ -424,6 +442,7 @@ fn composite(
     composite_members(&declared.members, empty_body(alloc, id), left)
 }
 
+/// An interface: its own piece, and then those of its functions.
 fn interface(
     alloc: Global,
     id: TypeId,
@@ -545,6 +564,7 @@ fn contract_member(
     }
 }
 
+/// Members of the contract, in their order.
 fn contract_members(
     alloc: Global,
     id: &TypeId,
@@ -605,6 +625,7 @@ fn append_types(all: &mut Vec<TypedType>, nested: Vec<TypedType>) -> Result<(), 
     done
 }
 
+/// A program's bodies, with those of a contract and of the types that are declared in it behind them.
 fn add_types(bodies: Bodies, own: TypedType, nested: Vec<TypedType>) -> Result<Bodies, AllocError>
     ensures { IfOk result (λ b. bodies_of b ≡ spec.add_types (type_body_of own ∷ map type_body_of nested.items) (bodies_of bodies)) }
 {
@@ -624,6 +645,7 @@ fn add_types(bodies: Bodies, own: TypedType, nested: Vec<TypedType>) -> Result<B
     }
 }
 
+/// A program's bodies, with a function outside a contract behind them, where there is one.
 fn add_top_function(
     bodies: Bodies,
     name: &Name,
@@ -647,6 +669,7 @@ fn add_top_function(
     }
 }
 
+/// A program's bodies, with this transaction, where there is one and they have none.
 fn add_transaction(bodies: Bodies, transaction: Option<TypedTransaction>) -> Bodies
     ensures { bodies_of result ≡ spec.add_transaction (option_map transaction_of transaction) (bodies_of bodies) }
 {
@@ -657,6 +680,7 @@ fn add_transaction(bodies: Bodies, transaction: Option<TypedTransaction>) -> Bod
     }
 }
 
+/// A contract of a program; nothing is gathered of it where it has no identifier.
 fn top_contract(
     alloc: Global,
     id: Option<&TypeId>,
@@ -694,6 +718,7 @@ fn pass_parts(transaction: &Transaction, left: &mut VecDeque<Piece>)
     pass(left);
 }
 
+/// A declaration of a program: a contract, a function outside one, or the transaction.
 fn declaration(
     alloc: Global,
     contract: Option<&TypeId>,
@@ -717,6 +742,7 @@ fn declaration(
     }
 }
 
+/// Declarations of a program, in their order.
 fn declarations(
     alloc: Global,
     contract: Option<&TypeId>,

@@ -22,12 +22,14 @@ pub fn lacks_return(function: &TypedFunction) -> bool
     lacks(function)
 }
 
+/// The same as a function of the tree.
 pub(crate) fn lacks(function: &TypedFunction) -> bool
     ensures { result ≡ spec.lacks_return (function_of function.now) }
 {
     !is_void(&function.result) && body_comes(&function.body)
 }
 
+/// Whether a type is `Void`.
 fn is_void(t: &CadType) -> bool
     ensures { result ≡ classes.is_void (pure_type t.now) }
 {
@@ -147,6 +149,7 @@ fn cases_ends(all: &[TypedCase], otherwise: Ends) -> Ends
     ends
 }
 
+/// How the paths of a case's statements leave it.
 #[cycle(ends)]
 fn case_body_ends(case: &TypedCase) -> Ends
     ensures { result ≡ spec.block_ends (case_of case.now).body }
@@ -154,12 +157,14 @@ fn case_body_ends(case: &TypedCase) -> Ends
     block_ends(&case.body)
 }
 
+/// Whether some path comes to the end of a case's value.
 fn case_comes(case: &TypedCase) -> bool
     ensures { result ≡ spec.term_comes (case_of case.now).value }
 {
     term_comes(&case.value)
 }
 
+/// Whether some path comes to the end of an argument.
 fn argument_comes(argument: &Argument) -> bool
     ensures { result ≡ spec.term_comes (term_of argument.now.value) }
 {

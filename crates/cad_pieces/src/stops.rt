@@ -21,6 +21,7 @@ pub fn types_stop(pieces: &[Piece]) -> Result<Option<Stop>, AllocError>
     first_stop(pieces)
 }
 
+/// Where the first piece that is refused is refused.
 fn first_stop(pieces: &[Piece]) -> Result<Option<Stop>, AllocError>
     ensures { IfOk result (λ stop. stop ≡ spec.first_stop (pieces_of pieces.now)) }
 {
@@ -32,6 +33,7 @@ fn first_stop(pieces: &[Piece]) -> Result<Option<Stop>, AllocError>
     Ok(None)
 }
 
+/// Where a piece is refused; None where it is well-typed and returns.
 fn piece_stop(piece: &Piece) -> Result<Option<Stop>, AllocError>
     ensures { IfOk result (λ stop. stop ≡ spec.piece_stop (piece_of piece.now)) }
 {
@@ -51,6 +53,7 @@ fn refused_at(piece: &Piece) -> Option<u64>
     }
 }
 
+/// The number of statements of a function that lacks its return; None of any other body.
 fn refused_body(body: &PieceBody) -> Option<u64>
     ensures { result ≡ spec.refused_body (piece_body_of body.now) }
 {

@@ -112,6 +112,7 @@ fn type_optional_body(
     }
 }
 
+/// How many statements a body has, those in statements among them; 0 without a body.
 fn count_body(body: Option<&[Stmt]>) -> Result<u64, AllocError>
     ensures { IfOk result (λ n. n ≡ spec.count_body (option_map (λ b. map stmt_of b.now) body.entry)) }
 {
@@ -142,6 +143,7 @@ fn count_statements(routine: &Routine<'_>) -> Result<u64, AllocError>
     sum(count_conditions(routine)?, count_body(routine.body)?)
 }
 
+/// The variable of the result, where there is one.
 fn result_variable(env: Environment<'_>, v: &Option<Local>) -> Result<Option<Variable>, AllocError>
     ensures { IfOk result (λ x. option_map variable_of x ≡ option_map (locals.entry_of (environment_of env.entry)) (option_map local_of v.now)) }
 {

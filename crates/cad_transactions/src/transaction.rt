@@ -81,6 +81,7 @@ pub fn discard_transaction_typing(typing: TransactionTyping) {
     discard_judged(post);
 }
 
+/// The variable of a field, with its number.
 fn field_local(
     alloc: Global,
     scope: Scope<'_>,
@@ -155,6 +156,7 @@ fn field_rule(
     })
 }
 
+/// The rules of fields, in the order in which they are declared.
 fn field_rules(
     alloc: Global,
     known: Known<'_>,
@@ -233,6 +235,7 @@ fn type_prepare(
     type_execute(alloc, env, prepare.body.as_slice())
 }
 
+/// `prepare`, where there is one.
 fn type_optional_prepare(
     alloc: Global,
     known: Known<'_>,
@@ -247,6 +250,7 @@ fn type_optional_prepare(
     }
 }
 
+/// `execute`, where there is one.
 fn type_optional_execute(
     alloc: Global,
     env: Environment<'_>,
@@ -270,6 +274,7 @@ fn count_optional(body: &Option<Vec<Stmt>>) -> Result<u64, AllocError>
     }
 }
 
+/// How many statements `prepare` has, those in statements among them; 0 without it.
 fn prepare_statements(prepare: &Option<Prepare>) -> Result<u64, AllocError>
     ensures { IfOk result (λ n. n ≡ spec.prepare_statements (option_map prepare_of prepare.now)) }
 {
