@@ -35,7 +35,7 @@ tables_of x = record {
   imports = x.imports;
   types = map type_entry_of x.types;
   entitlements = x.entitlements;
-  mappings = map mapping_entry_of x.mappings.items;
+  mappings = map mapping_entry_of x.mappings;
   functions = map member_of x.functions.items;
 }
 

@@ -9,6 +9,7 @@ mod link;
 mod lookup;
 mod member;
 mod program;
+mod rights;
 mod statement;
 mod stop;
 mod tables;
@@ -32,6 +33,7 @@ pub use lookup::{
 };
 pub use member::{Member, MemberAccess, MemberKind, Parameter, Signature};
 pub use program::{Checked, Deployed, Installed};
+pub use rights::{EntitlementDeclarations, MappingDeclarations};
 pub use statement::{TypedBlock, TypedCase, TypedStatement, Variable};
 pub use stop::{Refused, Rejected, Stop};
 pub use tables::{MappingDeclaration, Tables, TypeDeclaration};

@@ -5,6 +5,7 @@ ghost use Rattle.cad_declarations.specs.Kinds.{declaration_of};
 ghost use Rattle.cad_declarations.specs.MemberViews.{type_entry_of};
 
 use crate::member::{Member, Signature};
+use crate::rights::{EntitlementDeclarations, MappingDeclarations};
 use crate::type_declarations::TypeDeclarations;
 use cad_auth::Mapping;
 use cad_syntax::{Address, Kind, Names, TypeId, TypeIds};
@@ -45,8 +46,8 @@ pub struct Tables {
     /// The contracts that it imports by name, in order.
     pub imports: TypeIds,
     pub types: TypeDeclarations,
-    pub entitlements: TypeIds,
-    pub mappings: Vec<MappingDeclaration>,
+    pub entitlements: EntitlementDeclarations,
+    pub mappings: MappingDeclarations,
     /// The functions that stand outside a contract.
     pub functions: Vec<Member>,
     /// The interfaces of an interface that a type has are its own too.

@@ -16,5 +16,5 @@ known_scope x = record {
   imports = x.imported;
   types = declarations x.types;
   entitlements = x.entitlements;
-  mappings = map (λ m. m.id) x.mappings.items;
+  mappings = map (λ m. m.id) x.mappings;
 }

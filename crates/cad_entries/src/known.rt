@@ -13,7 +13,9 @@ ghost use Rattle.cad_contracts.specs.Views.{entry_of};
 
 use cad_auth::Mapping;
 use cad_contracts::{Own, all_imported, is_part, tables_in};
-use cad_declarations::{Installed, MappingDeclaration};
+use cad_declarations::{
+    EntitlementDeclarations, Installed, MappingDeclaration, MappingDeclarations,
+};
 use cad_grammar::{CompositeKind, ContractMember, Program};
 use cad_scopes::{Scope, inside};
 use cad_syntax::{Name, Pairs, TypeId, TypeIds, Types};
@@ -28,9 +30,9 @@ pub struct Known<'a> {
     /// The contracts that are imported by name.
     pub imported: TypeIds,
     pub types: DeclaredTypes,
-    pub entitlements: TypeIds,
+    pub entitlements: EntitlementDeclarations,
     /// The identifiers of mappings, whose pairs aren't told yet.
-    pub mappings: Vec<MappingDeclaration>,
+    pub mappings: MappingDeclarations,
 }
 
 /// The identifier of the program's contract.
@@ -51,8 +53,8 @@ pub fn scope<'a>(known: &'a Known<'_>) -> Scope<'a>
         contract: own_id(&known.own),
         imports: known.imported.as_slice(),
         types: &known.types,
-        entitlements: known.entitlements.as_slice(),
-        mappings: known.mappings.as_slice(),
+        entitlements: &known.entitlements,
+        mappings: &known.mappings,
     }
 }
 
@@ -227,8 +229,8 @@ fn push_entitlements_in(all: &mut Vec<TypeId>, own: &Own<'_>) -> Result<(), Allo
     Ok(())
 }
 
-/// The entitlements of a program and its imports.
-fn known_entitlements(
+/// The entitlements of a program and its imports, in order.
+fn listed_entitlements(
     alloc: Global,
     imports: &[&Installed],
     own: &Option<Own<'_>>,
@@ -243,6 +245,18 @@ fn known_entitlements(
         push_entitlements_in(&mut all, own)?;
     }
     Ok(TypeIds::from_vec(all))
+}
+
+/// The entitlements of a program and its imports.
+fn known_entitlements(
+    alloc: Global,
+    imports: &[&Installed],
+    own: &Option<Own<'_>>,
+) -> Result<EntitlementDeclarations, AllocError>
+    ensures { IfOk result (λ all. all ≡ flat_map (λ c. c.entitlements) (map (λ c. entry_of c.now) imports.now) ++ flat_map spec.entitlements_in (option_to_list (option_map own_of own.now))) }
+{
+    let all = listed_entitlements(alloc, imports, own)?;
+    EntitlementDeclarations::new(alloc, all)
 }
 
 /// Appends a mapping whose pairs aren't told.
@@ -308,8 +322,8 @@ fn push_mappings_in(
     Ok(())
 }
 
-/// The mappings of a program and its imports.
-fn known_mappings(
+/// The mappings of a program and its imports, in order.
+fn listed_mappings(
     alloc: Global,
     imports: &[&Installed],
     own: &Option<Own<'_>>,
@@ -324,6 +338,18 @@ fn known_mappings(
         push_mappings_in(&mut all, alloc, own)?;
     }
     Ok(all)
+}
+
+/// The mappings of a program and its imports.
+fn known_mappings(
+    alloc: Global,
+    imports: &[&Installed],
+    own: &Option<Own<'_>>,
+) -> Result<MappingDeclarations, AllocError>
+    ensures { IfOk result (λ all. map (λ m. m.id) all ≡ flat_map (λ c. map (λ m. m.id) c.mappings) (map (λ c. entry_of c.now) imports.now) ++ flat_map spec.mappings_in (option_to_list (option_map own_of own.now))) }
+{
+    let all = listed_mappings(alloc, imports, own)?;
+    MappingDeclarations::new(alloc, all)
 }
 
 /// What a program is looked up in, beside the closure of its imports.

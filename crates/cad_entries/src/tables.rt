@@ -18,7 +18,8 @@ use crate::members::function_entry;
 use crate::types::push_types_in;
 use cad_contracts::{Own, push_copied_mappings, push_linked_types};
 use cad_declarations::{
-    Installed, Links, MappingDeclaration, Member, Tables, TypeDeclaration, TypeDeclarations,
+    Installed, Links, MappingDeclaration, MappingDeclarations, Member, Tables, TypeDeclaration,
+    TypeDeclarations,
 };
 use cad_grammar::{Decl, Program};
 use cad_scopes::Scope;
@@ -71,8 +72,8 @@ fn all_types(
     TypeDeclarations::new(alloc, all)
 }
 
-/// The mappings of a program and its imports.
-fn all_mappings(
+/// The mappings of a program and its imports, in order.
+fn listed_mappings(
     alloc: Global,
     scope: Scope<'_>,
     imports: &[&Installed],
@@ -88,6 +89,19 @@ fn all_mappings(
         push_own_mappings(&mut all, alloc, scope, own)?;
     }
     Ok(all)
+}
+
+/// The mappings of a program and its imports.
+fn all_mappings(
+    alloc: Global,
+    scope: Scope<'_>,
+    imports: &[&Installed],
+    own: &Option<Own<'_>>,
+) -> Result<MappingDeclarations, AllocError>
+    ensures { IfOk result (λ all. map mapping_entry_of all ≡ flat_map (λ c. c.mappings) (map (λ c. entry_of c.now) imports.now) ++ flat_map (spec.own_mappings (scope_of scope.entry)) (option_to_list (option_map own_of own.now))) }
+{
+    let all = listed_mappings(alloc, scope, imports, own)?;
+    MappingDeclarations::new(alloc, all)
 }
 
 /// What declares functions outside a contract, which has no name.
@@ -160,7 +174,7 @@ pub fn made_tables(
     let within = scope(known);
     let contract = copied_id(own_id(&known.own))?;
     let imports = known.imported.clone()?;
-    let entitlements = known.entitlements.clone()?;
+    let entitlements = known.entitlements.copied(alloc)?;
     let mappings = all_mappings(alloc, within, known.imports.as_slice(), &known.own)?;
     let functions = top_functions(alloc, within, program.declarations.as_slice())?;
     let types = all_types(alloc, within, links, known.imports.as_slice(), &known.own)?;

@@ -6,16 +6,15 @@ ghost use Rattle.cad_syntax.specs.TypeIds.{same_id};
 ghost use Rattle.cad_syntax.specs.Types.{pure_type};
 ghost use Rattle.cad_syntax.specs.declared.text.Name.{Name};
 ghost use Rattle.cad_auth.specs.Tests as tests;
-ghost use Rattle.cad_declarations.specs.Members.{mapping_in_entries};
 ghost use Rattle.cad_declarations.specs.Names.{identity_mapping};
-ghost use Rattle.cad_declarations.specs.Views.{mapping_entry_of, member_of, place_of};
+ghost use Rattle.cad_declarations.specs.Views.{member_of, place_of};
 ghost use Rattle.cad_typing.specs.Access as spec;
 ghost use Rattle.cad_environment.specs.Views.{environment_of, receiver_of, part_of};
 
 use crate::base::Receiver;
 use crate::environment::{Environment, Part};
 use cad_auth::{Mapping, grants, image};
-use cad_declarations::{MappingDeclaration, Member, MemberAccess, Place, is_same_name};
+use cad_declarations::{Member, MemberAccess, Place, is_same_name};
 use cad_grammar::VariableKind;
 use cad_scopes::is_spelled;
 use cad_syntax::{Authorization, CadType, Name, Pairs, TypeId};
@@ -163,18 +162,6 @@ fn is_only(names: &[Name], text: &str) -> bool
     }
 }
 
-/// The first mapping of an identifier.
-fn find_mapping<'a>(mappings: &'a [MappingDeclaration], id: &TypeId) -> Option<&'a Mapping>
-    ensures { option_map (λ m. m.now) result ≡ mapping_in_entries (map mapping_entry_of mappings.now) id.now }
-{
-    for declared in mappings {
-        if declared.id.same(id) {
-            return Some(&declared.mapping);
-        }
-    }
-    None
-}
-
 /// The image of an authorization under the mapping of an identifier.
 pub fn mapped(
     alloc: Global,
@@ -191,8 +178,8 @@ pub fn mapped(
         };
         return image(alloc, &identity, grant);
     }
-    match find_mapping(env.known.tables.mappings.as_slice(), mapping) {
-        Some(found) => image(alloc, found, grant),
+    match env.known.tables.mappings.find(mapping) {
+        Some(found) => image(alloc, &found.mapping, grant),
         None => Ok(None),
     }
 }

@@ -78,8 +78,8 @@ impl<'a> Environment<'a> {
             contract: tables.contract.as_ref(),
             imports: tables.imports.as_slice(),
             types: self.kinds(),
-            entitlements: tables.entitlements.as_slice(),
-            mappings: tables.mappings.as_slice(),
+            entitlements: &tables.entitlements,
+            mappings: &tables.mappings,
         }
     }
 

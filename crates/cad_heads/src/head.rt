@@ -30,8 +30,8 @@ pub fn scope_in(known: Known<'_>) -> Scope<'_>
         contract: tables.contract.as_ref(),
         imports: tables.imports.as_slice(),
         types: known.declared(),
-        entitlements: tables.entitlements.as_slice(),
-        mappings: tables.mappings.as_slice(),
+        entitlements: &tables.entitlements,
+        mappings: &tables.mappings,
     }
 }
 

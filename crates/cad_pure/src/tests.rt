@@ -2,8 +2,8 @@
 use crate::fields::{field_rules, rules_in};
 use crate::initialisation::initialised;
 use cad_declarations::{
-    Argument, Member, MemberAccess, MemberKind, Place, Tables, Term, TypeDeclarations, TypedBlock,
-    TypedBody, TypedFunction, TypedStatement,
+    Argument, EntitlementDeclarations, MappingDeclarations, Member, MemberAccess, MemberKind,
+    Place, Tables, Term, TypeDeclarations, TypedBlock, TypedBody, TypedFunction, TypedStatement,
 };
 use cad_grammar::VariableKind;
 use cad_paths::FieldRule;
@@ -106,8 +106,8 @@ fn no_tables(alloc: Global) -> Result<Tables, AllocError> {
         contract: None,
         imports: TypeIds::new(alloc),
         types: TypeDeclarations::new(alloc, Vec::new(alloc))?,
-        entitlements: TypeIds::new(alloc),
-        mappings: Vec::new(alloc),
+        entitlements: EntitlementDeclarations::new(alloc, TypeIds::new(alloc))?,
+        mappings: MappingDeclarations::new(alloc, Vec::new(alloc))?,
         functions: Vec::new(alloc),
     })
 }

@@ -1,14 +1,13 @@
 // What names are looked up in, and what they stand for.
-ghost use Rattle.std.specs.Prelude.{◌≡◌, IfOk, option_copied, option_map, map, find};
-ghost use Rattle.cad_syntax.specs.TypeIds.{has};
+ghost use Rattle.std.specs.Prelude.{◌≡◌, IfOk, option_copied, option_map, find};
 ghost use Rattle.cad_types.specs.Declarations.{found};
 ghost use Rattle.cad_types.specs.Views.{declarations};
 ghost use Rattle.cad_declarations.specs.Scopes as spec;
 ghost use Rattle.cad_scopes.specs.Views.{scope_of, meaning_view};
 
 use crate::names::{Meaning, basic_type, built_in_as, inside, is_entitlement_name, is_spelled};
-use cad_declarations::{MappingDeclaration, is_same_name};
-use cad_syntax::{Name, TypeId, contains};
+use cad_declarations::{EntitlementDeclarations, MappingDeclarations, is_same_name};
+use cad_syntax::{Name, TypeId};
 use cad_types::{DeclaredTypes, Sort};
 use std::alloc::{AllocError, Global};
 
@@ -19,8 +18,8 @@ pub struct Scope<'a> {
     pub contract: Option<&'a TypeId>,
     pub imports: &'a [TypeId],
     pub types: &'a DeclaredTypes,
-    pub entitlements: &'a [TypeId],
-    pub mappings: &'a [MappingDeclaration],
+    pub entitlements: &'a EntitlementDeclarations,
+    pub mappings: &'a MappingDeclarations,
 }
 
 /// What a written name stands for; None where nothing of that name is there.
@@ -89,25 +88,13 @@ fn sort_of(scope: Scope<'_>, id: &TypeId) -> Option<Sort>
 fn right_meaning(scope: Scope<'_>, id: TypeId) -> Option<Meaning>
     ensures { option_map meaning_view result ≡ spec.right_meaning (scope_of scope.entry) id }
 {
-    if contains(scope.entitlements, &id) {
+    if scope.entitlements.contains(&id) {
         Some(Meaning::Entitlement(id))
-    } else if has_mapping(scope.mappings, &id) {
+    } else if scope.mappings.contains(&id) {
         Some(Meaning::Mapping(id))
     } else {
         None
     }
-}
-
-/// Whether a mapping has this identifier.
-fn has_mapping(mappings: &[MappingDeclaration], id: &TypeId) -> bool
-    ensures { result ≡ has (map (λ m. m.id) mappings.now) id.now }
-{
-    for mapping in mappings {
-        if mapping.id.same(id) {
-            return true;
-        }
-    }
-    false
 }
 
 /// A meaning, where no name stands behind it.

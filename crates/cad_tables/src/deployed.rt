@@ -8,7 +8,10 @@ ghost use Rattle.cad_contracts.specs.Views.{entry_of};
 ghost use Rattle.cad_tables.specs.Views.{contracts_of, with_entry};
 
 use cad_contracts::imported_links;
-use cad_declarations::{Deployed, Installed, Tables, TypeDeclarations, is_same_name};
+use cad_declarations::{
+    Deployed, EntitlementDeclarations, Installed, MappingDeclarations, Tables, TypeDeclarations,
+    is_same_name,
+};
 use cad_entries::linked_types;
 use cad_syntax::TypeIds;
 use cad_types::DeclaredTypes;
@@ -122,8 +125,8 @@ fn type_tables(alloc: Global, contracts: &[Installed]) -> Result<Tables, AllocEr
         contract: None,
         imports: TypeIds::new(alloc),
         types,
-        entitlements: TypeIds::new(alloc),
-        mappings: Vec::new(alloc),
+        entitlements: EntitlementDeclarations::new(alloc, TypeIds::new(alloc))?,
+        mappings: MappingDeclarations::new(alloc, Vec::new(alloc))?,
         functions: Vec::new(alloc),
     })
 }

@@ -1,3 +1,4 @@
+mod Alone
 mod Exportable
 mod Optionals
 mod Truths

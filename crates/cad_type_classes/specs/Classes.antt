@@ -1,7 +1,7 @@
 -- The classes of types, each by one definition of its class.
-use Rattle.std.specs.Prelude.{Bool, not, ◌||◌, List, filter}
+use Rattle.std.specs.Prelude.{Bool, true, false, not, ◌&&◌, ◌||◌, List, filter}
 use Rattle.std.specs.List.{list_all}
-use Rattle.cad_syntax.specs.Types.{PureType}
+use Rattle.cad_syntax.specs.Types.{PureType, optional, array, dictionary, declared}
 use Rattle.cad_syntax.specs.declared.type_id.TypeId.{TypeId}
 use Rattle.cad_types.specs.Classes.{is_void}
 use Rattle.cad_types.specs.Declarations.{Declaration}
@@ -28,3 +28,11 @@ failing_beside d class ids = ids_of (filter (λ x. not (has_fields d class ids x
 
 abbrev pub failing_class : List Declaration → Class → List TypeId
 failing_class d class = failing (has_fields d class) d
+
+-- no declared type, and none in the parts that the classes look at
+abbrev pub has_no_declared_part : PureType → Bool
+has_no_declared_part (optional t) = has_no_declared_part t
+has_no_declared_part (array t) = has_no_declared_part t
+has_no_declared_part (dictionary key value) = has_no_declared_part key && has_no_declared_part value
+has_no_declared_part (declared id) = false
+has_no_declared_part _ = true

@@ -25,6 +25,9 @@ enum Class<'a> {
 pub fn is_storable(alloc: Global, types: &DeclaredTypes, t: &CadType) -> Result<bool, AllocError>
     ensures { IfOk result (λ b. b ≡ spec.is_storable (declarations types.now) (pure_type t.now)) }
 {
+    if has_no_declared_part(t) {
+        return Ok(is_storable_but(&[], t));
+    }
     let ids = failing(alloc, types, Class::Storable)?;
     Ok(is_storable_but(ids.as_slice(), t))
 }
@@ -33,6 +36,9 @@ pub fn is_storable(alloc: Global, types: &DeclaredTypes, t: &CadType) -> Result<
 pub fn is_importable(alloc: Global, types: &DeclaredTypes, t: &CadType) -> Result<bool, AllocError>
     ensures { IfOk result (λ b. b ≡ spec.is_importable (declarations types.now) (pure_type t.now)) }
 {
+    if has_no_declared_part(t) {
+        return Ok(is_importable_but(types, &[], t));
+    }
     let ids = failing(alloc, types, Class::Importable)?;
     Ok(is_importable_but(types, ids.as_slice(), t))
 }
@@ -41,9 +47,25 @@ pub fn is_importable(alloc: Global, types: &DeclaredTypes, t: &CadType) -> Resul
 pub fn is_exportable(alloc: Global, types: &DeclaredTypes, t: &CadType) -> Result<bool, AllocError>
     ensures { IfOk result (λ b. b ≡ spec.is_exportable (declarations types.now) (pure_type t.now)) }
 {
+    if has_no_declared_part(t) {
+        return Ok(is_exportable_but(types, &[], &[], t));
+    }
     let unimportable = failing(alloc, types, Class::Importable)?;
     let ids = failing(alloc, types, Class::Exportable(unimportable.as_slice()))?;
     Ok(is_exportable_but(types, unimportable.as_slice(), ids.as_slice(), t))
+}
+
+/// Whether a type is no declared one, and no part of it is that the classes look at. What stands behind a reference or a
+/// capability is none of these parts.
+fn has_no_declared_part(t: &CadType) -> bool
+    ensures { result ≡ code.has_no_declared_part (pure_type t.now) }
+{
+    match t {
+        CadType::Optional(part) | CadType::Array(part) => has_no_declared_part(part),
+        CadType::Dictionary(key, value) => has_no_declared_part(key) && has_no_declared_part(value),
+        CadType::Declared(_) => false,
+        _ => true,
+    }
 }
 
 /// The declared types that aren't of a class: those that a turn finds by those of the turn before, until it finds the same.

@@ -2,7 +2,7 @@ use Rattle.std.proofs.Common.{◌≡◌, ◌++◌, map, drop}
 use Rattle.std.specs.List.{flat_map}
 use Rattle.cad_contracts.specs.Views.{entry_of}
 use Rattle.cad_declarations.specs.Views.{mapping_entry_of}
-use Rattle.cad_entries.proofs.tables.all_mappings.Given as goal
+use Rattle.cad_entries.proofs.tables.listed_mappings.Given as goal
 
 abbrev pub invariant-loop-contract : goal.invariant-loop-contract
 invariant-loop-contract l =

@@ -1,7 +1,7 @@
 use Rattle.std.proofs.Common.{◌≡◌, ◌++◌, map, drop}
 use Rattle.std.specs.List.{flat_map}
 use Rattle.cad_contracts.specs.Views.{entry_of}
-use Rattle.cad_entries.proofs.known.known_mappings.Given as goal
+use Rattle.cad_entries.proofs.known.listed_mappings.Given as goal
 
 abbrev pub invariant-loop-contract : goal.invariant-loop-contract
 invariant-loop-contract l =
