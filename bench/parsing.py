@@ -2,9 +2,10 @@
 """Times the lexer and the whole reader on contracts, and on twice as many, through the built program.
 
 A line asks for a script whose code is one contract of a token with its vault, again and again under other names. Such code is a
-program and none that runs, so the reply is bad 29; with a `#` at its end the lexer stops there. For each line the program reads
-the JSON twice and lexes the code twice, so the figures are lower bounds. The least processor time of five runs counts. So are the
-lists of comparisons, at each of whose `<` the reader looks ahead for type arguments.
+program, but a script has no contracts, so it is rejected in phase `resolve`; with a `#` at its end the lexer stops there. For each
+line the program reads the JSON twice, lexes the code twice and looks for what its names mean, so the figures are lower bounds. The
+least processor time of five runs counts. So are the lists of comparisons, at each of whose `<` the reader looks ahead for type
+arguments; they are rejected in phase `types`, at the first name that isn't in scope.
 
 usage: bench/parsing.py [PROGRAM]
 """
@@ -43,9 +44,9 @@ COMPARED = "access(all) fun main(): [Bool] { return [%s] }"
 # What is read, the code of so many parts, their number, the lines of a run, and what each reply has in it.
 ROWS = [
     ("lexing", lambda count: "".join(CONTRACT % i for i in range(count)) + "#", 800, 20, b'"phase":"lex"'),
-    ("the whole", lambda count: "".join(CONTRACT % i for i in range(count)), 800, 20, b'"29"'),
-    ("comparisons that no > ends", lambda count: COMPARED % ",".join(["a<b"] * count), 200_000, 2, b'"29"'),
-    ("comparisons that a > and a ( end", lambda count: COMPARED % ",".join(["a<" * 60 + "b" + ">(c)" * 60] * count), 2_000, 2, b'"29"'),
+    ("the whole", lambda count: "".join(CONTRACT % i for i in range(count)), 800, 20, b'"phase":"resolve"'),
+    ("comparisons that no > ends", lambda count: COMPARED % ",".join(["a<b"] * count), 200_000, 2, b'"phase":"types"'),
+    ("comparisons that a > and a ( end", lambda count: COMPARED % ",".join(["a<" * 60 + "b" + ">(c)" * 60] * count), 2_000, 2, b'"phase":"types"'),
 ]
 
 

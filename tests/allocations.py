@@ -133,7 +133,10 @@ PROGRAMS = (
     (b'{"kind":"script","code":"import A from 0x1\\naccess(all) fun main() { return a b }"}',
      b'{"at":"18","in":"","phase":"parse","reply":"rejected"}\n'),
     (b'{"kind":"transaction","code":"transaction(to: A) { prepare(a: auth(B, C) &D) { let x <- e.f<@G>(h: 1, [2], {3: \\"4\\"}) }'
-     b' execute { if let b <- c() { destroy b } else { d(&b as &E?) }; for i, j in k { l = m ?? n - 0x5 } } }"}', model.bad(29)),
+     b' execute { if let b <- c() { destroy b } else { d(&b as &E?) }; for i, j in k { l = m ?? n - 0x5 } } }"}',
+     b'{"at":"0","in":"transaction","phase":"resolve","reply":"rejected"}\n'),
+    (b'{"kind":"script","code":"access(all) fun main() { let n: Int = true }"}', b'{"at":"0","in":"main","phase":"types","reply":"rejected"}\n'),
+    (b'{"kind":"script","code":"access(all) fun main(a: [Int]): Bool { for n in a { if n < 1 { return true } }; return false }"}', model.bad(29)),
     (b"hello", model.bad(29)),
     (b" \t", b""),
     (b"x" * ((1 << 20) + 1), model.bad(27)),

@@ -64,8 +64,14 @@ class Tries:
         return done
 
 
-def rejected(phase, at):
-    return b'{"at":"%d","in":"","phase":"%s","reply":"rejected"}\n' % (at, phase.encode())
+def rejected(phase, at, inside=""):
+    return b'{"at":"%d","in":"%s","phase":"%s","reply":"rejected"}\n' % (at, inside.encode(), phase.encode())
+
+
+def is_read(reply):
+    """Whether a reply says that the code is a program: it is accepted, or a phase behind `parse` refuses it."""
+    told = json.loads(reply)
+    return reply == bad(29) or told["reply"] == "rejected" and told["phase"] not in ("lex", "parse")
 
 
 def is_command(line):
@@ -184,7 +190,7 @@ def control_characters(tries):
     tries.run("gaps in JSON", ACCOUNT.replace(b":", b" \t\r: \t\r")[:-1] + b" \t\r\n", "done", FIRST)
     for gap in gaps:
         code = "access(all) fun main(): Int { return" + gap + "1 }"
-        reply = bad(29) if gap == "\n" else result(1)
+        reply = rejected("types", 0, "main") if gap == "\n" else result(1)
         tries.run(f"the gap {gap!r} behind return", code_line(code), "done", reply)
 
 
@@ -252,20 +258,75 @@ def odd_signers(tries):
 def nested_programs(tries):
     """Each bracket, sign and word that opens a nesting, 128 times, once more, and as often as a line has room for."""
     forms = list(nesting.forms())
-    lines, replies, names = [], [], []
+    lines, read, names = [], [], []
     for form in forms:
         for count in (1, nesting.MOST - form[1], nesting.MOST - form[1] + 1):
             lines.append(code_line(nesting.text_of(form, count)))
-            replies.append(bad(29) if form[1] + count <= nesting.MOST else rejected("parse", 0))
+            read.append(form[1] + count <= nesting.MOST)
             names.append(f"{form[0]}, {count} times")
     done = tries.run("programs that nest", b"".join(lines), "done", None)
-    for name, reply, wanted in zip(names, done.stdout.splitlines(keepends=True), replies, strict=True):
-        hold(reply == wanted, name, "gives", reply)
+    for name, reply, wanted in zip(names, done.stdout.splitlines(keepends=True), read, strict=True):
+        hold(is_read(reply) if wanted else reply == rejected("parse", 0), name, "gives", reply)
     for form in forms if tries.long else tries.chance.sample(forms, 10):
         head, _, tail = form[3]
         code = nesting.text_of(form, 900_000 // len(head + tail))
         tries.run(f"{form[0]}, as often as there is room", code_line(code), "done", rejected("parse", 0))
         tries.run(f"{form[0]}, not closed", code_line(form[2] + head * 200), "done", rejected("parse", 0))
+
+
+def deploy_line(code, address="0x1", **more):
+    return json.dumps({"kind": "deploy", "address": address, "name": "C", "code": code, **more}).encode() + b"\n"
+
+
+CONTRACT = "access(all) contract C {", "}"
+KNOT = "access(all) resource R { access(all) var child: @R? init() { self.child <- nil } access(all) fun knot(r: @R) {", "} }"
+BAG = "access(all) resource R {} access(all) fun make(): @R { return <-create R() } access(all) fun f(c: Bool) {", "}"
+# Code that a phase refuses first, with the phase, the number of the statement, and the declaration or function. All but
+# those of contracts are scripts or transactions.
+REFUSED = (
+    ("import A from 0x1 access(all) fun main() {}", "resolve", 0, "A"),
+    ("access(all) fun main() {} access(all) fun main() {}", "resolve", 0, "main"),
+    ("access(all) fun f() { let a = 1; let b: T = 1 } access(all) fun main(): T { return 1 }", "resolve", 1, "f"),
+    (CONTRACT[0] + CONTRACT[1], "resolve", 0, "C"),
+    ("transaction(a: T) {} ", "resolve", 0, "transaction"),
+    ("access(all) fun main() { let n: Int = true }", "types", 0, "main"),
+    ("access(all) fun main(): Int { let a = 1; if a < 2 { return 3 } }", "types", 3, "main"),
+    ("access(all) fun main(): Int { return 170141183460469231731687303715884105728 }", "types", 0, "main"),
+    ("transaction { prepare(a: &Account) {} pre { 1 } execute {} }", "types", 0, "pre"),
+    ("transaction { prepare(a: &Account) { let b = 1; a.storage.save(1, to: /storage/x) } }", "types", 1, "prepare"),
+    ("access(all) fun g() {} access(all) view fun f() { let a = 1; g() } access(all) fun main() {}", "purity", 1, "f"),
+    ("transaction { let n: Int prepare(a: &Account) { let b = 1 } }", "initialisation", 1, "prepare"),
+)
+REFUSED_CONTRACTS = (
+    ("access(all) fun f() {}", "resolve", 0, "f"),
+    ("access(all) struct interface I { access(all) fun f() } access(all) struct S: I {}", "conformance", 0, "C.S"),
+    (KNOT[0] + "let c <- r; r.child <-! c" + KNOT[1], "moves", 1, "C.R.knot"),
+    (BAG[0] + "let r <- self.make(); if c { destroy r }" + BAG[1], "moves", 0, "C.f"),
+    (BAG[0] + "let r <- self.make(); while c { destroy r }; destroy r" + BAG[1], "moves", 2, "C.f"),
+    ("access(all) var n: Int access(all) view fun f() { self.n = 1 } init() { self.n = 0 }", "purity", 0, "C.f"),
+    ("access(all) var n: Int init() { let a = 1 }", "initialisation", 1, "C.init"),
+    ("access(all) struct S { access(all) let n: Int }", "initialisation", 0, "C.S"),
+    # the order of the phases
+    ("access(all) fun f(): Int { let b: T = 1; return true }", "resolve", 0, "C.f"),
+    (KNOT[0] + "let c <- r; r.child <-! c; let n: Int = true" + KNOT[1], "types", 2, "C.R.knot"),
+    ("access(all) var n: Int access(all) view fun f() { self.n = 1 } init() {}", "purity", 0, "C.f"),
+)
+
+
+def refused_code(tries):
+    """Code that breaks a rule: the first phase that refuses it, and where. Accepted code is bad 29."""
+    for code, phase, at, inside in REFUSED:
+        tries.run(f"the code {code!r}", code_line(code) + SCRIPT, "done", rejected(phase, at, inside) + result(7))
+    for body, phase, at, inside in REFUSED_CONTRACTS:
+        code = body if inside == "f" else body.join(CONTRACT)
+        told = FIRST + rejected(phase, at, inside) + bad(26)
+        tries.run(f"the contract {body!r}", ACCOUNT + deploy_line(code) + deploy_line(code, "0x2"), "done", told)
+    accepted = BAG[0] + "let r <- self.make(); destroy r" + BAG[1]
+    folder, lines = tries.folder(), deploy_line(accepted.join(CONTRACT))
+    tries.run("a contract that nothing refuses", ACCOUNT + lines + lines, "done", FIRST + bad(29) * 2, folder)
+    hold(model.accounts_in(folder) == model.Accounts(1), "a contract that nothing refuses changes the accounts")
+    for more in ({"name": 1}, {"address": "1"}, {"arguments": {}}, {"limit": -1}):
+        tries.run(f"a deploy with {more}", ACCOUNT + deploy_line("fun", **{"address": "0x1", **more}), "done", FIRST + bad(29))
 
 
 MANY = 1_000_000
@@ -286,20 +347,20 @@ LONG_CODE = (
     ("many noughts", SUM.replace("7", "0" * MANY + "7"), result(7)),
     ("many underscores", SUM.replace("7", "7" + "_0" * 3 + "_" * MANY), rejected("parse", 0)),
     ("many digits of a fraction", SUM.replace("7", "0." + "0" * MANY), rejected("parse", 0)),
-    ("many imports", "import A from 0x1\n" * (MANY // 20), bad(29)),
-    ("an import of many names", f"import A{', A' * (MANY // 3)} from 0x1", bad(29)),
+    ("many imports", "import A from 0x1\n" * (MANY // 20), rejected("resolve", 0, "A")),
+    ("an import of many names", f"import A{', A' * (MANY // 3)} from 0x1", rejected("resolve", 0, "A")),
     ("an import that doesn't end", f"import A{', A' * (MANY // 3)}", rejected("parse", 0)),
-    ("many functions", "access(all) fun f() {}" * (MANY // 22), bad(29)),
-    ("many statements", f"{HEAD}{'a;' * (MANY // 2)} }}", bad(29)),
+    ("many functions", "access(all) fun f() {}" * (MANY // 22), rejected("resolve", 0, "f")),
+    ("many statements", f"{HEAD}{'a;' * (MANY // 2)} }}", rejected("types", 0, "main")),
     ("many semicolons", f"{HEAD}{';' * MANY} }}", rejected("parse", 0)),
-    ("many parameters", f"access(all) fun f({'a: A, ' * (MANY // 6)}) {{}}", bad(29)),
-    ("many arguments", f"{HEAD}f({'1,' * (MANY // 2)}) }}", bad(29)),
+    ("many parameters", f"access(all) fun f({'a: A, ' * (MANY // 6)}) {{}}", rejected("resolve", 0, "f")),
+    ("many arguments", f"{HEAD}f({'1,' * (MANY // 2)}) }}", rejected("types", 0, "main")),
     ("many elements", f"{HEAD}let x = [{'1,' * (MANY // 2)}] }}", bad(29)),
-    ("many parts of a name", f"{HEAD}let x: A{'.A' * (MANY // 2)} = 1 }}", bad(29)),
-    ("many entitlements", f"access(A{', A' * (MANY // 3)}) fun f() {{}}", bad(29)),
-    ("many members of an intersection", f"{HEAD}let x: {{A{', A' * (MANY // 3)}}} = 1 }}", bad(29)),
-    ("many cases", f"{HEAD}switch a {{ {'case 1: ' * (MANY // 8)} }} }}", bad(29)),
-    ("many comparisons", f"{HEAD}let x = [{'a<b,' * 10_000}] }}", bad(29)),
+    ("many parts of a name", f"{HEAD}let x: A{'.A' * (MANY // 2)} = 1 }}", rejected("resolve", 0, "main")),
+    ("many entitlements", f"access(A{', A' * (MANY // 3)}) fun f() {{}}", rejected("resolve", 0, "f")),
+    ("many members of an intersection", f"{HEAD}let x: {{A{', A' * (MANY // 3)}}} = 1 }}", rejected("resolve", 0, "main")),
+    ("many cases", f"{HEAD}switch a {{ {'case 1: ' * (MANY // 8)} }} }}", rejected("types", 0, "main")),
+    ("many comparisons", f"{HEAD}let x = [{'a<b,' * 10_000}] }}", rejected("types", 0, "main")),
     ("a program and noise behind it", SUM * (MANY // 50) + "#", rejected("lex", len(SUM) * (MANY // 50))),
     ("programs and no program behind them", f"{SUM * (MANY // 50)} x", rejected("parse", len(SUM) * (MANY // 50) + 1)),
 )
@@ -585,7 +646,7 @@ def most_accounts(tries):
 
 KINDS = [
     random_bytes, changed_lines, cut_lines, long_lines, deep_lines, odd_lines, control_characters, half_characters, odd_fields,
-    equal_fields, odd_signers, nested_programs, long_programs, odd_words, odd_folders, few_files, odd_files, odd_streams,
+    equal_fields, odd_signers, refused_code, nested_programs, long_programs, odd_words, odd_folders, few_files, odd_files, odd_streams,
     slow_streams, closed_streams, little_memory, two_runs, cut_stores, changed_stores, odd_stores, most_accounts,
 ]  # fmt: skip
 

@@ -2,7 +2,7 @@
 """Compares what the program takes as a program with a second lexer and parser, reference_syntax.py beside this file.
 
 Each text is sent as the code of a script or of a transaction. Where the reference reads a program the reply must not be
-`rejected`; else it must be `rejected` with the reference's phase and byte. The texts are programs that are made from the
+`rejected` in phase `lex` or `parse`; else it must be `rejected` with the reference's phase and byte. The texts are programs that are made from the
 grammar, such programs with tokens dropped, doubled, swapped, replaced or put in, texts that are cut, all short lists of
 tokens in fixed places, nestings about the greatest number that may be open, and texts of odd characters. A text on which
 the two differ is made smaller and shown.
@@ -372,13 +372,18 @@ class Judge:
             difference = min(found, key=lambda one: len(one[0]))
 
 
+LATER = ("resolve", "types", "conformance", "moves", "purity", "initialisation")
+
+
 def answer_of(reply):
     if reply in (b'{"error":"29","reply":"bad"}', b'{"error":"101","reply":"failed"}') or reply.startswith(b'{"reply":"ok"'):
         return None
     told = json.loads(reply)
-    if told.get("reply") == "rejected" and told["in"] == "" and told["phase"] in ("lex", "parse"):
-        return told["phase"], int(told["at"])
-    return reply
+    if told.get("reply") != "rejected":
+        return reply
+    if told["phase"] in LATER:
+        return None
+    return (told["phase"], int(told["at"])) if told["in"] == "" else reply
 
 
 def options_of():

@@ -3,5 +3,4 @@ pub mod Parts
 pub mod Scripts
 pub mod Saving
 pub mod Meaning
-pub mod Refusals
 pub mod Uniques

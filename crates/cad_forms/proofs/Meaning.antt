@@ -9,7 +9,8 @@ use Rattle.serde_json.specs.declared.value.Value.{Value}
 use Rattle.cad_syntax.specs.Addresses.{address_of}
 use Rattle.cad_forms.specs.Sums.{IsSumScript}
 use Rattle.cad_forms.specs.Saves.{Save, IsSaveCode}
-use Rattle.cad_forms.specs.Request.{HasCode, text_at, only_item, only_address, Request, script, account, save, IsFor, Asks, asks_script, asks_account, asks_save}
+use Rattle.cad_request.specs.Fields.{text_at}
+use Rattle.cad_forms.specs.Request.{HasCode, only_item, only_address, Request, script, account, save, IsFor, Asks, asks_script, asks_account, asks_save}
 
 pub same_some : {A : Type 0} (a b : A) → Some a ≡ Some b → a ≡ b
 same_some a b e = cc e

@@ -3,9 +3,10 @@ use Rattle.std.proofs.Common.{◌≡◌, ℕ, List, length, Some, codes, refl, s
 use Rattle.serde_json.specs.Data.{Data}
 use Rattle.cad_grammar.specs.declared.token.Token.{Token}
 use Rattle.cad_grammar.specs.Lexes.{Lexes}
+use Rattle.cad_request.specs.Fields.{text_at}
 use Rattle.cad_forms.specs.Sums.{IsSum, IsScript, IsSumScript, kinds_of, tail_kinds}
 use Rattle.cad_forms.specs.Saves.{Save, IsSave, IsSaveCode}
-use Rattle.cad_forms.specs.Request.{text_at, Request, script, account, save, IsFor, Asks}
+use Rattle.cad_forms.specs.Request.{Request, script, account, save, IsFor, Asks}
 use Rattle.cad_forms.proofs.Parts.{same_sums, are_sum}
 use Rattle.cad_forms.proofs.Scripts.{same_rest}
 use Rattle.cad_forms.proofs.Saving.{one_save}

@@ -5,12 +5,9 @@ use Rattle.serde_json.specs.Data.{Data, Items, no_items, item}
 use Rattle.serde_json.specs.Find.{get, as_str, as_array}
 use Rattle.serde_json.specs.Read.{read}
 use Rattle.cad_syntax.specs.Addresses.{address_of}
+use Rattle.cad_request.specs.Fields.{text_at}
 use Rattle.cad_forms.specs.Sums.{IsSumScript}
 use Rattle.cad_forms.specs.Saves.{Save, IsSaveCode}
-
--- the text that a field holds
-abbrev pub text_at : List ℕ → Data → Option (List ℕ)
-text_at field request = option_and_then as_str (get field request)
 
 -- `kind` is this text, `code` is that one, and there are neither `arguments` nor `limit`.
 pub record HasCode (request : Data) (kind code : List ℕ) : Type 0 where

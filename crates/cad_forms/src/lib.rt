@@ -4,7 +4,6 @@
 mod form;
 mod laws;
 mod mark;
-mod program;
 mod request;
 mod save;
 mod script;
@@ -13,8 +12,7 @@ mod sum;
 mod tests;
 
 pub use form::Asked;
-pub use laws::{one_refusal, one_request};
-pub use program::refused;
+pub use laws::one_request;
 pub use request::asked;
 pub use save::Save;
 pub use sum::{value_of_save, value_of_sum};

@@ -2,41 +2,22 @@
 ghost use Rattle.std.specs.Prelude.{◌≡◌, List, ℕ, IfOk, MatchOption, Some, None, Option, option_map, IsTrue, ◌↔◌};
 ghost use Rattle.serde_json.specs.Find.{get};
 ghost use Rattle.serde_json.specs.View.{view};
-ghost use Rattle.cad_forms.specs.Request.{text_at, only_address, signer_of, HasCode, Request, script, save, IsFor, Asks};
+ghost use Rattle.cad_forms.specs.Request.{only_address, signer_of, HasCode, Request, script, save, IsFor, Asks};
 ghost use Rattle.cad_forms.specs.Saves as spec;
 ghost use Rattle.cad_forms.specs.Views.{products_of, save_of, request_of};
 
 use crate::form::Asked;
 use crate::save::{Save, saved};
 use crate::script::script_sum;
+use cad_request::{holds, text_at};
 use cad_syntax::Address;
 use serde_json::Value;
 use std::alloc::{AllocError, Global};
-
-/// The text that a field holds.
-pub fn text_at<'a>(request: &'a Value, field: &str) -> Option<&'a str>
-    ensures { option_map (λ text. text.now) result ≡ text_at field.now (view request.entry.now) }
-{
-    match request.get(field) {
-        Some(value) => value.as_str(),
-        None => None,
-    }
-}
 
 fn lacks(request: &Value, field: &str) -> bool
     ensures { IsTrue result ↔ (get field.now (view request.now) ≡ None) }
 {
     request.get(field).is_none()
-}
-
-/// Whether a field holds this text.
-pub fn holds(request: &Value, field: &str, text: &str) -> bool
-    ensures { IsTrue result ↔ (text_at field.now (view request.now) ≡ Some text.now) }
-{
-    match text_at(request, field) {
-        Some(found) => found == text,
-        None => false,
-    }
 }
 
 // The code of a request of this kind, where it has neither arguments nor a limit.

@@ -1,5 +1,5 @@
 // Lines and what they ask for, and values of sums.
-use crate::{Asked, Save, asked, refused, value_of_save};
+use crate::{Asked, Save, asked, value_of_save};
 use cad_num::NumError;
 use cad_syntax::{Address, Kind, Name, Num, Text};
 use std::alloc::{AllocError, Global};
@@ -110,35 +110,5 @@ fn computes_saves(rt: HostRuntime) -> Result<(), Fail> {
         value_of_save(greatest, &[2], &others),
         Err(NumError::Overflow)
     );
-    Ok(())
-}
-
-// Each line with the phase and the place where its code stops, or `none`.
-const REFUSED: &str =
-    "Lex 38 - {\"kind\":\"script\",\"code\":\"access(all) fun main(): UInt { return 340282366920938463463374607431768211456 }\"}
-Parse 0 - {\"kind\":\"script\",\"code\":\"fun\"}
-Parse 15 - {\"kind\":\"transaction\",\"code\":\"transaction {} import A from 0x1\",\"signers\":[],\"arguments\":[],\"limit\":0}
-Parse 0 - {\"kind\":\"script\",\"code\":\"fun\",\"signers\":1,\"x\":2}
-none - {\"kind\":\"transaction\",\"code\":\"fun\",\"signers\":1}
-none - {\"kind\":\"script\",\"code\":\"fun\",\"arguments\":{}}
-none - {\"kind\":\"script\",\"code\":\"fun\",\"limit\":1.0}
-none - {\"kind\":\"script\",\"code\":1}
-none - {\"kind\":\"deploy\",\"code\":\"fun\"}
-none - {\"kind\":\"script\",\"code\":\"access(all) fun main(): Bool { return true }\"}
-none - fun";
-
-#[test]
-fn tells_where_code_stops(rt: HostRuntime) -> Result<(), Fail> {
-    let alloc = rt.alloc();
-    for row in REFUSED.split('\n') {
-        let Some((want, line)) = row.split_once(" - ") else {
-            continue;
-        };
-        let told = match refused(alloc, line.as_bytes())? {
-            Some((phase, at)) => format!(in alloc; "{phase:?} {at}")?,
-            None => "none".to_string(alloc)?,
-        };
-        assert_eq!(rt; told.as_str(), want, "{row:?}");
-    }
     Ok(())
 }

@@ -8,6 +8,7 @@ pub mod Prefixes
 pub mod Saids
 pub mod Comings
 pub mod Readies
+pub mod Declining
 pub mod Tellings
 pub mod Runs
 pub mod Openings

@@ -1,13 +1,17 @@
 -- The line of an answer has one line feed, its last byte.
-use Rattle.std.proofs.Common.{◌≡◌, ◌⊎◌, inl, inr, ℕ, zero, suc, ◌+◌, ◌-◌, ◌/◌, ◌%◌, ◌^◌, ◌==◌, Bool, true, false, if◌then◌else◌, List, [], ◌∷◌, ◌++◌, length, replicate, codes, nat_lt, refl, ◌∙◌, ap, arith}
+use Rattle.std.proofs.Common.{◌≡◌, ◌⊎◌, inl, inr, ℕ, zero, suc, ◌+◌, ◌-◌, ◌/◌, ◌%◌, ◌^◌, ◌==◌, ◌||◌, Bool, true, false, if◌then◌else◌, List, [], ◌∷◌, ◌++◌, length, replicate, codes, nat_lt, refl, ◌∙◌, ap, subst, arith}
 use Rattle.std.specs.Fmt.{decimal, digits, digits_onto, digit_glyph}
 use Rattle.std.specs.Char.{digit_char}
+use Rattle.std.specs.Prelude.{None, cond}
+use Rattle.json.specs.Print.{escape_letter, escape_byte, escape, quoted}
+use Rattle.cad_declarations.specs.declared.stop.Rejected.{Rejected}
 use Rattle.std.proofs.lemmas.Bool.Decides.{eqb_tells}
 use Rattle.cad_syntax.specs.declared.num.Num.{Num}
 use Rattle.cad_syntax.specs.Addresses.{hex_digits, address_text}
 use Rattle.cad_num.specs.Numbers.{is_fixed}
 use Rattle.cad_num.specs.Decimal.{written, magnitude_text, eight_digits}
-use Rattle.cadence.specs.Answer.{Answer, result, address, done, failed, bad, rejected, rejected_tail, answer_line}
+use Rattle.cadence.specs.Answer.{Answer, result, address, done, failed, bad, rejected, answer_line}
+use Rattle.cad_rejections.specs.Texts.{phase_name, joined, rejected_text}
 use Rattle.cad_grammar.specs.declared.phase.Phase.{Phase}
 use Rattle.cad_grammar.specs.declared.phase.Phase.TheVariants.{Lex, Parse, Resolve, Types, Conformance, Moves, Purity, Initialisation}
 use Rattle.cadence.specs.Replied.{line_feeds}
@@ -77,15 +81,73 @@ wrapped head middle tail h m t =
 alone : (text : List ℕ) → line_feeds text ≡ 0 → line_feeds (text ++ 10 ∷ []) ≡ 1
 alone text h = feeds_append text (10 ∷ []) ∙ omega (arith, h)
 
-tail_none : (phase : Phase) → line_feeds (rejected_tail phase) ≡ 0
-tail_none Lex = refl
-tail_none Parse = refl
-tail_none Resolve = refl
-tail_none Types = refl
-tail_none Conformance = refl
-tail_none Moves = refl
-tail_none Purity = refl
-tail_none Initialisation = refl
+phase_none : (phase : Phase) → line_feeds (phase_name phase) ≡ 0
+phase_none Lex = refl
+phase_none Parse = refl
+phase_none Resolve = refl
+phase_none Types = refl
+phase_none Conformance = refl
+phase_none Moves = refl
+phase_none Purity = refl
+phase_none Initialisation = refl
+
+-- what JSON writes for a byte is no line feed
+plain_by : (x : ℕ) (c : Bool) → nat_lt x 32 ≡ c
+    → line_feeds (cond c (92 ∷ 117 ∷ 48 ∷ 48 ∷ digit_char (x / 16) ∷ digit_char (x % 16) ∷ []) (x ∷ [])) ≡ 0
+plain_by x true small = ap (λ c. more c (more (digit_char (x % 16) == 10) 0)) (hex_char (x / 16)) ∙ ap (λ c. more c 0) (hex_char (x % 16))
+plain_by x false large = ap (λ c. more c 0) (apart x 10 (λ e. let wrong : nat_lt 10 32 ≡ false = subst (λ (n : ℕ). nat_lt n 32 ≡ false) e large in cc wrong))
+
+letter_by : (a b c d e f : Bool) (x : ℕ) → (a ≡ true → (x == 10) ≡ false)
+    → (cond a x (cond b 98 (cond c 102 (cond d 110 (cond e 114 (cond f 116 0))))) == 10) ≡ false
+letter_by true b c d e f x h = h refl
+letter_by false true c d e f x h = refl
+letter_by false false true d e f x h = refl
+letter_by false false false true e f x h = refl
+letter_by false false false false true f x h = refl
+letter_by false false false false false true x h = refl
+letter_by false false false false false false x h = refl
+
+-- neither is the letter of an escape
+letter_none : (x : ℕ) → (escape_letter x == 10) ≡ false
+letter_none x =
+    letter_by ((x == 34) || (x == 92)) (x == 8) (x == 12) (x == 10) (x == 13) (x == 9) x
+    (λ t. apart x 10 (λ e. let wrong : ((10 == 34) || (10 == 92)) ≡ true = subst (λ (n : ℕ). ((n == 34) || (n == 92)) ≡ true) e t in cc wrong))
+
+first_by : (c : Bool) (letter : ℕ) (other : List ℕ) → (letter == 10) ≡ false → line_feeds other ≡ 0 → line_feeds (cond c (92 ∷ letter ∷ []) other) ≡ 0
+first_by true letter other h k = ap (λ c. more c 0) h
+first_by false letter other h k = k
+
+byte_none : (x : ℕ) → line_feeds (escape_byte x) ≡ 0
+unfolding escape_byte
+byte_none x =
+    first_by (nat_lt 0 (escape_letter x)) (escape_letter x) (cond (nat_lt x 32) (92 ∷ 117 ∷ 48 ∷ 48 ∷ digit_char (x / 16) ∷ digit_char (x % 16) ∷ []) (x ∷ []))
+    (letter_none x) (plain_by x (nat_lt x 32) refl)
+
+escape_none : (bytes : List ℕ) → line_feeds (escape bytes) ≡ 0
+escape_none [] = refl
+escape_none (x ∷ bytes) = both_none (escape_byte x) (escape bytes) (byte_none x) (escape_none bytes)
+
+quoted_none : (bytes : List ℕ) → line_feeds (quoted bytes) ≡ 0
+quoted_none bytes = both_none (escape bytes) (34 ∷ []) (escape_none bytes) refl
+
+-- texts in a row
+row_none : (a b c d e f g h i : List ℕ) → line_feeds a ≡ 0 → line_feeds b ≡ 0 → line_feeds c ≡ 0 → line_feeds d ≡ 0 → line_feeds e ≡ 0
+    → line_feeds f ≡ 0 → line_feeds g ≡ 0 → line_feeds h ≡ 0 → line_feeds i ≡ 0 → line_feeds (a ++ b ++ c ++ d ++ e ++ f ++ g ++ h ++ i) ≡ 0
+row_none a b c d e f g h i na nb nc nd ne nf ng nh ni =
+    both_none (a ++ b ++ c ++ d ++ e ++ f ++ g ++ h) i
+    (both_none (a ++ b ++ c ++ d ++ e ++ f ++ g) h
+    (both_none (a ++ b ++ c ++ d ++ e ++ f) g
+    (both_none (a ++ b ++ c ++ d ++ e) f
+    (both_none (a ++ b ++ c ++ d) e
+    (both_none (a ++ b ++ c) d
+    (both_none (a ++ b) c
+    (both_none a b na nb) nc) nd) ne) nf) ng) nh) ni
+
+rejected_none : (r : Rejected) → line_feeds (rejected_text None r) ≡ 0
+rejected_none r =
+    row_none (codes "{\"at\":\"") (decimal r.at) (codes "\"") [] (codes ",\"in\":") (quoted (joined r.inside)) (codes ",\"phase\":\"")
+    (phase_name r.phase) (codes "\",\"reply\":\"rejected\"}")
+    refl (decimal_none r.at) refl refl refl (quoted_none (joined r.inside)) refl (phase_none r.phase) refl
 
 pub one_feed : (a : Answer) → line_feeds (answer_line a) ≡ 1
 one_feed (result n) = wrapped (codes "{\"reply\":\"ok\",\"result\":{\"type\":\"Int\",\"value\":\"") (written n) (codes "\"}}") refl (written_none n) refl
@@ -93,4 +155,4 @@ one_feed (address n) = wrapped (codes "{\"address\":\"") (address_text n) (codes
 one_feed done = alone (codes "{\"destroyed\":[],\"events\":[],\"made\":[],\"reply\":\"ok\"}") refl
 one_feed (failed n) = wrapped (codes "{\"error\":\"") (decimal n) (codes "\",\"reply\":\"failed\"}") refl (decimal_none n) refl
 one_feed (bad n) = wrapped (codes "{\"error\":\"") (decimal n) (codes "\",\"reply\":\"bad\"}") refl (decimal_none n) refl
-one_feed (rejected phase n) = wrapped (codes "{\"at\":\"") (decimal n) (rejected_tail phase) refl (decimal_none n) (tail_none phase)
+one_feed (rejected r) = alone (rejected_text None r) (rejected_none r)

@@ -79,10 +79,10 @@ pub held_line : (line : Line) (pending : List ℕ) → line.long ≡ false → H
 held_line line pending short h = h.held ∙ take_all longest pending (short_line line pending short h)
 
 pub no_request : (w : Accounts) (line : Line) (pending : List ℕ) (a : Answer) → line.long ≡ false → ((request : Request) → Asks line.held.items request → ⊥)
-    → Declines line.held.items a → Holds line pending → Answers w pending a w
+    → Declines w line.held.items a → Holds line pending → Answers w pending a w
 no_request w line pending a short lacks declines h =
     declined (short_line line pending short h) (subst (λ l. (request : Request) → Asks l request → ⊥) (held_line line pending short h) lacks)
-    (subst (λ l. Declines l a) (held_line line pending short h) declines)
+    (subst (λ l. Declines w l a) (held_line line pending short h) declines)
 
 pub with_request : (w : Accounts) (line : Line) (request : Request) (a : Answer) (v : Accounts) → line.long ≡ false → Asks line.held.items request → (o : answer.Outcome) × Does w request o × Commits w o a v
     → (pending : List ℕ) → Holds line pending → Answers w pending a v

@@ -1,5 +1,5 @@
 -- A command has one answer at most, and leads to one state of the accounts.
-use Rattle.std.proofs.Common.{◌≡◌, ℕ, zero, suc, ◌≤◌, ◌<◌, Bool, true, false, ℤ, List, Option, Some, None, Result, Ok, Err, refl, sym, ◌∙◌, ap, subst, arith}
+use Rattle.std.proofs.Common.{◌≡◌, ℕ, zero, suc, ◌≤◌, ◌<◌, Bool, true, false, ℤ, List, [], Option, Some, None, Result, Ok, Err, refl, sym, ◌∙◌, ap, subst, arith}
 use Rattle.cad_syntax.specs.declared.kind.Kind.{Kind}
 use Rattle.cad_syntax.specs.declared.kind.Kind.TheVariants.{Int}
 use Rattle.cad_syntax.specs.declared.num.Num.{Num}
@@ -13,9 +13,11 @@ use Rattle.cad_accounts.specs.Accounts.{Accounts, HasSize, stored_at, stored_as,
 use Rattle.cad_forms.specs.Sums.{sum_value}
 use Rattle.cad_forms.specs.Saves.{Save, saved_value}
 use Rattle.cad_forms.specs.Request.{Request, Asks}
-use Rattle.cadence.specs.Answer.{Answer, result, failed, error_number, answer_line, Runs, gives, fails, Loads, none, loaded, Outcome, stays, leads, Saves, nothing_there, out_of_range, occupied, saved, Does, runs, spent, made, no_account, saves, Commits, unchanged, fits, full, rejected, Declines, no_program, no_form, Answers, too_long, declined, asks}
-use Rattle.cad_forms.specs.Programs.{IsRefused}
-use Rattle.cad_grammar.specs.declared.phase.Phase.{Phase}
+use Rattle.cadence.specs.Answer.{Answer, result, failed, error_number, answer_line, Runs, gives, fails, Loads, none, loaded, Outcome, stays, leads, Saves, nothing_there, out_of_range, occupied, saved, Does, runs, spent, made, no_account, saves, Commits, unchanged, fits, full, rejected, Declines, no_account_there, refused, accepted, no_code, IsThere, place_of, Answers, too_long, declined, asks}
+use Rattle.cad_acceptance.specs.Stops.{FirstStop}
+use Rattle.cad_check.specs.Laws.{OneFirstStop}
+use Rattle.cad_declarations.specs.declared.stop.Rejected.{Rejected}
+use Rattle.cad_request.specs.Submissions.{Submits}
 
 -- ---- numbers
 
@@ -150,20 +152,46 @@ module _ (one_size : (w : Accounts) (m n : ℕ) → HasSize w m → HasSize w n 
   same_commits w o p a b v u same (full h large) (full k larger) = (refl, refl)
 
   module _ (one_request : (line : List ℕ) (r s : Request) → Asks line r → Asks line s → r ≡ s)
-      (one_refusal : (line : List ℕ) (phase other : Phase) (m n : ℕ) → IsRefused line phase m → IsRefused line other n → (phase ≡ other) × (m ≡ n)) where
-    same_refusal : (line : List ℕ) (a b : Answer) → Declines line a → Declines line b → answer_line a ≡ answer_line b
-    same_refusal line a b (no_program {phase = phase} {n = m} f) (no_program {phase = other} {n = n} g) =
-        let same = one_refusal line phase other m n f g in ap (λ x. answer_line (rejected x m)) same.0 ∙ ap (λ x. answer_line (rejected other x)) same.1
-    same_refusal line a b (no_program {phase = phase} {n = m} f) (no_form g) = absurd (g phase m f)
-    same_refusal line a b (no_form f) (no_program {phase = other} {n = n} g) = absurd (f other n g)
-    same_refusal line a b (no_form f) (no_form g) = refl
+      (one_submission : (line : List ℕ) (p q : Option ℕ) (a b : List ℕ) → Submits line p a → Submits line q b → (p ≡ q) × (a ≡ b))
+      (one_stop : OneFirstStop) where
+    -- the same account is there or isn't
+    not_there : (w : Accounts) (p q : Option ℕ) → p ≡ q → IsThere w p → ¬ IsThere w q → ⊥
+    not_there w p q same there lacks = lacks (subst (IsThere w) same there)
+
+    stop_there : (p q : Option ℕ) (a b : List ℕ) (r : Rejected) → (p ≡ q) × (a ≡ b) → FirstStop [] (place_of p) a r → FirstStop [] (place_of q) b r
+    stop_there p q a b r same h = subst (λ (c : List ℕ). FirstStop [] (place_of q) c r) same.1 (subst (λ (x : Option ℕ). FirstStop [] (place_of x) a r) same.0 h)
+
+    same_refusal : (w : Accounts) (line : List ℕ) (a b : Answer) → Declines w line a → Declines w line b → answer_line a ≡ answer_line b
+    same_refusal w line a b (no_account_there f g) (no_account_there h k) = refl
+    same_refusal w line a b (no_account_there {place = p} {code = c} f g) (refused {place = q} {code = d} h k l) =
+        absurd (not_there w q p (one_submission line q p d c h f).0 k g)
+    same_refusal w line a b (no_account_there {place = p} {code = c} f g) (accepted {place = q} {code = d} h k l) =
+        absurd (not_there w q p (one_submission line q p d c h f).0 k g)
+    same_refusal w line a b (no_account_there {place = p} {code = c} f g) (no_code h) = absurd (h p c f)
+    same_refusal w line a b (refused {place = p} {code = c} f g s) (no_account_there {place = q} {code = d} h k) =
+        absurd (not_there w p q (one_submission line p q c d f h).0 g k)
+    same_refusal w line a b (refused {place = p} {code = c} {r = x} f g s) (refused {place = q} {code = d} {r = y} h k t) =
+        ap (λ r. answer_line (rejected r)) (one_stop [] (place_of q) d x y (stop_there p q c d x (one_submission line p q c d f h) s) t)
+    same_refusal w line a b (refused {place = p} {code = c} {r = x} f g s) (accepted {place = q} {code = d} h k t) =
+        absurd (t x (stop_there p q c d x (one_submission line p q c d f h) s))
+    same_refusal w line a b (refused {place = p} {code = c} f g s) (no_code h) = absurd (h p c f)
+    same_refusal w line a b (accepted {place = p} {code = c} f g s) (no_account_there {place = q} {code = d} h k) =
+        absurd (not_there w p q (one_submission line p q c d f h).0 g k)
+    same_refusal w line a b (accepted {place = p} {code = c} f g s) (refused {place = q} {code = d} {r = y} h k t) =
+        absurd (s y (stop_there q p d c y (one_submission line q p d c h f) t))
+    same_refusal w line a b (accepted f g s) (accepted h k t) = refl
+    same_refusal w line a b (accepted f g s) (no_code h) = refl
+    same_refusal w line a b (no_code f) (no_account_there {place = p} {code = c} h k) = absurd (f p c h)
+    same_refusal w line a b (no_code f) (refused {place = p} {code = c} h k t) = absurd (f p c h)
+    same_refusal w line a b (no_code f) (accepted h k t) = refl
+    same_refusal w line a b (no_code f) (no_code h) = refl
 
     pub same_answer : (w : Accounts) (line : List ℕ) (a b : Answer) (u v : Accounts) → Answers w line a u → Answers w line b v → (answer_line a ≡ answer_line b) × (u ≡ v)
     same_answer w line a b u v (too_long h) (too_long k) = (refl, refl)
     same_answer w line a b u v (too_long h) (declined k f d) = absurd (apart _ _ k h)
     same_answer w line a b u v (too_long h) (asks k f d c) = absurd (apart _ _ k h)
     same_answer w line a b u v (declined h f d) (too_long k) = absurd (apart _ _ h k)
-    same_answer w line a b u v (declined h f d) (declined k g e) = (same_refusal line a b d e, refl)
+    same_answer w line a b u v (declined h f d) (declined k g e) = (same_refusal w line a b d e, refl)
     same_answer w line a b u v (declined h f x) (asks {request = s} k g d c) = absurd (f s g)
     same_answer w line a b u v (asks h f d c) (too_long k) = absurd (apart _ _ h k)
     same_answer w line a b u v (asks {request = r} h f d c) (declined k g x) = absurd (g r f)

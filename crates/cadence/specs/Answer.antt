@@ -1,5 +1,5 @@
 -- What is answered to a command, the accounts that it leaves, and the line of the answer.
-use Rattle.std.specs.Prelude.{◌≡◌, ◌≢◌, ℕ, ◌+◌, ◌≤◌, ◌<◌, ◌^◌, List, [], ◌∷◌, ◌++◌, length, codes, ℤ, pos, Option, Some, None, Result, Ok, Err}
+use Rattle.std.specs.Prelude.{◌≡◌, ◌≢◌, ℕ, ◌+◌, ◌≤◌, ◌<◌, ◌^◌, List, [], ◌∷◌, ◌++◌, length, codes, ℤ, pos, Option, Some, None, option_map, Result, Ok, Err}
 use Rattle.std.specs.Fmt.{decimal}
 use Rattle.cad_num.specs.declared.error.NumError.{NumError}
 use Rattle.cad_num.specs.declared.error.NumError.TheVariants.{Overflow, Underflow, DivisionByZero}
@@ -13,9 +13,11 @@ use Rattle.cad_accounts.specs.Accounts.{Accounts, Has, HasSize, created, stored_
 use Rattle.cad_forms.specs.Sums.{sum_value}
 use Rattle.cad_forms.specs.Saves.{Save, saved_value}
 use Rattle.cad_forms.specs.Request.{Request, script, account, save, Asks}
-use Rattle.cad_forms.specs.Programs.{IsRefused}
-use Rattle.cad_grammar.specs.declared.phase.Phase.{Phase}
-use Rattle.cad_grammar.specs.declared.phase.Phase.TheVariants.{Lex, Parse, Resolve, Types, Conformance, Moves, Purity, Initialisation}
+use Rattle.cad_acceptance.specs.Stops.{FirstStop}
+use Rattle.cad_declarations.specs.declared.stop.Rejected.{Rejected}
+use Rattle.cad_rejections.specs.Texts.{rejected_text}
+use Rattle.cad_request.specs.Submissions.{Submits}
+use Rattle.cad_syntax.specs.declared.address.Address.{Address}
 use Rattle.cadence.specs.Held.{longest}
 
 pub data Answer : Type 0 where
@@ -27,10 +29,10 @@ pub data Answer : Type 0 where
   done : Answer
   -- a run failed, by the number of its error
   failed : ℕ → Answer
-  -- the request is none, by the number of its fault
+  -- the line asks for nothing that can run, by the number of its fault
   bad : ℕ → Answer
-  -- the code is no program: this phase stops at this byte
-  rejected : Phase → ℕ → Answer
+  -- the code is refused: by this phase, there
+  rejected : Rejected → Answer
 
 -- the number of an error
 abbrev pub error_number : NumError → ℕ
@@ -81,28 +83,30 @@ pub data Commits (w : Accounts) : Outcome → Answer → Accounts → Type 0 whe
   fits : {a : Answer} {v : Accounts} {size : ℕ} → HasSize v size → size ≤ most_bytes → Commits w (leads a v) a v
   full : {a : Answer} {v : Accounts} {size : ℕ} → HasSize v size → most_bytes < size → Commits w (leads a v) (failed 130) w
 
--- what is answered to a line that asks for nothing that runs
-pub data Declines (line : List ℕ) : Answer → Type 0 where
-  no_program : {phase : Phase} {n : ℕ} → IsRefused line phase n → Declines line (rejected phase n)
-  no_form : ((phase : Phase) (n : ℕ) → IsRefused line phase n → ⊥) → Declines line (bad 29)
+-- an account, or nowhere
+abbrev pub place_of : Option ℕ → Option Address
+place_of place = option_map (λ n. record { 0 = n }) place
+
+-- the account in which a code is to stand is there
+abbrev pub IsThere : Accounts → Option ℕ → Type 0
+IsThere w None = Unit {0}
+IsThere w (Some n) = Has w n
+
+-- What is answered to a line that asks for nothing that runs. Code is checked beside no contracts.
+pub data Declines (w : Accounts) (line : List ℕ) : Answer → Type 0 where
+  no_account_there : {place : Option ℕ} {code : List ℕ} → Submits line place code → ¬ IsThere w place → Declines w line (bad 26)
+  refused : {place : Option ℕ} {code : List ℕ} {r : Rejected} → Submits line place code → IsThere w place → FirstStop [] (place_of place) code r
+      → Declines w line (rejected r)
+  accepted : {place : Option ℕ} {code : List ℕ} → Submits line place code → IsThere w place → ((r : Rejected) → FirstStop [] (place_of place) code r → ⊥)
+      → Declines w line (bad 29)
+  no_code : ((place : Option ℕ) (code : List ℕ) → Submits line place code → ⊥) → Declines w line (bad 29)
 
 -- what is answered to a command, and the accounts then
 pub data Answers (w : Accounts) (line : List ℕ) : Answer → Accounts → Type 0 where
   too_long : longest < length line → Answers w line (bad 27) w
-  declined : {a : Answer} → length line ≤ longest → ((request : Request) → Asks line request → ⊥) → Declines line a → Answers w line a w
+  declined : {a : Answer} → length line ≤ longest → ((request : Request) → Asks line request → ⊥) → Declines w line a → Answers w line a w
   asks : {request : Request} {outcome : Outcome} {a : Answer} {v : Accounts} → length line ≤ longest → Asks line request
       → Does w request outcome → Commits w outcome a v → Answers w line a v
-
--- the end of the line of a rejection
-abbrev pub rejected_tail : Phase → List ℕ
-rejected_tail Lex = codes "\",\"in\":\"\",\"phase\":\"lex\",\"reply\":\"rejected\"}"
-rejected_tail Parse = codes "\",\"in\":\"\",\"phase\":\"parse\",\"reply\":\"rejected\"}"
-rejected_tail Resolve = codes "\",\"in\":\"\",\"phase\":\"resolve\",\"reply\":\"rejected\"}"
-rejected_tail Types = codes "\",\"in\":\"\",\"phase\":\"types\",\"reply\":\"rejected\"}"
-rejected_tail Conformance = codes "\",\"in\":\"\",\"phase\":\"conformance\",\"reply\":\"rejected\"}"
-rejected_tail Moves = codes "\",\"in\":\"\",\"phase\":\"moves\",\"reply\":\"rejected\"}"
-rejected_tail Purity = codes "\",\"in\":\"\",\"phase\":\"purity\",\"reply\":\"rejected\"}"
-rejected_tail Initialisation = codes "\",\"in\":\"\",\"phase\":\"initialisation\",\"reply\":\"rejected\"}"
 
 -- the answer's line
 abbrev pub answer_line : Answer → List ℕ
@@ -111,4 +115,4 @@ answer_line (address n) = codes "{\"address\":\"" ++ address_text n ++ codes "\"
 answer_line done = codes "{\"destroyed\":[],\"events\":[],\"made\":[],\"reply\":\"ok\"}" ++ 10 ∷ []
 answer_line (failed n) = codes "{\"error\":\"" ++ decimal n ++ codes "\",\"reply\":\"failed\"}" ++ 10 ∷ []
 answer_line (bad n) = codes "{\"error\":\"" ++ decimal n ++ codes "\",\"reply\":\"bad\"}" ++ 10 ∷ []
-answer_line (rejected phase n) = codes "{\"at\":\"" ++ decimal n ++ rejected_tail phase ++ 10 ∷ []
+answer_line (rejected r) = rejected_text None r ++ 10 ∷ []

@@ -65,8 +65,8 @@ fn account_outcome(alloc: Global, store: &Store) -> Result<Outcome, AllocError>
     }
 }
 
-// Whether an account is there.
-fn has_account(world: &World<'_, Store>, address: Address) -> Result<bool, AllocError>
+/// Whether an account is there.
+pub(crate) fn has_account(world: &World<'_, Store>, address: Address) -> Result<bool, AllocError>
     requires { AreSound (current world.now) }
     ensures { IfOk result (λ b. (w : Accounts) → StandsFor (current world.now) w → IsTrue b ↔ Has w address.0) }
 {

@@ -1,5 +1,7 @@
 // What is ready to be put or written in answer to a line.
-ghost use Rattle.std.specs.Prelude.{◌≡◌, List, ℕ, IfOk};
+ghost use Rattle.std.specs.Prelude.{◌≡◌, ◌↔◌, [], List, ℕ, IfOk, IsTrue, option_map};
+ghost use Rattle.cad_acceptance.specs.Stops.{FirstStop};
+ghost use Rattle.cad_check.specs.Answers.{Tells};
 ghost use Rattle.cad_host.specs.Disk.{Event};
 ghost use Rattle.cad_accounts.specs.Registers.{Map, Leads};
 ghost use Rattle.cad_accounts.specs.Accounts.{Accounts, StandsFor};
@@ -7,18 +9,24 @@ ghost use Rattle.cad_accounts.specs.Worlds.{AreSound};
 ghost use Rattle.cad_store.specs.Stores.{held, room_of, IsOn};
 ghost use Rattle.cadence.specs.Code.Held.{Holds};
 ghost use Rattle.cad_forms.specs.Request.{Request};
-ghost use Rattle.cadence.specs.Answer.{Answers, Declines, Does, Commits, most_bytes};
+ghost use Rattle.cad_request.specs.Submissions.{Submits};
+ghost use Rattle.cadence.specs.Answer.{Answers, Declines, Does, Commits, IsThere, most_bytes};
 ghost use Rattle.cadence.specs.Answer as answer;
 ghost use Rattle.cadence.specs.Code.Views.{answer_of, HasInt};
 ghost use Rattle.cadence.specs.Code.Outcomes.{IsReady, Comes, ComesInt};
 
 use crate::line::Line;
-use crate::outcome::{Outcome, outcome_of};
+use crate::outcome::{Outcome, has_account, outcome_of};
 use crate::reply::{Reply, reply_line};
-use cad_accounts::Changes;
-use cad_forms::{asked, refused};
+use cad_accounts::{Changes, World};
+use cad_check::first_stop;
+use cad_declarations::Rejected;
+use cad_discards::discard_deployed;
+use cad_forms::asked;
+use cad_request::{Submission, submitted};
 use cad_store::{Commit, ReadyStop, Store};
-use cad_syntax::Text;
+use cad_syntax::{Address, Text};
+use cad_tables::no_contracts;
 use std::alloc::{AllocError, Global};
 
 /// A reply line, and a commit where it has to be written before the line is put.
@@ -81,14 +89,57 @@ fn ready_for(alloc: Global, store: &mut Store, outcome: Outcome) -> Result<Prepa
     }
 }
 
-// The reply to a line that asks for nothing that runs.
-fn refusal(alloc: Global, line: &[u8]) -> Result<Reply, AllocError>
-    ensures answers { IfOk result (λ reply. Declines line.now (answer_of reply)) }
+// Whether the account is there in which a code is to stand.
+fn is_there(alloc: Global, store: &Store, place: Option<Address>) -> Result<bool, AllocError>
+    requires { AreSound (held store.now) }
+    ensures { IfOk result (λ b. (w : Accounts) → StandsFor (held store.now) w → IsTrue b ↔ IsThere w (option_map (λ a. a.0) place)) }
+{
+    match place {
+        Some(address) => {
+            let world = World::over(alloc, store);
+            has_account(&world, address)
+        }
+        None => Ok(true),
+    }
+}
+
+// Where a code is refused first, beside no contracts.
+fn stop_of(alloc: Global, submission: &Submission) -> Result<Option<Rejected>, AllocError>
+    ensures { IfOk result (λ stop. Tells (FirstStop [] submission.now.place submission.now.code) stop) }
+{
+    let deployed = no_contracts(alloc);
+    let place = submission.place;
+    let stop = first_stop(alloc, submission.code.as_bytes(), place, &deployed);
+    discard_deployed(deployed);
+    stop
+}
+
+// The reply to code that isn't run.
+fn judged(alloc: Global, submission: &Submission) -> Result<Reply, AllocError>
+    ensures answers { IfOk result (λ reply. (w : Accounts) (line : List ℕ) → Submits line (option_map (λ a. a.0) submission.now.place) submission.now.code
+        → IsThere w (option_map (λ a. a.0) submission.now.place) → Declines w line (answer_of reply)) }
     ensures int { IfOk result HasInt }
 {
-    match refused(alloc, line)? {
-        Some((phase, at)) => Ok(Reply::Rejected(phase, at)),
+    match stop_of(alloc, submission)? {
+        Some(rejected) => Ok(Reply::Rejected(rejected)),
         None => Ok(Reply::Bad(29)),
+    }
+}
+
+// The reply to a line that asks for nothing that runs.
+fn refusal(alloc: Global, store: &Store, line: &[u8]) -> Result<Reply, AllocError>
+    requires { AreSound (held store.now) }
+    ensures answers { IfOk result (λ reply. (w : Accounts) → StandsFor (held store.now) w → Declines w line.now (answer_of reply)) }
+    ensures int { IfOk result HasInt }
+{
+    let Some(submission) = submitted(alloc, line)? else {
+        return Ok(Reply::Bad(29));
+    };
+    let there = is_there(alloc, store, submission.place)?;
+    if there {
+        judged(alloc, &submission)
+    } else {
+        Ok(Reply::Bad(26))
     }
 }
 
@@ -106,7 +157,7 @@ pub fn prepare(alloc: Global, store: &mut Store, line: &Line) -> Result<Prepared
         return Ok(Prepared::Reply(text));
     }
     let Some(request) = asked(alloc, &line.held)? else {
-        let reply = refusal(alloc, &line.held)?;
+        let reply = refusal(alloc, store, &line.held)?;
         let text = reply_line(alloc, reply)?;
         return Ok(Prepared::Reply(text));
     };

@@ -1,15 +1,17 @@
 // Replies to commands.
 ghost use Rattle.std.specs.Prelude.{◌≡◌, ◌++◌, ◌∷◌, [], List, ℕ, IfOk, codes, decimal};
-ghost use Rattle.cadence.specs.Answer.{answer_line, rejected_tail};
+ghost use Rattle.cadence.specs.Answer as answer;
+ghost use Rattle.cadence.specs.Answer.{answer_line};
 ghost use Rattle.cadence.specs.Code.Views.{answer_of, HasInt};
 
-use cad_grammar::Phase;
+use cad_declarations::Rejected;
 use cad_num::write_decimal;
+use cad_rejections::rejected_text;
 use cad_syntax::{Address, Num, Text};
 use std::alloc::{AllocError, Global};
 
 /// What is answered to a command.
-#[derive(Clone, Copy, Debug)]
+#[derive(Debug, Drop)]
 pub enum Reply {
     /// A script's result, an Int.
     Result(Num),
@@ -19,10 +21,10 @@ pub enum Reply {
     Done,
     /// A run failed, by the number of its error.
     Failed(u16),
-    /// The request is none, by the number of its fault.
+    /// The line asks for nothing that can run, by the number of its fault.
     Bad(u16),
-    /// The code is no program: this phase stops at this byte.
-    Rejected(Phase, usize),
+    /// The code is refused: by a phase, and where.
+    Rejected(Rejected),
 }
 
 // A text in three parts, and a line feed.
@@ -43,20 +45,13 @@ fn number_line(alloc: Global, number: u16, tail: &str) -> Result<Text, AllocErro
     line_of(alloc, "{\"error\":\"", number.as_str(), tail)
 }
 
-fn rejected_tail(phase: Phase) -> &'static str
-    ensures { result.now ≡ rejected_tail phase }
+// The line of a rejection.
+fn rejected_line(alloc: Global, rejected: &Rejected) -> Result<Text, AllocError>
+    ensures { IfOk result (λ text. text ≡ answer_line (answer.rejected rejected.now)) }
 {
-    match phase {
-        Phase::Lex => "\",\"in\":\"\",\"phase\":\"lex\",\"reply\":\"rejected\"}",
-        Phase::Parse => "\",\"in\":\"\",\"phase\":\"parse\",\"reply\":\"rejected\"}",
-        Phase::Resolve => "\",\"in\":\"\",\"phase\":\"resolve\",\"reply\":\"rejected\"}",
-        Phase::Types => "\",\"in\":\"\",\"phase\":\"types\",\"reply\":\"rejected\"}",
-        Phase::Conformance => "\",\"in\":\"\",\"phase\":\"conformance\",\"reply\":\"rejected\"}",
-        Phase::Moves => "\",\"in\":\"\",\"phase\":\"moves\",\"reply\":\"rejected\"}",
-        Phase::Purity => "\",\"in\":\"\",\"phase\":\"purity\",\"reply\":\"rejected\"}",
-        Phase::Initialisation =>
-            "\",\"in\":\"\",\"phase\":\"initialisation\",\"reply\":\"rejected\"}",
-    }
+    let mut text = rejected_text(alloc, None, rejected)?;
+    text.push_str("\n")?;
+    Ok(text)
 }
 
 /// The line of a reply, with a line feed at its end.
@@ -89,9 +84,6 @@ pub fn reply_line(alloc: Global, reply: Reply) -> Result<Text, AllocError>
         }
         Reply::Failed(number) => number_line(alloc, number, "\",\"reply\":\"failed\"}"),
         Reply::Bad(number) => number_line(alloc, number, "\",\"reply\":\"bad\"}"),
-        Reply::Rejected(phase, at) => {
-            let at = at.to_string(alloc)?;
-            line_of(alloc, "{\"at\":\"", at.as_str(), rejected_tail(phase))
-        }
+        Reply::Rejected(rejected) => rejected_line(alloc, &rejected),
     }
 }

@@ -23,6 +23,15 @@ const REJECTED: &str = "{\"at\":\"0\",\"in\":\"\",\"phase\":\"parse\",\"reply\":
 {\"at\":\"14\",\"in\":\"\",\"phase\":\"lex\",\"reply\":\"rejected\"}
 ";
 
+const ILL_TYPED: &str =
+    "{\"kind\":\"script\",\"code\":\"access(all) fun main() { let n: Int = true }\"}";
+
+const LOST: &str = "{\"kind\":\"deploy\",\"address\":\"0x9\",\"name\":\"C\",\"code\":\"fun\"}";
+
+const UNCHECKED: &str = "{\"at\":\"0\",\"in\":\"main\",\"phase\":\"types\",\"reply\":\"rejected\"}
+{\"error\":\"26\",\"reply\":\"bad\"}
+";
+
 const OVERFLOW: &str = "{\"error\":\"101\",\"reply\":\"failed\"}\n";
 
 fn words_of(alloc: Global, list: &[&str]) -> Result<Items<Text>, AllocError> {
@@ -63,6 +72,10 @@ fn replies_to_lines(rt: HostRuntime) -> Result<(), Fail> {
         (
             format!(in alloc; "{UNPARSED}\n{UNLEXED}\n{SUM}")?,
             format!(in alloc; "{REJECTED}{SEVEN}")?,
+        ),
+        (
+            format!(in alloc; "{ILL_TYPED}\n{LOST}\n{SUM}")?,
+            format!(in alloc; "{UNCHECKED}{SEVEN}")?,
         ),
     ];
     for (input, want) in table.iter() {

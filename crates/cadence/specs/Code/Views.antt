@@ -11,7 +11,7 @@ answer_of (reply.Account a) = address a.0
 answer_of reply.Done = done
 answer_of (reply.Failed n) = failed n
 answer_of (reply.Bad n) = bad n
-answer_of (reply.Rejected phase n) = rejected phase n
+answer_of (reply.Rejected r) = rejected r
 
 -- a result is an Int
 abbrev pub HasInt : Reply → Type 0
@@ -20,4 +20,4 @@ HasInt (reply.Account a) = Unit {0}
 HasInt reply.Done = Unit {0}
 HasInt (reply.Failed n) = Unit {0}
 HasInt (reply.Bad n) = Unit {0}
-HasInt (reply.Rejected phase n) = Unit {0}
+HasInt (reply.Rejected r) = Unit {0}

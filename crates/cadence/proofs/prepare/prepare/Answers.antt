@@ -17,7 +17,7 @@ returns-in_default-clause-ready c = λ w is_w. (
   λ pending h.
       no_request w c.args.line.now pending (answer_of c.in_ok-reply.reply) c.if-line.false
       (subst (λ l. (request : Request) → Asks l request → ⊥) c.deref.ensures.value (rw c.in_default.is at c.in_ok-request.ensures))
-      (subst (λ l. Declines l (answer_of c.in_ok-reply.reply)) c.deref-in_default.ensures.value c.in_ok-reply.ensures.answers) h,
+      (subst (λ l. Declines w l (answer_of c.in_ok-reply.reply)) c.deref-in_default.ensures.value (c.in_ok-reply.ensures.answers w is_w)) h,
   c.in_ok-text-2.ensures,
   is_w,
 )
