@@ -15,7 +15,7 @@ use Rattle.cad_tables.specs.Views.{with_entry}
 use Rattle.cad_rejections.specs.Texts.{rejected_text}
 use Rattle.cadence_check.specs.Requests.{Contract, Subject, program, contract, Asked, asked}
 
--- a phase refuses the code, or the request is none, by the number of its fault
+-- a phase refuses the code, or else a number tells that it isn't one contract of its name
 pub data Refusal : Type 0 where
   stopped : Rejected → Refusal
   bad : ℕ → Refusal

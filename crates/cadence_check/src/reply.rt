@@ -16,7 +16,7 @@ use cad_syntax::Text;
 use serde_json::Value;
 use std::alloc::{AllocError, Global};
 
-/// The reply to what is no request, by the number of its fault.
+/// The reply `bad`, by the number of its cause.
 fn bad_text(alloc: Global, number: u16) -> Result<Text, AllocError>
     ensures { IfOk result (λ text. text ≡ spec.bad_text number) }
 {

@@ -6,7 +6,7 @@ use cad_declarations::Rejected;
 pub enum Refusal {
     /// A phase refuses it.
     Stopped(Rejected),
-    /// The request is none, by the number of its fault.
+    /// No phase refuses it, but it isn't one contract of its name: the number that tells so.
     Bad(u16),
 }
 
