@@ -1,5 +1,5 @@
 -- Types that are of a class or not whatever is declared.
-use Rattle.std.proofs.Common.{◌≡◌, ◌×◌, ◌&&◌, Bool, true, false, List, refl}
+use Rattle.std.proofs.Common.{◌≡◌, ◌&&◌, Bool, true, false, List, refl}
 use Rattle.cad_syntax.specs.Types.{PureType, basic, optional, array, dictionary, intersection, declared, reference, capability, capability_of}
 use Rattle.cad_syntax.specs.declared.type_id.TypeId.{TypeId}
 use Rattle.cad_types.specs.Declarations.{Declaration}
@@ -7,7 +7,7 @@ use Rattle.cad_typing.specs.Types.{failing, has_importable_fields, has_exportabl
 use Rattle.cad_type_classes.specs.Classes.{has_no_declared_part, is_exportable_beside}
 
 both : (a b : Bool) → (a && b) ≡ true → (a ≡ true) × (b ≡ true)
-both true true e = refl, refl
+both true true e = (refl, refl)
 both true false e = cc
 both false b e = cc
 
