@@ -11,9 +11,9 @@ returns c =
     let d = declarations c.args.types.now in
     let t = pure_type c.args.t.now in
     let nots = c.as_slice.result.now in
-    exportable_is d t c.is_exportable_but.result nots c.as_slice-2.result.now c.in_ok-ids.ids
+    exportable_is d t c.is_exportable_but-2.result nots c.as_slice-2.result.now c.in_ok-ids.ids
     (c.as_slice.ensures ∙ c.in_ok-unimportable.ensures) (c.as_slice-2.ensures ∙ sym c.as_slice.ensures) c.in_ok-ids.ensures
-    (c.is_exportable_but.ensures ∙ ap (λ ids. is_exportable_beside d c.as_slice-2.result.now ids t) c.as_slice-3.ensures)
+    (c.is_exportable_but-2.ensures ∙ ap (λ ids. is_exportable_beside d c.as_slice-2.result.now ids t) c.as_slice-3.ensures)
 
 pub returns-then-has_no_declared_part : goal.returns-then-has_no_declared_part
 returns-then-has_no_declared_part c =
