@@ -1,6 +1,8 @@
 -- The parts of tables, put together.
-use Rattle.std.specs.Prelude.{Option, option_map, option_to_list, List, ◌++◌, flat_map, filter_map, map}
+use Rattle.std.specs.Prelude.{Option, Some, None, option_map, option_to_list, List, ◌++◌, flat_map, filter_map, map}
 use Rattle.std.proofs.Common.{◌≡◌, ◌∙◌, refl}
+use Rattle.cad_contracts.specs.Views.{own_of}
+use Rattle.cad_contracts.specs.declared.own.Own.{Own}
 use Rattle.cad_grammar.specs.Trees as t
 use Rattle.cad_syntax.specs.declared.address.Address.{Address}
 use Rattle.cad_syntax.specs.declared.type_id.TypeId.{TypeId}
@@ -34,3 +36,8 @@ mappings_made i i' s s' own mappings is a b = is ∙ rw a (rw b refl)
 pub functions_made : (d d' : List t.DeclTree) (s s' : Scope) (functions : List MemberEntry)
     → functions ≡ filter_map (top_function s) d → d ≡ d' → s ≡ s' → functions ≡ filter_map (top_function s') d'
 functions_made d d' s s' functions is a b = is ∙ rw a (rw b refl)
+
+-- the identifier of the program's own contract, as the code has it and as it is defined
+pub own_ids : (own : Option Own) → option_map (λ o. o.id) own ≡ option_map (λ o. o.id) (option_map own_of own)
+own_ids None = refl
+own_ids (Some o) = refl
