@@ -33,7 +33,7 @@ fn form_with(found: Option<Form>, word: &str) -> Option<Form> {
 }
 
 /// The form that the words behind the program's name ask for; None where they are no words of its.
-fn form(rt: &HostRuntime) -> io::Result<Option<Form>> {
+fn form_by_words(rt: &HostRuntime) -> io::Result<Option<Form>> {
     let mut found = Some(Form::Reply);
     for word in env::args(rt)?.skip(1) {
         found = form_with(found, word.as_str());
@@ -78,7 +78,7 @@ fn run(rt: &HostRuntime, form: Form) -> io::Result<()> {
 
 /// The status of a run: 2 for words that are none of the program's, 1 after a fault.
 fn main(rt: HostRuntime) -> ExitCode {
-    let done = match form(&rt) {
+    let done = match form_by_words(&rt) {
         Ok(Some(form)) => run(&rt, form),
         Ok(None) => {
             let _ = eprintln!(rt; "cadence_check: usage: cadence_check [--text]");
