@@ -1,0 +1,284 @@
+// Copies of values and trees. What can fail is memory alone.
+ghost use Rattle.std.specs.Prelude.{◌≡◌, map, IfOk, OnOk};
+ghost use Rattle.cad_syntax.specs.Types.{pure_type};
+ghost use Rattle.cad_values.specs.Values.{pure_value, pure_entry, pure_field, values_of, entries_of, fields_of};
+ghost use Rattle.cad_values.specs.Values as v;
+ghost use Rattle.cad_world.specs.Rows as spec;
+ghost use Rattle.cad_rows.specs.Places.{bare_place};
+ghost use Rattle.cad_rows.specs.Views.{pure_row, pure_tree, pure_place, pure_shape};
+
+use crate::access::push_place;
+use crate::discard::{discard_row, discard_shape};
+use crate::tree::{Place, Shape, Tree};
+use cad_syntax::{CadType, Name, Numbers, TypeId};
+use cad_values::{Cap, CompositeField, DictionaryEntry, Reference, Target, Value};
+use std::alloc::{AllocError, Global};
+
+fn copy_target(to: &Target) -> Result<Target, AllocError>
+    ensures { IfOk result (λ t. t ≡ to.now) }
+{
+    match to {
+        Target::Node(label) => Ok(Target::Node(*label)),
+        Target::Stored { address, path } => Ok(Target::Stored {
+            address: *address,
+            path: path.clone()?,
+        }),
+        Target::Account(address) => Ok(Target::Account(*address)),
+        Target::Controller { address, id } => Ok(Target::Controller {
+            address: *address,
+            id: *id,
+        }),
+    }
+}
+
+fn copy_reference(reference: &Reference) -> Result<Value, AllocError>
+    ensures { IfOk result (λ x. pure_value x ≡ v.reference reference.now.authorization (pure_type reference.now.target) reference.now.to) }
+{
+    let authorization = reference.authorization.clone()?;
+    let target = reference.target.clone()?;
+    let to = copy_target(&reference.to)?;
+    Ok(Value::Reference(Reference {
+        authorization,
+        target,
+        to,
+    }))
+}
+
+fn copy_capability(cap: &Cap) -> Result<Value, AllocError>
+    ensures { IfOk result (λ x. pure_value x ≡ v.capability cap.now.address cap.now.id (pure_type cap.now.borrow)) }
+{
+    let borrow = cap.borrow.clone()?;
+    Ok(Value::Capability(Cap {
+        address: cap.address,
+        id: cap.id,
+        borrow,
+    }))
+}
+
+/// An optional with a content.
+pub fn some_value(alloc: Global, content: Value) -> Result<Value, AllocError>
+    ensures { IfOk result (λ x. pure_value x ≡ v.some (pure_value content)) }
+{
+    Ok(Value::Some(Box::new(alloc, content)?))
+}
+
+/// An array of these elements.
+pub fn array_value(element: CadType, values: Vec<Value>) -> Value
+    ensures { pure_value result ≡ v.array (pure_type element) (values_of (map pure_value values.items)) }
+{
+    Value::Array { element, values }
+}
+
+/// A dictionary of these entries.
+pub fn dictionary_value(key: CadType, value: CadType, entries: Vec<DictionaryEntry>) -> Value
+    ensures { pure_value result ≡ v.dictionary (pure_type key) (pure_type value) (entries_of (map pure_entry entries.items)) }
+{
+    Value::Dictionary {
+        key,
+        value,
+        entries,
+    }
+}
+
+/// A composite of these fields.
+pub fn composite_value(id: TypeId, identity: u64, fields: Vec<CompositeField>) -> Value
+    ensures { pure_value result ≡ v.composite id identity (fields_of (map pure_field fields.items)) }
+{
+    Value::Composite {
+        id,
+        identity,
+        fields,
+    }
+}
+
+/// A key and what stands under it.
+pub fn entry_of(key: Value, value: Value) -> DictionaryEntry
+    ensures { pure_entry result ≡ (record { key = pure_value key; value = pure_value value }) }
+{
+    DictionaryEntry { key, value }
+}
+
+/// A field of a name.
+pub fn field_of(name: Name, value: Value) -> CompositeField
+    ensures { pure_field result ≡ (record { name = name; value = pure_value value }) }
+{
+    CompositeField { name, value }
+}
+
+/// A copy of a value. It goes as deep as the value is high.
+#[cycle(copies)]
+pub fn copy_value(alloc: Global, value: &Value) -> Result<Value, AllocError>
+    ensures { IfOk result (λ x. pure_value x ≡ pure_value value.now) }
+{
+    match value {
+        Value::Void => Ok(Value::Void),
+        Value::Nil => Ok(Value::Nil),
+        Value::Some(content) => some_value(alloc, copy_value(alloc, content)?),
+        Value::Bool(b) => Ok(Value::Bool(*b)),
+        Value::Number(n) => Ok(Value::Number(*n)),
+        Value::String(text) => Ok(Value::String(text.clone()?)),
+        Value::Character(text) => Ok(Value::Character(text.clone()?)),
+        Value::Address(address) => Ok(Value::Address(*address)),
+        Value::Path(path) => Ok(Value::Path(path.clone()?)),
+        Value::Meta(t) => Ok(Value::Meta(t.clone()?)),
+        Value::Capability(cap) => copy_capability(cap),
+        Value::Array { element, values } => {
+            let element = element.clone()?;
+            Ok(array_value(element, copy_values(alloc, values.as_slice())?))
+        }
+        Value::Dictionary {
+            key,
+            value,
+            entries,
+        } => {
+            let key = key.clone()?;
+            let value = value.clone()?;
+            Ok(dictionary_value(key, value, copy_entries(alloc, entries.as_slice())?))
+        }
+        Value::Composite {
+            id,
+            identity,
+            fields,
+        } => {
+            let id = id.clone()?;
+            Ok(composite_value(id, *identity, copy_fields(alloc, fields.as_slice())?))
+        }
+        Value::Reference(reference) => copy_reference(reference),
+    }
+}
+
+/// Copies of values.
+#[cycle(copies)]
+pub fn copy_values(alloc: Global, values: &[Value]) -> Result<Vec<Value>, AllocError>
+    ensures { IfOk result (λ xs. map pure_value xs.items ≡ map pure_value values.now) }
+{
+    let mut copies = Vec::new(alloc);
+    for value in values {
+        copies.push(copy_value(alloc, value)?)?;
+    }
+    Ok(copies)
+}
+
+#[cycle(copies)]
+fn copy_entries(
+    alloc: Global,
+    entries: &[DictionaryEntry],
+) -> Result<Vec<DictionaryEntry>, AllocError>
+    ensures { IfOk result (λ xs. map pure_entry xs.items ≡ map pure_entry entries.now) }
+{
+    let mut copies = Vec::new(alloc);
+    for entry in entries {
+        let key = copy_value(alloc, &entry.key)?;
+        copies.push(entry_of(key, copy_value(alloc, &entry.value)?))?;
+    }
+    Ok(copies)
+}
+
+#[cycle(copies)]
+fn copy_fields(alloc: Global, fields: &[CompositeField]) -> Result<Vec<CompositeField>, AllocError>
+    ensures { IfOk result (λ xs. map pure_field xs.items ≡ map pure_field fields.now) }
+{
+    let mut copies = Vec::new(alloc);
+    for field in fields {
+        let name = field.name.clone()?;
+        copies.push(field_of(name, copy_value(alloc, &field.value)?))?;
+    }
+    Ok(copies)
+}
+
+/// A copy of a shape.
+pub fn copy_shape(alloc: Global, shape: &Shape) -> Result<Shape, AllocError>
+    ensures { IfOk result (λ x. pure_shape x ≡ pure_shape shape.now) }
+{
+    match shape {
+        Shape::Plain(value) => Ok(Shape::Plain(copy_value(alloc, value)?)),
+        Shape::Link {
+            authorization,
+            label,
+            sees,
+        } => Ok(Shape::Link {
+            authorization: authorization.clone()?,
+            label: *label,
+            sees: *sees,
+        }),
+        Shape::Array(element) => Ok(Shape::Array(element.clone()?)),
+        Shape::Dictionary { key, value, keys } => {
+            let key = key.clone()?;
+            let value = value.clone()?;
+            let keys = copy_values(alloc, keys.as_slice())?;
+            Ok(Shape::Dictionary { key, value, keys })
+        }
+        Shape::Composite {
+            id,
+            identity,
+            fields,
+        } => {
+            let id = id.clone()?;
+            Ok(Shape::Composite {
+                id,
+                identity: *identity,
+                fields: fields.clone()?,
+            })
+        }
+    }
+}
+
+/// A copy of a tree, without labels at any depth.
+#[cycle(tree_copies)]
+pub fn copy_tree(alloc: Global, tree: &Tree) -> Result<Tree, AllocError>
+    ensures { IfOk result (λ t. pure_tree t ≡ spec.bare_tree (pure_tree tree.now)) }
+{
+    let shape = copy_shape(alloc, &tree.shape)?;
+    match copy_row(alloc, tree.parts.as_slice()) {
+        Ok(parts) => Ok(Tree {
+            optionals: tree.optionals,
+            shape,
+            parts,
+        }),
+        Err(error) => {
+            discard_shape(shape);
+            Err(error)
+        }
+    }
+}
+
+/// A copy of a row, without labels at any depth.
+#[cycle(tree_copies)]
+pub fn copy_row(alloc: Global, row: &[Place]) -> Result<Vec<Place>, AllocError>
+    ensures { IfOk result (λ r. pure_row r.items ≡ spec.bare (pure_row row.now)) }
+{
+    let mut copies = Vec::new(alloc);
+    match push_copies(alloc, row, &mut copies) {
+        Ok(()) => Ok(copies),
+        Err(error) => {
+            discard_row(copies);
+            Err(error)
+        }
+    }
+}
+
+/// Appends copies of places.
+#[cycle(tree_copies)]
+fn push_copies(alloc: Global, row: &[Place], copies: &mut Vec<Place>) -> Result<(), AllocError>
+    ensures { OnOk result (pure_row copies.new.items ≡ spec.join (pure_row copies.old.items) (spec.bare (pure_row row.now))) }
+{
+    for place in row {
+        let copy = copy_place(alloc, place)?;
+        push_place(copies, copy)?;
+    }
+    Ok(())
+}
+
+/// A copy of a place, without labels at any depth.
+#[cycle(tree_copies)]
+fn copy_place(alloc: Global, place: &Place) -> Result<Place, AllocError>
+    ensures { IfOk result (λ p. pure_place p ≡ bare_place (pure_place place.now)) }
+{
+    match place {
+        Place::Empty => Ok(Place::Empty),
+        Place::Full(_, tree) => {
+            let copy = copy_tree(alloc, tree)?;
+            Ok(Place::Full(Numbers::new(alloc), copy))
+        }
+    }
+}
