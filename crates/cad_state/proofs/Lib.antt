@@ -1,0 +1,6 @@
+pub mod Changes
+pub mod Filling
+pub mod Frames
+pub mod Nodes
+pub mod Spending
+pub mod Standing

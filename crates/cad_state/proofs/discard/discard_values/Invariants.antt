@@ -1,0 +1,5 @@
+use Rattle.std.proofs.Common.{vec_len}
+use Rattle.cad_state.proofs.discard.discard_values.Given as goal
+
+abbrev pub decreases-loop-value : goal.decreases-loop-value
+decreases-loop-value l = vec_len l.left

@@ -1,0 +1,15 @@
+//! The state of a run, and the nodes that are found in it by their labels.
+#![tactic(auto)]
+
+mod discard;
+mod hints;
+mod locate;
+mod state;
+mod units;
+mod variables;
+
+pub use discard::{
+    discard_call, discard_contract, discard_shared, discard_state, discard_value, discard_values,
+};
+pub use hints::{Hints, Root, Way};
+pub use state::{Call, Contract, RunState};

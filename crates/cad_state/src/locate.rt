@@ -1,0 +1,175 @@
+// Nodes of the state, found by their labels: the hint is tried first, then all rows.
+ghost use Rattle.std.specs.Prelude.{◌≡◌, ◌<◌, List, Some, None, IfOk, IfSome, MatchOption, map, reverse, option_map, vec_len};
+ghost use Rattle.cad_world.specs.Labels as spec;
+ghost use Rattle.cad_world.specs.State.{Account};
+ghost use Rattle.cad_rows.specs.Ways.{pure_node};
+ghost use Rattle.cad_state.specs.Views.{state_over, frame_of, contract_of, IsReady};
+ghost use Rattle.cad_state.specs.Ways as ways;
+
+use crate::hints::{Root, Way, hint_index};
+use crate::state::RunState;
+use cad_rows::laws::a_node_with_the_label_is_the_node;
+use cad_rows::{Node, Place, holds_label, node_at, way_to};
+use std::alloc::AllocError;
+
+impl RunState {
+    /// The places of a row.
+    fn row(&self, root: Root) -> Option<&[Place]>
+        ensures { option_map (λ r. r.now) result ≡ ways.row_at root self.now }
+    {
+        match root {
+            Root::Variables(i) => match self.calls.get(i) {
+                Some(call) => Some(call.variables.as_slice()),
+                None => None,
+            },
+            Root::Before(i) => match self.calls.get(i) {
+                Some(call) => Some(call.before.as_slice()),
+                None => None,
+            },
+            Root::Result(i) => match self.calls.get(i) {
+                Some(call) => Some(call.result.as_slice()),
+                None => None,
+            },
+            Root::Making => Some(self.making.as_slice()),
+            Root::Contract(i) => match self.contracts.get(i) {
+                Some(contract) => Some(contract.value.as_slice()),
+                None => None,
+            },
+        }
+    }
+
+    /// The node at the end of a way.
+    fn reach(&self, way: &Way) -> Option<Node<'_>>
+        ensures { option_map pure_node result ≡ ways.reached way.now.down.items (ways.row_at way.now.root self.now) }
+    {
+        match self.row(way.root) {
+            Some(row) => node_at(row, way.down.as_slice()),
+            None => None,
+        }
+    }
+
+    /// The node at the end of a way, if it has a label.
+    fn reach_labelled(&self, way: &Way, label: u64) -> Option<Node<'_>>
+        ensures { option_map pure_node result ≡ ways.if_labelled label (ways.reached way.now.down.items (ways.row_at way.now.root self.now)) }
+    {
+        match self.reach(way) {
+            Some(node) => {
+                if holds_label(node.labels, label) {
+                    return Some(node);
+                }
+                None
+            }
+            None => None,
+        }
+    }
+
+    /// The node with a label, if its hint leads there; so it does behind `locate`. It takes no memory.
+    pub fn node(&self, label: u64) -> Option<Node<'_>>
+        ensures { IfSome result (λ n. (accounts : List Account) → IsReady accounts self.now → spec.at label (state_over accounts self.now) ≡ Some (pure_node n)) }
+    {
+        a_node_with_the_label_is_the_node();
+        match self.hints.ways.get(hint_index(label)) {
+            Some(way) => self.reach_labelled(way, label),
+            None => None,
+        }
+    }
+
+    /// The way to the node with a label in a row.
+    fn way_in_row(&self, root: Root, label: u64) -> Result<Option<Way>, AllocError>
+        ensures { IfOk result (λ o. MatchOption o (ways.found_in label (ways.row_at root self.now) ≡ None) (ways.Stands label self.now)) }
+    {
+        match self.row(root) {
+            Some(row) => match way_to(*self.making.allocator(), row, label)? {
+                Some(down) => Ok(Some(Way { root, down })),
+                None => Ok(None),
+            },
+            None => Ok(None),
+        }
+    }
+
+    /// The way to the node with a label in the rows of a call.
+    fn way_in_call(&self, i: usize, label: u64) -> Result<Option<Way>, AllocError>
+        ensures { IfOk result (λ o. MatchOption o (ways.NotIn label self.now i) (ways.Stands label self.now)) }
+    {
+        if let Some(way) = self.way_in_row(Root::Variables(i), label)? {
+            return Ok(Some(way));
+        }
+        if let Some(way) = self.way_in_row(Root::Before(i), label)? {
+            return Ok(Some(way));
+        }
+        match self.way_in_row(Root::Result(i), label)? {
+            Some(way) => Ok(Some(way)),
+            None => Ok(None),
+        }
+    }
+
+    /// The way to the node with a label in the rows of all calls, those of the newest first.
+    #[tactic(auto, using(crate::proofs::Standing::calls_turn, crate::proofs::Standing::calls_begin))]
+    fn way_in_calls(&self, label: u64) -> Result<Option<Way>, AllocError>
+        ensures { IfOk result (λ o. MatchOption o (spec.found_in_frames label (reverse (map frame_of self.now.calls.items)) ≡ None) (ways.Stands label self.now)) }
+    {
+        let mut i = self.calls.len();
+        while 0 < i {
+            i -= 1;
+            if let Some(way) = self.way_in_call(i, label)? {
+                return Ok(Some(way));
+            }
+        }
+        Ok(None)
+    }
+
+    /// The way to the node with a label in the values of all contracts.
+    #[tactic(auto, using(crate::proofs::Standing::contracts_turn, crate::proofs::Standing::contracts_end))]
+    fn way_in_contracts(&self, label: u64) -> Result<Option<Way>, AllocError>
+        ensures { IfOk result (λ o. MatchOption o (spec.found_in_contracts label (map contract_of self.now.contracts.items) ≡ None) (ways.Stands label self.now)) }
+    {
+        for i in 0..self.contracts.len() {
+            if let Some(way) = self.way_in_row(Root::Contract(i), label)? {
+                return Ok(Some(way));
+            }
+        }
+        Ok(None)
+    }
+
+    /// The way to the node with a label.
+    #[tactic(auto, using(crate::proofs::Standing::nowhere))]
+    fn way(&self, label: u64) -> Result<Option<Way>, AllocError>
+        ensures { IfOk result (λ o. MatchOption o ((accounts : List Account) → spec.found_in_accounts label accounts ≡ None → spec.at label (state_over accounts self.now) ≡ None) (ways.Stands label self.now)) }
+    {
+        if let Some(way) = self.way_in_calls(label)? {
+            return Ok(Some(way));
+        }
+        if let Some(way) = self.way_in_row(Root::Making, label)? {
+            return Ok(Some(way));
+        }
+        match self.way_in_contracts(label)? {
+            Some(way) => Ok(Some(way)),
+            None => Ok(None),
+        }
+    }
+
+    /// Keeps the way to a label's node as its hint.
+    fn keep(&mut self, label: u64, way: Way) -> Result<(), AllocError>
+        ensures { (accounts : List Account) → state_over accounts self.new ≡ state_over accounts self.old }
+    {
+        self.hints.keep(label, way)
+    }
+
+    /// Whether there is a node with a label. Where there is, its hint leads there from then on.
+    #[tactic(auto, using(crate::proofs::Standing::standing_there))]
+    pub fn locate(&mut self, label: u64) -> Result<bool, AllocError>
+        ensures same { (accounts : List Account) → state_over accounts self.new ≡ state_over accounts self.old }
+        ensures found { IfOk result (λ b. (accounts : List Account) → IsReady accounts self.old → ways.is_there (spec.at label (state_over accounts self.old)) ≡ b) }
+    {
+        if let Some(_) = self.node(label) {
+            return Ok(true);
+        }
+        match self.way(label)? {
+            Some(way) => {
+                self.keep(label, way)?;
+                Ok(true)
+            }
+            None => Ok(false),
+        }
+    }
+}

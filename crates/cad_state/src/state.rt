@@ -1,0 +1,60 @@
+// The state of a run.
+use crate::hints::Hints;
+use cad_declarations::Checked;
+use cad_rows::Place;
+use cad_syntax::{Bytes, Numbers, TypeId, TypeIds};
+use cad_values::Value;
+use std::rc::Rc;
+
+/// A call in progress.
+pub struct Call {
+    /// The type whose code runs; none outside of types.
+    pub within: Option<TypeId>,
+    /// The label of the receiver, or of what the initializer makes.
+    pub own: Option<u64>,
+    /// Whether it is an initializer's call.
+    pub initializes: bool,
+    /// By their numbers, hidden ones among them.
+    pub variables: Vec<Place>,
+    /// The values of `before`, those of the conditions that come next first.
+    pub before: Vec<Place>,
+    /// The result while postconditions run: one place.
+    pub result: Vec<Place>,
+}
+
+/// A contract where a program runs.
+pub struct Contract {
+    pub id: TypeId,
+    pub code: Rc<Bytes>,
+    pub checked: Rc<Checked>,
+    /// One place.
+    pub value: Vec<Place>,
+    /// Whether its initializer runs: fields of its value may be unset then.
+    pub is_running: bool,
+}
+
+/// The state of a run, but for the accounts.
+pub struct RunState {
+    /// The newest last.
+    pub calls: Vec<Call>,
+    /// What initializers make, the newest first; fields that aren't set are empty places.
+    pub making: Vec<Place>,
+    /// Those that were added stand last.
+    pub contracts: Vec<Contract>,
+    /// What runs.
+    pub checked: Rc<Checked>,
+    /// In the order of emission.
+    pub events: Vec<Value>,
+    /// Identities of resources, in order.
+    pub made: Numbers,
+    pub destroyed: Numbers,
+    /// Contracts that were added, in order.
+    pub added: TypeIds,
+    pub next_label: u64,
+    pub next_identity: u64,
+    pub units: u64,
+    /// How many calls of functions and initializers are in progress.
+    pub depth: u64,
+    /// Where labels were found last. What they say is tried before it is believed.
+    pub hints: Hints,
+}
