@@ -1,0 +1,6 @@
+use Rattle.std.proofs.Common.{◌≡◌, drop}
+use Rattle.cad_access.specs.RunContracts.{contracts_of, bodies_among}
+use Rattle.cad_access.proofs.declared.bodies_among.Given as goal
+
+abbrev pub invariant-loop-contract : goal.invariant-loop-contract
+invariant-loop-contract l = bodies_among (contracts_of (drop l.contract-index l.contracts)) l.id ≡ bodies_among (contracts_of l.contracts) l.id
