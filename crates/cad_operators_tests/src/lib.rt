@@ -1,0 +1,5 @@
+//! Tests of operators and built-in members.
+#![tactic(auto)]
+
+#[cfg(test)]
+mod tests;
