@@ -329,6 +329,13 @@ def refused_code(tries):
         tries.run(f"a deploy with {more}", ACCOUNT + deploy_line("fun", **{"address": "0x1", **more}), "done", FIRST + bad(29))
 
 
+def nested_code(tries):
+    """Code that no phase refuses, as deep as it may nest, and once deeper: the walks of all phases have enough stack."""
+    for name in nesting.RIGHT:
+        lines = deploy_line(nesting.right_code(name)) + deploy_line(nesting.right_code(name, 1))
+        tries.run(f"{name} in a contract", ACCOUNT + lines, "done", FIRST + bad(29) + rejected("parse", 0))
+
+
 MANY = 1_000_000
 SUM = "access(all) fun main(): Int { return 7 }"
 HEAD = "access(all) fun main() { "
@@ -529,7 +536,7 @@ def little_memory(tries):
     commands = [("account",), ("save", 1, None, [[40], [2]], "x"), ("script", [[1]] * 50_000), ("account",)]
     lines = b"".join(map(model.line_of, commands))
     replies, states = model.replies_to(commands, model.Accounts())
-    for kilobytes in [*range(2000, 4000, 20 if tries.long else 100), *range(4000, 60_000, 1000 if tries.long else 8000)]:
+    for kilobytes in [*range(2500, 5000, 20 if tries.long else 100), *range(5000, 60_000, 1000 if tries.long else 8000)]:
         folder, limit = tries.folder(), (kilobytes << 10, kilobytes << 10)
         done = model.run(tries.program, folder, lines, preexec_fn=lambda: resource.setrlimit(resource.RLIMIT_AS, limit))
         tries.count += 1
@@ -646,7 +653,7 @@ def most_accounts(tries):
 
 KINDS = [
     random_bytes, changed_lines, cut_lines, long_lines, deep_lines, odd_lines, control_characters, half_characters, odd_fields,
-    equal_fields, odd_signers, refused_code, nested_programs, long_programs, odd_words, odd_folders, few_files, odd_files, odd_streams,
+    equal_fields, odd_signers, refused_code, nested_programs, nested_code, long_programs, odd_words, odd_folders, few_files, odd_files, odd_streams,
     slow_streams, closed_streams, little_memory, two_runs, cut_stores, changed_stores, odd_stores, most_accounts,
 ]  # fmt: skip
 

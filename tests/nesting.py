@@ -95,6 +95,41 @@ TYPE_PLACES = {
     "a reference": (3, "access(all) fun main() { let x = &a as ", " }"),
 }
 
+# Forms of code that no phase refuses, in a function whose parameters are below: how often at most, what is repeated before
+# and behind its middle, and the middle. The trees of some are three times as deep as their nestings.
+RIGHT = {
+    "sums": (126, "let y = ", ("", "i", " + i")),
+    "sums to the right": (63, "let y = ", ("i + (", "i", ")")),
+    "signs": (126, "let y = ", ("-", "i", "")),
+    "choices": (126, "let y = ", ("b ? ", "i", " : i")),
+    "casts": (126, "let y = ", ("", "i", " as Int")),
+    "forced casts": (125, "let y = ", ("(", "i", " as? Int)!")),
+    "arrays": (126, "let y = ", ("[", "i", "]")),
+    "elements of arrays": (126, "let y = ", ("[", "i", "][0]")),
+    "values of dictionaries": (125, "let y = ", ("{1: ", "i", "}[1]!")),
+    "keys of dictionaries": (125, "let y = ", ("{", "i", ": 1}[1]!")),
+    "indexes": (126, "let y = ", ("a[", "i", "]")),
+    "keys": (125, "let y = ", ("d[", "i", "]!")),
+    "conversions": (126, "let y = ", ("Int(", "i", ")")),
+    "calls in calls": (63, "let y = ", ("self.g(", "i", ")")),
+    "calls": (63, "let y = ", ("", "s", ".s()")),
+    "chains": (62, "let y = ", ("", "s.q", "?.s()")),
+    "members": (62, "s.", ("a[0].", "q", "")),
+    "resources": (62, "destroy ", ("create R(<- ", "create R(nil)", ")")),
+    "if": (126, "", ("if b { ", "i", " }")),
+    "if let": (126, "", ("if let v = s.q { ", "i", " }")),
+    "else if": (125, "", ("if b {} else ", "if b {}", "")),
+    "while": (126, "", ("while b { ", "i", " }")),
+    "for": (126, "", ("for v in a { ", "i", " }")),
+    "switch": (126, "", ("switch i { case 1: ", "i", " }")),
+}
+RIGHT_AROUND = (
+    "access(all) contract C { access(all) struct S { access(all) var a: [S] access(all) var q: S? access(all) fun s(): S { return self }"
+    " init() { self.a = []; self.q = nil } } access(all) resource R { init(_ r: @R?) { destroy r } }"
+    " access(all) fun g(_ i: Int): Int { return i } access(all) fun f(a: [Int], b: Bool, d: {Int: Int}, i: Int, s: S) { ",
+    " } }",
+)
+
 
 def forms():
     """Each form: its name, the nestings round it, the text before, what nests (before, middle, behind), the text behind."""
@@ -116,3 +151,10 @@ def text_of(form, count):
     """The form with so many repetitions."""
     _, _, before, (head, middle, tail), behind = form
     return before + head * count + middle + tail * count + behind
+
+
+def right_code(name, more=0):
+    """The contract with a form that no phase refuses, as often as it may stand, and so many times more."""
+    count, before, (head, middle, tail) = RIGHT[name]
+    count += more
+    return RIGHT_AROUND[0] + before + head * count + middle + tail * count + RIGHT_AROUND[1]
