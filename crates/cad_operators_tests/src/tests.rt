@@ -1,7 +1,9 @@
 // Worked examples. The expected values are those of the language's definition and of docs/ERRORS.md.
 use cad_grammar::BinaryOperator;
 use cad_num::{BitOp, Op};
+use cad_operators::Operation::{Difference, Product, Quotient, Remainder, Sum};
 use cad_operators::*;
+use cad_outcomes::RunError::{DivisionByZero, Overflow, Underflow};
 use cad_outcomes::{RunError, Stop};
 use cad_rows::{Tree, discard_tree};
 use cad_syntax::{Address, Kind, Num, Text};
@@ -36,90 +38,50 @@ fn calculated(alloc: Global, operation: Operation, a: Num, b: Num) -> Result<Opt
     result
 }
 
-#[test]
-fn numbers_stay_in_range(rt: HostRuntime) {
-    for (kind, a, operation, b, expected) in [
-        (Kind::Int8, 100, Operation::Sum, 27, Ok(127)),
-        (Kind::Int8, 127, Operation::Sum, 1, Err(RunError::Overflow)),
-        (
-            Kind::Int8,
-            -128,
-            Operation::Difference,
-            1,
-            Err(RunError::Underflow),
-        ),
-        (
-            Kind::UInt8,
-            0,
-            Operation::Difference,
-            1,
-            Err(RunError::Underflow),
-        ),
-        (
-            Kind::UInt64,
-            18446744073709551615,
-            Operation::Sum,
-            1,
-            Err(RunError::Overflow),
-        ),
-        (
-            Kind::Int,
-            170141183460469231731687303715884105727,
-            Operation::Sum,
-            1,
-            Err(RunError::Overflow),
-        ),
-        (Kind::Word8, 255, Operation::Sum, 1, Ok(0)),
-        (Kind::Word16, 0, Operation::Difference, 1, Ok(65535)),
-        (
-            Kind::Int8,
-            -128,
-            Operation::Quotient,
-            -1,
-            Err(RunError::Overflow),
-        ),
-        (
-            Kind::Int,
-            1,
-            Operation::Quotient,
-            0,
-            Err(RunError::DivisionByZero),
-        ),
-        (
-            Kind::Int,
-            1,
-            Operation::Remainder,
-            0,
-            Err(RunError::DivisionByZero),
-        ),
-        (Kind::Int, -7, Operation::Remainder, 2, Ok(-1)),
-        (
-            Kind::UFix64,
-            150000000,
-            Operation::Product,
-            150000000,
-            Ok(225000000),
-        ),
-        (
-            Kind::Fix64,
-            -100000000,
-            Operation::Quotient,
-            300000000,
-            Ok(-33333333),
-        ),
-    ] {
-        let wanted = match expected {
-            Ok(value) => Ok(Some(number(&rt, kind, value))),
+/// Asserts that the operation of each row gives its number or its error.
+fn hold(
+    rt: &impl Abort,
+    alloc: Global,
+    rows: &[(Kind, i128, Operation, i128, Result<i128, RunError>)],
+) {
+    for (kind, a, operation, b, expected) in rows {
+        let wanted = match *expected {
+            Ok(value) => Ok(Some(number(rt, *kind, value))),
             Err(error) => Err(Stop::Failed(error)),
         };
-        let result = calculated(
-            rt.alloc(),
-            operation,
-            number(&rt, kind, a),
-            number(&rt, kind, b),
-        );
+        let x = number(rt, *kind, *a);
+        let y = number(rt, *kind, *b);
+        let result = calculated(alloc, *operation, x, y);
         assert_eq!(rt; result, wanted);
     }
+}
+
+#[test]
+fn sums_and_differences_stay_in_range(rt: HostRuntime) {
+    let rows = [
+        (Kind::Int8, 100, Sum, 27, Ok(127)),
+        (Kind::Int8, 127, Sum, 1, Err(Overflow)),
+        (Kind::Int8, -128, Difference, 1, Err(Underflow)),
+        (Kind::UInt8, 0, Difference, 1, Err(Underflow)),
+        (Kind::UInt64, 18446744073709551615, Sum, 1, Err(Overflow)),
+        (Kind::Int, i128::MAX, Sum, 1, Err(Overflow)),
+        (Kind::Word8, 255, Sum, 1, Ok(0)),
+        (Kind::Word16, 0, Difference, 1, Ok(65535)),
+    ];
+    hold(&rt, rt.alloc(), &rows);
+}
+
+#[test]
+fn products_and_quotients_stay_in_range(rt: HostRuntime) {
+    let rows = [
+        (Kind::Int8, -128, Quotient, -1, Err(Overflow)),
+        (Kind::Int, 1, Quotient, 0, Err(DivisionByZero)),
+        (Kind::Int, 1, Remainder, 0, Err(DivisionByZero)),
+        (Kind::Int, -7, Remainder, 2, Ok(-1)),
+        (Kind::UFix64, 150000000, Product, 150000000, Ok(225000000)),
+        (Kind::Fix64, -100000000, Quotient, 300000000, Ok(-33333333)),
+    ];
+    hold(&rt, rt.alloc(), &rows);
 }
 
 #[test]
