@@ -136,8 +136,9 @@ PROGRAMS = (
      b' execute { if let b <- c() { destroy b } else { d(&b as &E?) }; for i, j in k { l = m ?? n - 0x5 } } }"}',
      b'{"at":"0","in":"transaction","phase":"resolve","reply":"rejected"}\n'),
     (b'{"kind":"script","code":"access(all) fun main() { let n: Int = true }"}', b'{"at":"0","in":"main","phase":"types","reply":"rejected"}\n'),
-    (b'{"kind":"script","code":"access(all) fun main(a: [Int]): Bool { for n in a { if n < 1 { return true } }; return false }"}', model.bad(29)),
-    (b"hello", model.bad(29)),
+    (b'{"kind":"script","code":"access(all) fun main(a: [Int]): Bool { for n in a { if n < 1 { return true } }; return false }",'
+     b'"arguments":[{"type":"Array","value":[{"type":"Int","value":"0"}]}]}', b'{"reply":"ok","result":{"type":"Bool","value":true}}\n'),
+    (b"hello", model.bad(21)),
     (b" \t", b""),
     (b"x" * ((1 << 20) + 1), model.bad(27)),
 )  # fmt: skip

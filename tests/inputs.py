@@ -21,6 +21,7 @@ import random
 import resource
 import select
 import shutil
+import signal
 import subprocess
 import sys
 import tempfile
@@ -71,16 +72,34 @@ def rejected(phase, at, inside=""):
 def is_read(reply):
     """Whether a reply says that the code is a program: it is accepted, or a phase behind `parse` refuses it."""
     told = json.loads(reply)
-    return reply == bad(29) or told["reply"] == "rejected" and told["phase"] not in ("lex", "parse")
+    if told["reply"] == "rejected":
+        return told["phase"] not in ("lex", "parse")
+    return told["reply"] != "bad" or reply in (bad(25), bad(26), bad(29))
 
 
 def is_command(line):
     return line.strip(b" \t\r") != b""
 
 
+def no_constant(word):
+    raise ValueError(word)
+
+
+def noise_reply(line):
+    """The reply to a line that asks for nothing: it is too long, or no JSON, or no object with a kind of ours."""
+    if len(line) > LONGEST:
+        return bad(27)
+    try:
+        told = json.loads(line.decode(), parse_constant=no_constant)
+    except (ValueError, RecursionError):
+        return bad(21)
+    if not isinstance(told, dict) or not isinstance(told.get("kind"), str):
+        return bad(22)
+    return bad(23)
+
+
 def noise_replies(lines):
-    """The replies to lines that ask for nothing."""
-    return b"".join(bad(27 if len(line) > LONGEST else 29) for line in lines.split(b"\n") if is_command(line))
+    return b"".join(noise_reply(line) for line in lines.split(b"\n") if is_command(line))
 
 
 def random_bytes(tries):
@@ -112,7 +131,7 @@ def cut_lines(tries):
         cuts = b"".join(line[:end] + b"\n" for end in range(len(line) - 1))
         tries.run("cut lines", cuts, "done", noise_replies(cuts))
         for end in range(1, len(line) - 1) if tries.long else (1, len(line) // 2, len(line) - 2):
-            tries.run("a line that the end of the input cuts", SCRIPT + line[:end], "done", result(7) + bad(29))
+            tries.run("a line that the end of the input cuts", SCRIPT + line[:end], "done", result(7) + bad(21))
     tries.run("no line feed at the end", ACCOUNT + SCRIPT[:-1], "done", FIRST + result(7))
     tries.run("nothing", b"", "done", b"")
     tries.run("blank lines", b"\n\r\n \t\n\n  ", "done", b"")
@@ -129,40 +148,45 @@ def long_lines(tries):
         tries.run("a line of 2^20 bytes", padded(line, LONGEST) + SCRIPT, "done", reply + result(7))
         tries.run("a line of 2^20+1 bytes", padded(line, LONGEST + 1) + SCRIPT, "done", bad(27) + result(7))
         tries.run("such lines without a line feed", padded(line, LONGEST) + padded(line, LONGEST + 1)[:-1], "done", reply + bad(27))
-    tries.run("noise of 2^20 bytes, and of one more", b"x" * LONGEST + b"\n" + b"x" * (LONGEST + 1), "done", bad(29) + bad(27))
+    tries.run("noise of 2^20 bytes, and of one more", b"x" * LONGEST + b"\n" + b"x" * (LONGEST + 1), "done", bad(21) + bad(27))
     tries.run("a long blank line", b" " * (LONGEST + 1) + b"\n" + SCRIPT, "done", result(7))
     tries.run("a line of 64 MiB", b"y" * (1 << 26) + b"\n" + SCRIPT, "done", bad(27) + result(7))
+    for many, reply in ((120, result), (150_000, lambda value: rejected("parse", 0))):
+        tries.run(f"a sum of {many} terms", model.line_of(("script", [[1]] * many)), "done", reply(many))
+        tries.run(f"a product of {many} factors", model.line_of(("script", [[1] * many])), "done", reply(1))
     many = 150_000
-    tries.run("a sum of many terms", model.line_of(("script", [[1]] * many)), "done", result(many))
-    tries.run("a product of many factors", model.line_of(("script", [[1] * many])), "done", result(1))
+    folder, saved = tries.folder(), model.line_of(("save", 1, None, [[1]] * many, "x"))
+    tries.run("a saved sum of many terms", ACCOUNT + saved, "done", FIRST + model.DONE, folder)
     digits = model.line_of(("script", [[1]])).replace(b" 1 ", b" " + b"0" * 500_000 + b"9 ")
     tries.run("a literal of many digits", digits, "done", result(9))
 
 
 def deep_lines(tries):
-    for depth, reply in ((126, FIRST), (127, bad(29)), (500_000, bad(29))):
+    for depth, reply in ((126, FIRST), (127, bad(21)), (500_000, bad(21))):
         line = ACCOUNT[:-2] + b',"more":' + b"[" * depth + b"]" * depth + b"}\n"
         tries.run(f"JSON with {depth} arrays in it", line, "done", reply)
     for open_ in (b"[", b'{"a":', b"[[],"):
-        tries.run("JSON that isn't closed", open_ * (1_000_000 // len(open_)) + b"\n" + SCRIPT, "done", bad(29) + result(7))
+        tries.run("JSON that isn't closed", open_ * (1_000_000 // len(open_)) + b"\n" + SCRIPT, "done", bad(21) + result(7))
     deep = b"(" * 100_000 + b"1" + b")" * 100_000
     tries.run("a deep sum", SCRIPT.replace(b"1 +", deep + b" +"), "done", rejected("parse", 0))
 
 
 def odd_lines(tries):
-    for name, line in {
-        "a NUL byte": b"\0",
-        "a NUL byte in the text": SCRIPT.replace(b"1 +", b"1\0 +"),
-        "a NUL behind the object": ACCOUNT[:-1] + b"\0",
-        "bytes that aren't UTF-8": SCRIPT.replace(b"script", b"scr\xffipt"),
-        "half a character's code": SCRIPT.replace(b"1 +", b"\\ud800 +"),
-        "a mark of the byte order": b"\xef\xbb\xbf" + ACCOUNT[:-1],
-        "two objects": ACCOUNT[:-1] + ACCOUNT[:-1],
-        "a limit": SCRIPT.replace(b'{"kind"', b'{"limit":1,"kind"'),
-        "arguments": SCRIPT.replace(b'{"kind"', b'{"arguments":[],"kind"'),
-        "another kind": SCRIPT.replace(b"script", b"scripts"),
+    for name, (line, number) in {
+        "a NUL byte": (b"\0", 21),
+        "a NUL byte in the text": (SCRIPT.replace(b"1 +", b"1\0 +"), 21),
+        "a NUL behind the object": (ACCOUNT[:-1] + b"\0", 21),
+        "bytes that aren't UTF-8": (SCRIPT.replace(b"script", b"scr\xffipt"), 21),
+        "half a character's code": (SCRIPT.replace(b"1 +", b"\\ud800 +"), 21),
+        "a mark of the byte order": (b"\xef\xbb\xbf" + ACCOUNT[:-1], 21),
+        "two objects": (ACCOUNT[:-1] + ACCOUNT[:-1], 21),
+        "a limit of 0": (SCRIPT.replace(b'{"kind"', b'{"limit":0,"kind"'), 28),
+        "an argument": (SCRIPT.replace(b'{"kind"', b'{"arguments":[1],"kind"'), 25),
+        "another kind": (SCRIPT.replace(b"script", b"scripts"), 23),
     }.items():
-        tries.run(name, line.rstrip(b"\n") + b"\n" + SCRIPT, "done", bad(29) + result(7))
+        tries.run(name, line.rstrip(b"\n") + b"\n" + SCRIPT, "done", bad(number) + result(7))
+    for name, more in {"arguments": b'"arguments":[]', "signers": b'"signers":5', "a limit": b'"limit":1000000'}.items():
+        tries.run(name, SCRIPT.replace(b'{"kind"', b"{" + more + b',"kind"'), "done", result(7))
     tries.run("a NUL character in the code", SCRIPT.replace(b"1 +", b"1\\u0000 +"), "done", rejected("lex", 38))
     tries.run("no account", SAVE, "done", bad(26))
     tries.run("the last of equal fields", ACCOUNT.replace(b"{", b'{"kind":"script",'), "done", FIRST)
@@ -184,7 +208,7 @@ def control_characters(tries):
         replies += reply
         if code != 10:
             lines += SCRIPT.replace(b"1 +", b"1" + chr(code).encode() + b" +")
-            replies += bad(29) if code < 32 else reply
+            replies += bad(21) if code < 32 else reply
     tries.run("control characters in code", lines, "done", replies)
     gaps = [chr(code) for code in (9, 10, 13, 32)]
     tries.run("gaps in JSON", ACCOUNT.replace(b":", b" \t\r: \t\r")[:-1] + b" \t\r\n", "done", FIRST)
@@ -197,17 +221,17 @@ def control_characters(tries):
 def half_characters(tries):
     for half in ("\\ud800", "\\udfff", "\\udc00\\ud800", "\\ud800\\ud800", "\\ud83dx", "\\ud83d\\n", "\\ud83d\\u0041", "\\ud8", "\\uzzzz", "\\x41"):
         for line in (SCRIPT.replace(b"1 +", b"1" + half.encode() + b" +"), SCRIPT[:-3] + half.encode() + b'"}\n'):
-            tries.run(f"{half} in code", line + SCRIPT, "done", bad(29) + result(7))
-        tries.run(f"{half} in another field", SCRIPT.replace(b"{", b'{"a":"' + half.encode() + b'",', 1), "done", bad(29))
+            tries.run(f"{half} in code", line + SCRIPT, "done", bad(21) + result(7))
+        tries.run(f"{half} in another field", SCRIPT.replace(b"{", b'{"a":"' + half.encode() + b'",', 1), "done", bad(21))
     for cut in (b"\xc3", b"\xe2\x82", b"\xf0\x9f\x98", b"\xc0\x80", b"\xed\xa0\x80", b"\xf4\x90\x80\x80", b"\x80", b"\xff"):
-        tries.run(f"{cut} in code", SCRIPT.replace(b"1 +", b"1" + cut + b" +") + SCRIPT, "done", bad(29) + result(7))
+        tries.run(f"{cut} in code", SCRIPT.replace(b"1 +", b"1" + cut + b" +") + SCRIPT, "done", bad(21) + result(7))
 
 
 def odd_fields(tries):
     """Whole numbers, lists and texts where they are wanted, and all else; names and values as JSON may write them."""
     refused = {"kind": "script", "code": "fun"}
     for field, kinds in {
-        "limit": "0 1 9999 1000001 18446744073709551615",
+        "limit": "1 9999 1000000",
         "arguments": "[] [1,2]",
         "signers": '[] ["0x1"] 5 null {}',
         "other": "1e2 -0 null 1.5e-300",
@@ -215,16 +239,25 @@ def odd_fields(tries):
         for value in kinds.split():
             line = json.dumps(refused)[:-1].encode() + f',"{field}":{value}}}\n'.encode()
             tries.run(f"{field} is {value}", line, "done", rejected("parse", 0))
-    wrong = "18446744073709551616 1e2 1E2 1.0 -0 -1 -0.0 1e400 1e-400 99999999999999999999999999 01 +1 .5 1. 0x10 1_0 NaN Infinity - true null [] {}"
-    for value in wrong.split() + ['"1"', ""]:
-        line = json.dumps(refused)[:-1].encode() + f',"limit":{value}}}\n'.encode()
-        tries.run(f"limit is {value}", line + SCRIPT, "done", bad(29) + result(7))
+    for number, values in {
+        21: "1e400 01 +1 .5 1. 0x10 1_0 NaN Infinity -",
+        22: '18446744073709551616 1e2 1E2 1.0 -0 -1 -0.0 1e-400 99999999999999999999999999 true null [] {} "1"',
+        28: "0 1000001 18446744073709551615",
+    }.items():
+        for value in values.split():
+            line = json.dumps(refused)[:-1].encode() + f',"limit":{value}}}\n'.encode()
+            tries.run(f"limit is {value}", line + SCRIPT, "done", bad(number) + result(7))
     for value in ("1", "null", "{}", '"[]"'):
-        tries.run(f"arguments is {value}", json.dumps(refused)[:-1].encode() + b',"arguments":' + value.encode() + b"}\n", "done", bad(29))
+        tries.run(f"arguments is {value}", json.dumps(refused)[:-1].encode() + b',"arguments":' + value.encode() + b"}\n", "done", bad(22))
     for value in ("1e400", "01", "+1", "[1,]", "{,}", "tru", "'a'"):
-        tries.run(f"another field is {value}", ACCOUNT[:-2] + b',"more":' + value.encode() + b"}\n", "done", bad(29))
-    for line in (b'[{"kind":"account"}]', b'"account"', b"null", b"7", b"{}", b'{"kind":["account"]}', b'{"kind":"Account"}', b'{"Kind":"account"}'):
-        tries.run(f"the line {line}", line + b"\n" + ACCOUNT, "done", bad(29) + FIRST)
+        tries.run(f"another field is {value}", ACCOUNT[:-2] + b',"more":' + value.encode() + b"}\n", "done", bad(21))
+    for line in (b'[{"kind":"account"}]', b'"account"', b"null", b"7", b"{}", b'{"kind":["account"]}', b'{"Kind":"account"}'):
+        tries.run(f"the line {line}", line + b"\n" + ACCOUNT, "done", bad(22) + FIRST)
+    tries.run("a kind in capitals", b'{"kind":"Account"}\n' + ACCOUNT, "done", bad(23) + FIRST)
+    for field in ("address", "name", "code"):
+        line = {"kind": "deploy", "address": "0x1", "name": "C", "code": "fun"}
+        del line[field]
+        tries.run(f"a deploy without {field}", ACCOUNT + json.dumps(line).encode(), "done", FIRST + bad(22))
 
 
 def equal_fields(tries):
@@ -234,22 +267,24 @@ def equal_fields(tries):
     tries.run("the last of two codes", b"{" + first + b"," + code + b"}\n", "done", result(9))
     tries.run("the last of two codes, the first no text", b'{"code":5,' + first + b"}\n", "done", result(7))
     tries.run("the last of two limits", b'{"limit":"x","limit":-1,"code":"#","limit":3,"kind":"script"}\n', "done", rejected("lex", 0))
-    tries.run("the last of two limits is wrong", b'{"limit":3,"code":"#","limit":-0,"kind":"script"}\n', "done", bad(29))
+    tries.run("the last of two limits is wrong", b'{"limit":3,"code":"#","limit":-0,"kind":"script"}\n', "done", bad(22))
     tries.run("the last of two signers", ACCOUNT + SAVE.replace(b'"signers": ', b'"signers": [], "signers": '), "done", FIRST + model.DONE)
     fields = json.loads(SAVE)
     for order in (("code", "kind", "signers"), ("signers", "code", "kind"), ("kind", "code", "signers"), ("code", "signers", "kind")):
         line = json.dumps({name: fields[name] for name in order}).encode() + b"\n"
         tries.run(f"the order {order}", ACCOUNT + line, "done", FIRST + model.DONE)
+    for more, reply in ((b'"limit": 9999', model.DONE), (b'"arguments": []', model.DONE), (b'"limit": 9998', bad(29)), (b'"arguments": [1]', bad(29))):
+        tries.run(f"a save with {more}", ACCOUNT + SAVE.replace(b'{"kind"', b"{" + more + b', "kind"'), "done", FIRST + reply, preexec_fn=model.usual_stack)
 
 
 def odd_signers(tries):
     for signers, reply in {
         '["0x1"]': model.DONE, '["0x0000000000000001"]': model.DONE, '["0x0001"]': model.DONE,
         '["0x0"]': bad(26), '["0x2"]': bad(26), '["0xFfFFffffFFFFffff"]': bad(26), '["0xabcdef"]': bad(26),
-        '["0x00000000000000001"]': bad(29), '["0x"]': bad(29), '["0X1"]': bad(29), '["1"]': bad(29), '[""]': bad(29),
-        '["0x1 "]': bad(29), '[" 0x1"]': bad(29), '["0xg"]': bad(29), '["0x-1"]': bad(29), '["0x1_0"]': bad(29),
-        '["0x\u0661"]': bad(29), '["0x1\\u0000"]': bad(29), '["0x1","0x1"]': bad(29), "[]": bad(29), '"0x1"': bad(29),
-        "[1]": bad(29), "[null]": bad(29), '[["0x1"]]': bad(29), "null": bad(29), "{}": bad(29),
+        '["0x00000000000000001"]': bad(22), '["0x"]': bad(22), '["0X1"]': bad(22), '["1"]': bad(22), '[""]': bad(22),
+        '["0x1 "]': bad(22), '[" 0x1"]': bad(22), '["0xg"]': bad(22), '["0x-1"]': bad(22), '["0x1_0"]': bad(22),
+        '["0x\u0661"]': bad(22), '["0x1\\u0000"]': bad(22), '["0x1","0x1"]': bad(29), "[]": bad(29), '"0x1"': bad(22),
+        "[1]": bad(22), "[null]": bad(22), '[["0x1"]]': bad(22), "null": bad(22), "{}": bad(22),
     }.items():  # fmt: skip
         line = SAVE.replace(b'["0x1"]', signers.encode())
         tries.run(f"the signers {signers}", ACCOUNT + line, "done", FIRST + reply)
@@ -264,14 +299,14 @@ def nested_programs(tries):
             lines.append(code_line(nesting.text_of(form, count)))
             read.append(form[1] + count <= nesting.MOST)
             names.append(f"{form[0]}, {count} times")
-    done = tries.run("programs that nest", b"".join(lines), "done", None)
+    done = tries.run("programs that nest", b"".join(lines), "done", None, preexec_fn=model.usual_stack)
     for name, reply, wanted in zip(names, done.stdout.splitlines(keepends=True), read, strict=True):
         hold(is_read(reply) if wanted else reply == rejected("parse", 0), name, "gives", reply)
     for form in forms if tries.long else tries.chance.sample(forms, 10):
         head, _, tail = form[3]
         code = nesting.text_of(form, 900_000 // len(head + tail))
-        tries.run(f"{form[0]}, as often as there is room", code_line(code), "done", rejected("parse", 0))
-        tries.run(f"{form[0]}, not closed", code_line(form[2] + head * 200), "done", rejected("parse", 0))
+        tries.run(f"{form[0]}, as often as there is room", code_line(code), "done", rejected("parse", 0), preexec_fn=model.usual_stack)
+        tries.run(f"{form[0]}, not closed", code_line(form[2] + head * 200), "done", rejected("parse", 0), preexec_fn=model.usual_stack)
 
 
 def deploy_line(code, address="0x1", **more):
@@ -314,7 +349,7 @@ REFUSED_CONTRACTS = (
 
 
 def refused_code(tries):
-    """Code that breaks a rule: the first phase that refuses it, and where. Accepted code is bad 29."""
+    """Code that breaks a rule: the first phase that refuses it, and where. A contract that is accepted is bad 29."""
     for code, phase, at, inside in REFUSED:
         tries.run(f"the code {code!r}", code_line(code) + SCRIPT, "done", rejected(phase, at, inside) + result(7))
     for body, phase, at, inside in REFUSED_CONTRACTS:
@@ -326,27 +361,64 @@ def refused_code(tries):
     tries.run("a contract that nothing refuses", ACCOUNT + lines + lines, "done", FIRST + bad(29) * 2, folder)
     hold(model.accounts_in(folder) == model.Accounts(1), "a contract that nothing refuses changes the accounts")
     for more in ({"name": 1}, {"address": "1"}, {"arguments": {}}, {"limit": -1}):
-        tries.run(f"a deploy with {more}", ACCOUNT + deploy_line("fun", **{"address": "0x1", **more}), "done", FIRST + bad(29))
+        tries.run(f"a deploy with {more}", ACCOUNT + deploy_line("fun", **{"address": "0x1", **more}), "done", FIRST + bad(22))
+
+
+MANY = 1_000_000
+SUM = "access(all) fun main(): Int { return 7 }"
+HEAD = "access(all) fun main() { "
+VOID = b'{"reply":"ok","result":{"type":"Void"}}\n'
+
+# Scripts that nothing refuses: the code, the further fields of the line, and the reply.
+RUNS = (
+    (f"{HEAD}}}", {}, VOID),
+    ("access(all) fun main(): Bool { return 1 < 2 }", {}, b'{"reply":"ok","result":{"type":"Bool","value":true}}\n'),
+    ("access(all) fun main(a: Int8): Int8 { return a + 1 }", {"arguments": [{"type": "Int8", "value": "126"}]}, b'{"reply":"ok","result":{"type":"Int8","value":"127"}}\n'),
+    ("access(all) fun main(a: Int8): Int8 { return a + 1 }", {"arguments": [{"type": "Int8", "value": "127"}]}, model.failed(101)),
+    ("access(all) fun main(a: Int8): Int8 { return a + 1 }", {"arguments": [{"type": "Int", "value": "1"}]}, bad(24)),
+    ("access(all) fun main(a: Int8): Int8 { return a + 1 }", {"arguments": [{"type": "Int8", "value": "128"}]}, bad(24)),
+    ("access(all) fun main(a: Int8): Int8 { return a + 1 }", {}, bad(25)),
+    ("access(all) fun main(a: Int8): Int8 { return a + 1 }", {"arguments": [1, 2]}, bad(25)),
+    ("access(all) fun f() {}", {}, bad(26)),
+    ("access(self) fun main() {}", {"arguments": [1]}, bad(26)),
+    (f'{HEAD}panic("stop") }}', {}, model.failed(109)),
+    (f"{HEAD}while true {{}} }}", {"limit": 5}, b'{"reply":"limit"}\n'),
+    (f"{HEAD}while true {{}} }}", {}, b'{"reply":"limit"}\n'),
+    (f"{HEAD}main() }}", {"limit": 100}, b'{"reply":"limit"}\n'),
+    (f"{HEAD}main() }}", {}, model.failed(124)),
+    ("access(all) fun main(): Address { return getAccount(0x1).address }", {}, bad(29)),
+    ("access(all) fun main(): AnyStruct { return Type<Int>() }", {}, model.failed(134)),
+)
+
+
+def scripts(tries):
+    """Scripts that run: what they give, where they stop, and what is asked of their arguments. The accounts stay."""
+    folder = tries.folder()
+    for code, more, reply in RUNS:
+        tries.run(f"the script {code!r} with {more}", code_line(code, **more) + SCRIPT, "done", reply + result(7), folder)
+    tries.run("a script under another kind", json.dumps({"kind": "script", "code": "transaction {}"}).encode(), "done", bad(26), folder)
+    hold(model.accounts_in(folder) == model.Accounts(), "scripts change the accounts")
 
 
 def nested_code(tries):
     """Code that no phase refuses, as deep as it may nest, and once deeper: the walks of all phases have enough stack."""
     for name in nesting.RIGHT:
         lines = deploy_line(nesting.right_code(name)) + deploy_line(nesting.right_code(name, 1))
-        tries.run(f"{name} in a contract", ACCOUNT + lines, "done", FIRST + bad(29) + rejected("parse", 0))
+        refused = rejected("resolve" if name in nesting.HIGH else "parse", 0)
+        tries.run(f"{name} in a contract", ACCOUNT + lines, "done", FIRST + bad(29) + refused, preexec_fn=model.usual_stack)
+    for brackets, signs, reply in ((2, 120, bad(29)), (3, 120, rejected("resolve", 0)), (60, 60, rejected("resolve", 0))):
+        lines = deploy_line(nesting.high_code(brackets, signs))
+        tries.run(f"{brackets} sums of {signs} in each other", ACCOUNT + lines, "done", FIRST + reply)
 
 
-MANY = 1_000_000
-SUM = "access(all) fun main(): Int { return 7 }"
-HEAD = "access(all) fun main() { "
 LONG_CODE = (
-    ("a long name", f"access(all) fun {'n' * MANY}() {{}}", bad(29)),
+    ("a long name", f"access(all) fun {'n' * MANY}() {{}}", bad(26)),
     ("a long comment", f"/*{'c' * MANY}*/{SUM}", result(7)),
     ("a long comment to the end", f"{SUM}//{'c' * MANY}", result(7)),
     ("a long comment that isn't closed", f"/*{'c' * MANY}", rejected("lex", 0)),
     ("comments in comments", "/*" * (MANY // 4) + "*/" * (MANY // 4) + SUM, result(7)),
     ("comments in comments that aren't closed", "/*" * (MANY // 2), rejected("lex", 0)),
-    ("a long text", f'{HEAD}let x = "{"t" * MANY}" }}', bad(29)),
+    ("a long text", f'{HEAD}let x = "{"t" * MANY}" }}', VOID),
     ("a long text that isn't closed", f'{HEAD}let x = "{"t" * MANY}', rejected("lex", len(HEAD) + 8)),
     ("a long gap", SUM.replace("7", " " * MANY + "7"), result(7)),
     ("many line feeds", "\n" * (MANY // 2) + SUM, result(7)),
@@ -362,7 +434,7 @@ LONG_CODE = (
     ("many semicolons", f"{HEAD}{';' * MANY} }}", rejected("parse", 0)),
     ("many parameters", f"access(all) fun f({'a: A, ' * (MANY // 6)}) {{}}", rejected("resolve", 0, "f")),
     ("many arguments", f"{HEAD}f({'1,' * (MANY // 2)}) }}", rejected("types", 0, "main")),
-    ("many elements", f"{HEAD}let x = [{'1,' * (MANY // 2)}] }}", bad(29)),
+    ("many elements", f"{HEAD}let x = [{'1,' * (MANY // 2)}] }}", model.failed(123)),
     ("many parts of a name", f"{HEAD}let x: A{'.A' * (MANY // 2)} = 1 }}", rejected("resolve", 0, "main")),
     ("many entitlements", f"access(A{', A' * (MANY // 3)}) fun f() {{}}", rejected("resolve", 0, "f")),
     ("many members of an intersection", f"{HEAD}let x: {{A{', A' * (MANY // 3)}}} = 1 }}", rejected("resolve", 0, "main")),
@@ -533,18 +605,23 @@ def closed_streams(tries):
 
 def little_memory(tries):
     """Limits on memory, from too little for the system to start the program: what was replied to is there, and right."""
-    commands = [("account",), ("save", 1, None, [[40], [2]], "x"), ("script", [[1]] * 50_000), ("account",)]
+    commands = [("account",), ("save", 1, None, [[40], [2]], "x"), ("script", [[1]] * 120), ("account",)]
     lines = b"".join(map(model.line_of, commands))
     replies, states = model.replies_to(commands, model.Accounts())
     for kilobytes in [*range(2500, 5000, 20 if tries.long else 100), *range(5000, 60_000, 1000 if tries.long else 8000)]:
         folder, limit = tries.folder(), (kilobytes << 10, kilobytes << 10)
         done = model.run(tries.program, folder, lines, preexec_fn=lambda: resource.setrlimit(resource.RLIMIT_AS, limit))
         tries.count += 1
-        hold(done.returncode in (0, 6) or done.returncode == 127 and done.stdout == b"", f"with {kilobytes} KiB the status is", done.returncode)
+        # The system can't start it; or the limit, which counts the stack too, leaves the stack less than it may have.
+        small = kilobytes << 10 < 2 * os.path.getsize(tries.program) + model.STACK
+        started = done.returncode != 127
+        statuses = (0, 6, -signal.SIGSEGV) if small else (0, 6)
+        hold(done.returncode in statuses if started else done.stdout == b"", f"with {kilobytes} KiB the status is", done.returncode)
         told = done.stdout.count(b"\n")
         hold(done.stdout == b"".join(replies[:told]), f"with {kilobytes} KiB the replies are", done.stdout)
         hold((told == 4) == (done.returncode == 0), f"with {kilobytes} KiB there are {told} replies")
-        hold(model.accounts_in(folder) == states[told], f"with {kilobytes} KiB the accounts are others")
+        kept = states[told : told + 2] if done.returncode == -signal.SIGSEGV else [states[told]]  # what was done may not be told yet
+        hold(model.accounts_in(folder) in kept, f"with {kilobytes} KiB the accounts are others")
 
 
 def two_runs(tries):
@@ -653,7 +730,7 @@ def most_accounts(tries):
 
 KINDS = [
     random_bytes, changed_lines, cut_lines, long_lines, deep_lines, odd_lines, control_characters, half_characters, odd_fields,
-    equal_fields, odd_signers, refused_code, nested_programs, nested_code, long_programs, odd_words, odd_folders, few_files, odd_files, odd_streams,
+    equal_fields, odd_signers, refused_code, scripts, nested_programs, nested_code, long_programs, odd_words, odd_folders, few_files, odd_files, odd_streams,
     slow_streams, closed_streams, little_memory, two_runs, cut_stores, changed_stores, odd_stores, most_accounts,
 ]  # fmt: skip
 
@@ -670,6 +747,7 @@ def options_of():
 
 def main():
     options, wrong = options_of(), 0
+    model.give_stack()
     with tempfile.TemporaryDirectory() as name:
         base = pathlib.Path(name)
         base.chmod(0o755)

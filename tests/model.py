@@ -5,12 +5,27 @@ A command is a tuple: ("account",), ("script", products), or ("save", signer, lo
 or None, and `products` is a list of lists of literals: their sum is saved at `to`. A loaded number is the first factor.
 """
 import json
+import resource
 import subprocess
 
 GREATEST = 2**127 - 1
 MOST_ACCOUNTS = 1_000_000
 STATUSES = {"done": 0, "usage": 2, "read": 3, "write": 4, "disk": 5, "memory": 6, "store": 7, "bound": 8}
 DONE = b'{"destroyed":[],"events":[],"made":[],"reply":"ok"}\n'
+
+
+STACK = 8 << 20  # what systems usually give a program
+
+
+def give_stack():
+    """Gives the programs that are run from here as much stack as the system allows: calls nest on it, and code in them."""
+    most = resource.getrlimit(resource.RLIMIT_STACK)[1]
+    resource.setrlimit(resource.RLIMIT_STACK, (most, most))
+
+
+def usual_stack():
+    """For a program that is about to begin: the 8 MB of stack that systems usually give."""
+    resource.setrlimit(resource.RLIMIT_STACK, (STACK, resource.getrlimit(resource.RLIMIT_STACK)[1]))
 
 
 def failed(number):

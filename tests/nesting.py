@@ -96,7 +96,9 @@ TYPE_PLACES = {
 }
 
 # Forms of code that no phase refuses, in a function whose parameters are below: how often at most, what is repeated before
-# and behind its middle, and the middle. The trees of some are three times as deep as their nestings.
+# and behind its middle, and the middle. The trees of some are three times as deep as their nestings, and a tree may have 256
+# levels: of these the tree is too high before there are 128 nestings.
+HIGH = ("values of dictionaries", "keys of dictionaries")
 RIGHT = {
     "sums": (126, "let y = ", ("", "i", " + i")),
     "sums to the right": (63, "let y = ", ("i + (", "i", ")")),
@@ -106,8 +108,8 @@ RIGHT = {
     "forced casts": (125, "let y = ", ("(", "i", " as? Int)!")),
     "arrays": (126, "let y = ", ("[", "i", "]")),
     "elements of arrays": (126, "let y = ", ("[", "i", "][0]")),
-    "values of dictionaries": (125, "let y = ", ("{1: ", "i", "}[1]!")),
-    "keys of dictionaries": (125, "let y = ", ("{", "i", ": 1}[1]!")),
+    "values of dictionaries": (85, "let y = ", ("{1: ", "i", "}[1]!")),
+    "keys of dictionaries": (85, "let y = ", ("{", "i", ": 1}[1]!")),
     "indexes": (126, "let y = ", ("a[", "i", "]")),
     "keys": (125, "let y = ", ("d[", "i", "]!")),
     "conversions": (126, "let y = ", ("Int(", "i", ")")),
@@ -158,3 +160,11 @@ def right_code(name, more=0):
     count, before, (head, middle, tail) = RIGHT[name]
     count += more
     return RIGHT_AROUND[0] + before + head * count + middle + tail * count + RIGHT_AROUND[1]
+
+
+def high_code(brackets, signs):
+    """A contract with a tree of brackets times signs levels: behind a closed bracket signs count anew."""
+    sum_ = "i"
+    for _ in range(brackets):
+        sum_ = f"({sum_}{' + i' * signs})"
+    return f"{RIGHT_AROUND[0]}let x = {sum_}{RIGHT_AROUND[1]}"

@@ -20,6 +20,7 @@ import subprocess
 import sys
 import tempfile
 
+import model
 import reference_syntax
 import syntax_programs
 from reference_syntax import KEYWORDS, SIGNS, stop_of
@@ -376,10 +377,10 @@ LATER = ("resolve", "types", "conformance", "moves", "purity", "initialisation")
 
 
 def answer_of(reply):
-    if reply in (b'{"error":"29","reply":"bad"}', b'{"error":"101","reply":"failed"}') or reply.startswith(b'{"reply":"ok"'):
-        return None
     told = json.loads(reply)
-    if told.get("reply") != "rejected":
+    if told["reply"] in ("ok", "failed", "limit") or told["reply"] == "bad" and told["error"] in ("25", "26", "29"):
+        return None
+    if told["reply"] != "rejected":
         return reply
     if told["phase"] in LATER:
         return None
@@ -411,6 +412,7 @@ def texts_of(options):
 def main():
     options, wrong = options_of(), 0
     sys.setrecursionlimit(20_000)
+    model.give_stack()
     with tempfile.TemporaryDirectory() as folder:
         judge, texts = Judge(options, folder), texts_of(options)
         while batch := list(itertools.islice(texts, options.batch)):

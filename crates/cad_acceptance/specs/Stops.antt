@@ -1,11 +1,12 @@
 -- Where a program, or a text, is refused first.
-use Rattle.std.specs.Prelude.{◌≡◌, ◌⊎◌, ℕ, Option, Result, Ok, Err, List, []}
+use Rattle.std.specs.Prelude.{◌≡◌, ◌⊎◌, ℕ, Bool, true, false, Option, Result, Ok, Err, List, []}
 use Rattle.cad_syntax.specs.declared.address.Address.{Address}
 use Rattle.cad_grammar.specs.Trees.{ProgramTree}
 use Rattle.cad_grammar.specs.declared.phase.Phase.{Phase}
 use Rattle.cad_grammar.specs.declared.phase.Phase.TheVariants as phase
+use Rattle.cad_heights.specs.Programs.{is_too_high}
 use Rattle.cad_parse.specs.Program.{Parses, Refuses}
-use Rattle.cad_declarations.specs.Build.{build}
+use Rattle.cad_declarations.specs.Build.{build, stop_at}
 use Rattle.cad_declarations.specs.Imports.{ContractEntry, all_imported, closure}
 use Rattle.cad_declarations.specs.Meets.{Each}
 use Rattle.cad_declarations.specs.Tables.{ProgramTables}
@@ -23,9 +24,17 @@ pub record Subject : Type 0 where
 abbrev pub subject : List ContractEntry → Option Address → ProgramTree → Subject
 subject deployed place program = record { imports = closure deployed (all_imported program.imports); place = place; program = program }
 
--- its tables, or where its names are refused
+-- A program is refused as a whole where an expression of it has too many levels.
+abbrev pub as_a_whole : Stop
+as_a_whole = stop_at [] 0
+
+abbrev pub tables_if : Bool → Subject → Result ProgramTables Stop
+tables_if true s = Err as_a_whole
+tables_if false s = build s.imports s.place s.program
+
+-- its tables, or where it is too high, or its names are refused
 abbrev pub subject_tables : Subject → Result ProgramTables Stop
-subject_tables s = build s.imports s.place s.program
+subject_tables s = tables_if (is_too_high s.program) s
 
 -- The names are all there, each phase before this one refuses nothing, and this one stops.
 pub record StopsFirst (s : Subject) (phase : Phase) (stop : Stop) : Type 0 where

@@ -70,7 +70,7 @@ mutual
   same_eval N front calls calls' (e.string text) near = same_give N (of_plain (v.string text))
   same_eval N front calls calls' (e.character text) near = same_give N (of_plain (v.character text))
   same_eval N front calls calls' (e.path p) near = same_give N (of_plain (v.path p))
-  same_eval N front calls calls' (e.meta type) near = same_give N (type_tree type)
+  same_eval N front calls calls' (e.meta type) near = same_ticks N _ _ (ticks_bind N _ _ _ _ (ticks_tick N) (λ u1. (same_give (N - 1) (type_tree type))))
   same_eval N front calls calls' (e.case id n) near = same_case_tree N id n
   same_eval N front calls calls' (e.copy p) near = same_bind N _ _ _ _ (same_bind N _ _ _ _ (same_eval_place N front calls calls' p false near) (λ v1. (same_value_at N v1))) (λ v2. (same_copied N v2))
   same_eval N front calls calls' (e.take p) near = same_bind N _ _ _ _ (same_eval_place N front calls calls' p false near) (λ v1. (same_taken_from N v1))

@@ -1,3 +1,4 @@
+mod Acceptances
 mod Ordered
 mod Refused
 mod Texts

@@ -1,5 +1,5 @@
 -- Verdicts on programs and texts.
-use Rattle.std.specs.Prelude.{ℕ, Option, Some, None, Result, Ok, Err, List, [], ◌∷◌}
+use Rattle.std.specs.Prelude.{ℕ, true, false, Option, Some, None, Result, Ok, Err, List, [], ◌∷◌}
 use Rattle.std.proofs.Common.{◌≡◌, refl, sym, ◌∙◌, ap, subst, inl, inr}
 use Rattle.std.specs.Result.{IfOk}
 use Rattle.cad_syntax.specs.declared.address.Address.{Address}
@@ -20,7 +20,8 @@ use Rattle.cad_typing.specs.Pieces.{Piece, program_pieces}
 use Rattle.cad_typing.specs.Programs.{IsRight, IllTyped, program_bodies}
 use Rattle.cad_acceptance.specs.Acceptance.{Accepts, AcceptsText, checked_of}
 use Rattle.cad_acceptance.specs.Phases.{Passes, Stops, phases}
-use Rattle.cad_acceptance.specs.Stops.{Subject, subject, subject_tables, ProgramStops, ProgramStop, FirstStop}
+use Rattle.cad_heights.specs.Programs.{is_too_high}
+use Rattle.cad_acceptance.specs.Stops.{Subject, subject, as_a_whole, tables_if, subject_tables, ProgramStops, ProgramStop, FirstStop}
 use Rattle.cad_table_laws.specs.Laws.{ImportsAreEnough}
 use Rattle.cad_check.specs.Answers.{FirstRefusal, Verdict, TextVerdict}
 
@@ -65,8 +66,13 @@ well_typed tables program pieces is h = subst (λ (all : List Piece). Each (IsRi
 -- ---- beside the contracts that are imported
 
 pub subject_built : ImportsAreEnough → (deployed : List ContractEntry) (place : Option Address) (program : ProgramTree) (made : Result ProgramTables Stop)
-    → made ≡ build deployed place program → subject_tables (subject deployed place program) ≡ made
-subject_built enough deployed place program made is = enough deployed place program ∙ sym is
+    → is_too_high program ≡ false → made ≡ build deployed place program → subject_tables (subject deployed place program) ≡ made
+subject_built enough deployed place program made low is =
+    ap (λ b. tables_if b (subject deployed place program)) low ∙ enough deployed place program ∙ sym is
+
+pub subject_high : (deployed : List ContractEntry) (place : Option Address) (program : ProgramTree)
+    → is_too_high program ≡ true → subject_tables (subject deployed place program) ≡ Err as_a_whole
+subject_high deployed place program high = ap (λ b. tables_if b (subject deployed place program)) high
 
 -- ---- texts
 

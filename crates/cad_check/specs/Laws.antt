@@ -19,3 +19,8 @@ OneFirstStop = (deployed : List ContractEntry) (place : Option Address) (text : 
 abbrev pub AcceptedTextsHaveNoStop : Type 0
 AcceptedTextsHaveNoStop = (deployed : List ContractEntry) (place : Option Address) (text : List ℕ) (checked : CheckedProgram) (r : Rejected)
     → AcceptsText deployed place text checked → FirstStop deployed place text r → ⊥
+
+-- a text is checked to one program
+abbrev pub OneAcceptance : Type 0
+OneAcceptance = (deployed : List ContractEntry) (place : Option Address) (text : List ℕ) (x y : CheckedProgram)
+    → AcceptsText deployed place text x → AcceptsText deployed place text y → x ≡ y

@@ -1,6 +1,6 @@
 // The check of a program.
 ghost use Rattle.std.specs.Prelude.{◌≡◌, IfOk, None, Ok};
-ghost use Rattle.cad_acceptance.specs.Stops.{Subject, subject, subject_tables};
+ghost use Rattle.cad_acceptance.specs.Stops.{Subject, as_a_whole, subject, subject_tables};
 ghost use Rattle.cad_check.specs.Answers.{FirstOf, Gathered, Verdict};
 ghost use Rattle.cad_declarations.specs.Views.{tables_of};
 ghost use Rattle.cad_grammar.specs.Views.{program_of};
@@ -14,8 +14,9 @@ use cad_declarations::{Bodies, Checked, Deployed, Rejected, Stop, Tables};
 use cad_discards::{discard_program, discard_tables};
 use cad_environment::Known;
 use cad_grammar::{Phase, Program};
+use cad_heights::is_too_high;
 use cad_pieces::{Piece, bodies, discard_pieces};
-use cad_syntax::Address;
+use cad_syntax::{Address, Names};
 use cad_table_laws::imports_are_enough;
 use cad_tables::build;
 use std::alloc::{AllocError, Global};
@@ -105,6 +106,17 @@ fn check_with(
     }
 }
 
+/// The rejection of a program that is too high: as a whole.
+fn too_high(alloc: Global) -> Rejected
+    ensures { result ≡ record { phase = Phase.Resolve; inside = as_a_whole.inside; at = as_a_whole.at } }
+{
+    Rejected {
+        phase: Phase::Resolve,
+        inside: Names::new(alloc),
+        at: 0,
+    }
+}
+
 /// The program with its tables and elaborated bodies, where no phase refuses it at a place beside deployed contracts; else the
 /// phase that refuses it first, and where.
 pub fn check(
@@ -116,6 +128,10 @@ pub fn check(
     ensures { IfOk result (λ verdict. Verdict (subject (contracts_of deployed.now) place (program_of program)) verdict) }
 {
     imports_are_enough();
+    if is_too_high(&program) {
+        discard_program(program);
+        return Ok(Err(too_high(alloc)));
+    }
     match build(alloc, &program, place, deployed) {
         Ok(Ok(tables)) => check_with(alloc, tables, program),
         Ok(Err(stop)) => {

@@ -10,5 +10,5 @@ mod text;
 
 pub use checking::check;
 pub use front::{Front, FrontEnd};
-pub use laws::{no_stop_of_accepted, one_stop};
+pub use laws::{no_stop_of_accepted, one_acceptance, one_stop};
 pub use text::{check_text, first_stop};

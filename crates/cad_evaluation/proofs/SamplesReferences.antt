@@ -34,11 +34,11 @@ unfolding n.outcome
 copied_field = refl
 
 -- a reference sees the optionals that were seen when it was made
-sees_optional : gives bool_type (declares 0 (optional int_type) (literal 1) ∷ declares 1 any_type (copy 0) ∷ declares 2 (link any_type) (refer (e.variable 1) any_type) ∷ []) (calls (e.target (copy 2)) m.IsInstance (giving (e.meta (optional int_type)) (basic b.Meta) ∷ [])) ≡ gave (v.bool true) 25
+sees_optional : gives bool_type (declares 0 (optional int_type) (literal 1) ∷ declares 1 any_type (copy 0) ∷ declares 2 (link any_type) (refer (e.variable 1) any_type) ∷ []) (calls (e.target (copy 2)) m.IsInstance (giving (e.meta (optional int_type)) (basic b.Meta) ∷ [])) ≡ gave (v.bool true) 24
 unfolding n.outcome
 sees_optional = refl
 
-sees_content : gives bool_type (declares 0 (optional int_type) (literal 1) ∷ declares 1 any_type (copy 0) ∷ declares 2 (link any_type) (e.borrow (e.variable 1) Unauthorized any_type true false) ∷ []) (calls (e.target (copy 2)) m.IsInstance (giving (e.meta int_type) (basic b.Meta) ∷ [])) ≡ gave (v.bool true) 25
+sees_content : gives bool_type (declares 0 (optional int_type) (literal 1) ∷ declares 1 any_type (copy 0) ∷ declares 2 (link any_type) (e.borrow (e.variable 1) Unauthorized any_type true false) ∷ []) (calls (e.target (copy 2)) m.IsInstance (giving (e.meta int_type) (basic b.Meta) ∷ [])) ≡ gave (v.bool true) 24
 unfolding n.outcome
 sees_content = refl
 

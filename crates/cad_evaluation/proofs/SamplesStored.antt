@@ -117,7 +117,7 @@ cast_to_int : retold int_type (e.unary u.Dereference (copy 2)) ≡ failed_with 1
 unfolding n.outcome
 cast_to_int = refl
 
-stays_of_any : retold bool_type (call (copy 1) m.IsInstance [] (given (e.meta text_type) (basic b.Meta) ∷ [])) ≡ gave (v.bool true) 17
+stays_of_any : retold bool_type (call (copy 1) m.IsInstance [] (given (e.meta text_type) (basic b.Meta) ∷ [])) ≡ gave (v.bool true) 16
 unfolding n.outcome
 stays_of_any = refl
 

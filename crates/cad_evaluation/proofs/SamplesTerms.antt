@@ -229,12 +229,12 @@ unfolding n.outcome
 big_endian = refl
 
 -- (1).isInstance(Type<Int>())
-instance : alone (basic b.Bool) (e.return_value 0 (e.hold 0 int_type (literal 1) (e.on (e.variable 0) (e.builtin_call m.IsInstance [] (e.arguments_of (record { value = (e.meta int_type); target = (basic b.Meta) } ∷ []))))) (basic b.Bool) ∷ []) 9 ≡ gave (v.bool true) 7
+instance : alone (basic b.Bool) (e.return_value 0 (e.hold 0 int_type (literal 1) (e.on (e.variable 0) (e.builtin_call m.IsInstance [] (e.arguments_of (record { value = (e.meta int_type); target = (basic b.Meta) } ∷ []))))) (basic b.Bool) ∷ []) 9 ≡ gave (v.bool true) 6
 unfolding n.outcome
 instance = refl
 
 -- Type<[Int]>().identifier
-type_name : alone (basic b.String) (e.return_value 0 (e.hold 0 (basic b.Meta) (e.meta (array int_type)) (e.on (e.variable 0) (e.builtin_field m.TypeIdentifier))) (basic b.String) ∷ []) 9 ≡ gave (v.string (codes "[Int]")) 6
+type_name : alone (basic b.String) (e.return_value 0 (e.hold 0 (basic b.Meta) (e.meta (array int_type)) (e.on (e.variable 0) (e.builtin_field m.TypeIdentifier))) (basic b.String) ∷ []) 9 ≡ gave (v.string (codes "[Int]")) 5
 unfolding n.outcome
 type_name = refl
 

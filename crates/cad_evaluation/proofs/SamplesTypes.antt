@@ -145,7 +145,7 @@ unfolding n.outcome
 no_owner = refl
 
 -- getType through a reference is the node's type
-type_of_node : run (basic b.Bool) (e.declare 0 (variable 0 (declared s_id)) (e.construct s_id (e.arguments_of (record { value = (literal 5); target = int_type } ∷ []))) ∷ e.declare 0 (variable 1 (reference Unauthorized (basic b.AnyStruct))) (e.borrow (e.variable 0) Unauthorized (basic b.AnyStruct) false false) ∷ e.return_value 0 (e.on (e.target (e.copy (e.variable 1))) (e.builtin_call m.IsInstance [] (e.arguments_of (record { value = (e.meta (declared s_id)); target = (basic b.Meta) } ∷ [])))) (basic b.Bool) ∷ []) 25 ≡ gave (v.bool true) 14
+type_of_node : run (basic b.Bool) (e.declare 0 (variable 0 (declared s_id)) (e.construct s_id (e.arguments_of (record { value = (literal 5); target = int_type } ∷ []))) ∷ e.declare 0 (variable 1 (reference Unauthorized (basic b.AnyStruct))) (e.borrow (e.variable 0) Unauthorized (basic b.AnyStruct) false false) ∷ e.return_value 0 (e.on (e.target (e.copy (e.variable 1))) (e.builtin_call m.IsInstance [] (e.arguments_of (record { value = (e.meta (declared s_id)); target = (basic b.Meta) } ∷ [])))) (basic b.Bool) ∷ []) 25 ≡ gave (v.bool true) 13
 unfolding n.outcome
 type_of_node = refl
 

@@ -75,7 +75,7 @@ abbrev mutual
   eval front calls (e.string text) = give (of_plain (v.string text))
   eval front calls (e.character text) = give (of_plain (v.character text))
   eval front calls (e.path p) = give (of_plain (v.path p))
-  eval front calls (e.meta type) = give (type_tree type)
+  eval front calls (e.meta type) = tick >> give (type_tree type)
   eval front calls (e.case id n) = case_tree id n
   eval front calls (e.copy p) = eval_place front calls p false >>= value_at >>= copied
   eval front calls (e.take p) = eval_place front calls p false >>= taken_from

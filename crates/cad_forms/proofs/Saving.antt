@@ -159,12 +159,20 @@ behind_head tokens s h kinds e = record {
   ends = ends_save s.to;
 }
 
-pub one_save : (tokens : List Token) (s t : Save) → IsSave tokens s → IsSave tokens t → s ≡ t
+one_save : (tokens : List Token) (s t : Save) → IsSave tokens s → IsSave tokens t → s ≡ t
 one_save tokens s t a b =
     let kinds = first_kinds s.load s.first ++ (term_kinds s.others ++ save_tail_kinds s.to) in
     let w = same_reads kinds s.load t.load s.first t.first s.others t.others (save_tail_kinds s.to) (save_tail_kinds t.to) (behind_head tokens s a kinds a.kinds) (behind_head tokens t b kinds a.kinds) in
     let to = same_tail s.to t.to w.3 in
     λ i. record { load = w.0 i; first = w.1 i; others = w.2 i; to = to i }
+
+pub same_code : ((text : List ℕ) (a b : List Token) → Lexes text a → Lexes text b → a ≡ b) → (code : List ℕ) (s t : Save) → IsSaveCode code s → IsSaveCode code t → s ≡ t
+same_code one code s t a b = one_save b.tokens s t (subst (λ ts. IsSave ts s) (one code a.tokens b.tokens a.lexes b.lexes) a.is) b.is
+
+-- a code by its tokens
+
+pub lexed_as : (code text : List ℕ) (tokens given : List Token) → text ≡ code → given ≡ tokens → Lexes text tokens → Lexes code given
+lexed_as code text tokens given is same lexes = subst (λ ts. Lexes code ts) (sym same) (subst (λ t. Lexes t tokens) is lexes)
 
 code_means : {V : Type 0} (seen : V → Save) → ((text : List ℕ) (a b : List Token) → Lexes text a → Lexes text b → a ≡ b) → (code : List ℕ) (tokens : List Token) → Lexes code tokens → (o : Option V)
     → MatchOption o ((s : Save) → IsSave tokens s → ⊥) (λ v. IsSave tokens (seen v)) → MatchOption o ((s : Save) → IsSaveCode code s → ⊥) (λ v. IsSaveCode code (seen v))

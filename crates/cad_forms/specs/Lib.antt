@@ -1,5 +1,4 @@
 pub mod Code
-pub mod Request
 pub mod Saves
 pub mod Sums
 pub mod Views

@@ -2,18 +2,10 @@
 use Rattle.std.specs.Prelude.{ℕ, List, map, Vec, option_map}
 use Rattle.std.specs.declared.alloc.Global.{Global}
 use Rattle.cad_forms.specs.Saves.{Save}
-use Rattle.cad_forms.specs.Request.{Request, script, account, save}
 use Rattle.cad_forms.specs.declared.save.Save as own
-use Rattle.cad_forms.specs.declared.form.Asked.{Asked}
-use Rattle.cad_forms.specs.declared.form.Asked.TheVariants as asked
 
 abbrev pub products_of : List (Vec ℕ Global) → List (List ℕ)
 products_of = map (λ v. v.items)
 
 abbrev pub save_of : own.Save → Save
 save_of s = record { load = option_map (λ n. n.0) s.load; first = s.first.items; others = products_of s.others.items; to = s.to.0 }
-
-abbrev pub request_of : Asked → Request
-request_of (asked.Script products) = script (products_of products.items)
-request_of asked.Account = account
-request_of (asked.Save signer s) = save signer.0 (save_of s)

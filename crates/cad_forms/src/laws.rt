@@ -1,12 +1,12 @@
-// Laws of requests.
+// Laws of the form of a save.
 ghost use Rattle.std.specs.Prelude.{◌≡◌, List, ℕ};
-ghost use Rattle.cad_forms.specs.Request.{Request, Asks};
+ghost use Rattle.cad_forms.specs.Saves.{Save, IsSaveCode};
 
 use cad_lex::one_lexing;
 
-/// A line asks for one thing at most.
-pub fn one_request()
-    ensures { (line : List ℕ) (r s : Request) → Asks line r → Asks line s → r ≡ s }
+/// A code saves one thing at most.
+pub fn one_save()
+    ensures { (code : List ℕ) (s t : Save) → IsSaveCode code s → IsSaveCode code t → s ≡ t }
 {
     one_lexing();
 }

@@ -1,18 +1,13 @@
-//! The requests that the program runs today: what a line asks for, and the values of sums.
+//! The form of the transactions that run today: a sum that is saved, and the value of the sum.
 #![tactic(auto)]
 
-mod form;
 mod laws;
 mod mark;
-mod request;
 mod save;
-mod script;
 mod sum;
 #[cfg(test)]
 mod tests;
 
-pub use form::Asked;
-pub use laws::one_request;
-pub use request::asked;
-pub use save::Save;
-pub use sum::{value_of_save, value_of_sum};
+pub use laws::one_save;
+pub use save::{Save, save_form};
+pub use sum::value_of_save;

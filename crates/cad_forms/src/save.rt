@@ -163,8 +163,8 @@ fn read_save(alloc: Global, tokens: &[Token]) -> Result<Option<Save>, AllocError
     }))
 }
 
-/// What a code saves, where it is such a transaction.
-pub fn saved(alloc: Global, code: &str) -> Result<Option<Save>, AllocError>
+/// What a code saves, where it is a transaction of the one form that runs; None where it is none.
+pub fn save_form(alloc: Global, code: &str) -> Result<Option<Save>, AllocError>
     ensures { IfOk result (λ o. MatchOption o ((save : spec.Save) → IsSaveCode code.now save → ⊥) (λ save. IsSaveCode code.now (save_of save))) }
 {
     one_lexing();

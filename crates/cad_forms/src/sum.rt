@@ -5,7 +5,7 @@ ghost use Rattle.cad_grammar.specs.declared.token.TokenKind.{TokenKind};
 ghost use Rattle.cad_grammar.specs.declared.token.TokenKind.TheVariants as kind;
 ghost use Rattle.cad_grammar.specs.declared.token.Sign.TheVariants as sign;
 ghost use Rattle.cad_num.specs.Numbers.{value_of, valued};
-ghost use Rattle.cad_forms.specs.Sums.{kinds_of, literal, greatest, IsProduct, times, plus, sum_value};
+ghost use Rattle.cad_forms.specs.Sums.{kinds_of, literal, greatest, IsProduct, times, plus};
 ghost use Rattle.cad_forms.specs.Saves.{saved_value};
 ghost use Rattle.cad_forms.specs.Code.Parts.{Lacks, Multiplies, Adds};
 ghost use Rattle.cad_forms.specs.Views.{products_of};
@@ -140,15 +140,6 @@ fn plus(start: Num, products: &[Vec<u128>]) -> Result<Num, NumError>
         }
     }
     Ok(value)
-}
-
-/// The value of a sum: products first, and all from left to right.
-pub fn value_of_sum(sum: &[Vec<u128>]) -> Result<Num, NumError>
-    requires { AllByRecursion IsProduct (products_of sum.now) }
-    ensures value { valued result ≡ sum_value (products_of sum.now) }
-    ensures kind { IfOk result (λ n. n.kind ≡ Kind.Int) }
-{
-    plus(number(0), sum)
 }
 
 /// The value of a sum whose first factor has this value: products first, and all from left to right.

@@ -100,7 +100,7 @@ mutual
   eval_keeps front calls (e.string text) keep = keeps_give HasNone (of_plain (v.string text)) (λ p. refl)
   eval_keeps front calls (e.character text) keep = keeps_give HasNone (of_plain (v.character text)) (λ p. refl)
   eval_keeps front calls (e.path p) keep = keeps_give HasNone (of_plain (v.path p)) (λ p. refl)
-  eval_keeps front calls (e.meta type) keep = keeps_give HasNone (type_tree type) (λ p. refl)
+  eval_keeps front calls (e.meta type) keep = keeps_bind AnyOne HasNone _ _ (keeps_spend 1) (λ u1 h_u1. keeps_give HasNone (type_tree type) (λ p. refl))
   eval_keeps front calls (e.case id n) keep = case_tree_keeps id n
   eval_keeps front calls (e.copy p) keep = keeps_bind AnyOne HasNone _ _ (keeps_bind AnyOne AnyOne _ _ (eval_place_keeps front calls p false keep) (λ v1 h_v1. value_at_keeps v1)) (λ v2 h_v2. copied_keeps v2)
   eval_keeps front calls (e.take p) keep = keeps_bind AnyOne HasNone _ _ (eval_place_keeps front calls p false keep) (λ v1 h_v1. taken_from_keeps v1)

@@ -1,5 +1,6 @@
 pub mod Changes
 pub mod Filling
+pub mod Finding
 pub mod Frames
 pub mod Nodes
 pub mod Spending

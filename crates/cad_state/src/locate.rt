@@ -64,7 +64,7 @@ impl RunState {
     }
 
     /// The node with a label, if its hint leads there; so it does behind `locate`. It takes no memory.
-    pub fn node(&self, label: u64) -> Option<Node<'_>>
+    fn hinted(&self, label: u64) -> Option<Node<'_>>
         ensures { IfSome result (λ n. (accounts : List Account) → IsReady accounts self.now → spec.at label (state_over accounts self.now) ≡ Some (pure_node n)) }
     {
         a_node_with_the_label_is_the_node();
@@ -148,6 +148,28 @@ impl RunState {
         }
     }
 
+    /// The node with a label, by a search in all rows. None too where memory ran out.
+    fn searched(&self, label: u64) -> Option<Node<'_>>
+        ensures { IfSome result (λ n. (accounts : List Account) → IsReady accounts self.now → spec.at label (state_over accounts self.now) ≡ Some (pure_node n)) }
+    {
+        a_node_with_the_label_is_the_node();
+        match self.way(label) {
+            Ok(Some(way)) => self.reach_labelled(&way, label),
+            _ => None,
+        }
+    }
+
+    /// The node with a label, by its hint or else by a search. None where no node has it, and where memory ran out. Behind
+    /// `locate` it takes no memory and no search, unless another label's hint has taken the place of this one's since.
+    pub fn node(&self, label: u64) -> Option<Node<'_>>
+        ensures { IfSome result (λ n. (accounts : List Account) → IsReady accounts self.now → spec.at label (state_over accounts self.now) ≡ Some (pure_node n)) }
+    {
+        match self.hinted(label) {
+            Some(node) => Some(node),
+            None => self.searched(label),
+        }
+    }
+
     /// Keeps the way to a label's node as its hint.
     fn keep(&mut self, label: u64, way: Way) -> Result<(), AllocError>
         ensures { (accounts : List Account) → state_over accounts self.new ≡ state_over accounts self.old }
@@ -161,7 +183,7 @@ impl RunState {
         ensures same { (accounts : List Account) → state_over accounts self.new ≡ state_over accounts self.old }
         ensures found { IfOk result (λ b. (accounts : List Account) → IsReady accounts self.old → ways.is_there (spec.at label (state_over accounts self.old)) ≡ b) }
     {
-        if let Some(_) = self.node(label) {
+        if let Some(_) = self.hinted(label) {
             return Ok(true);
         }
         match self.way(label)? {

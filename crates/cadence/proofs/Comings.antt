@@ -1,5 +1,10 @@
 -- What the program's values say of requests.
-use Rattle.std.proofs.Common.{◌≡◌, ℕ, ℤ, pos, ◌+◌, ◌≤◌, ◌<◌, List, Option, Some, None, Result, Ok, Err, IfOk, MatchResult, refl, sym, ◌∙◌, subst, Bool, true, false}
+use Rattle.std.proofs.Common.{◌≡◌, ℕ, ℤ, pos, ◌+◌, ◌≤◌, ◌<◌, ◌==◌, List, [], ◌∷◌, length, map, Option, Some, None, Result, Ok, Err, IfOk, MatchResult, refl, sym, ◌∙◌, subst, Bool, true, false}
+use Rattle.std.specs.Prelude.{IsTrue}
+use Rattle.serde_json.specs.Data.{Data}
+use Rattle.serde_json.specs.View.{view}
+use Rattle.serde_json.specs.declared.value.Value.{Value as Json}
+use Rattle.cad_syntax.specs.declared.address.Address.{Address}
 use Rattle.cad_syntax.specs.declared.kind.Kind.TheVariants.{Int}
 use Rattle.cad_syntax.specs.declared.num.Num.{Num}
 use Rattle.cad_num.specs.declared.error.NumError.{NumError}
@@ -12,12 +17,11 @@ use Rattle.cad_accounts.specs.Registers.{Map}
 use Rattle.cad_accounts.specs.Accounts.{Accounts, StandsFor, Has, created, stored_at, stored_as, most_accounts}
 use Rattle.cad_accounts.specs.Worlds.{HasAccount, IsRefused}
 use Rattle.cad_forms.specs.Saves.{Save, saved_value}
-use Rattle.std.specs.Prelude.{IsTrue}
-use Rattle.std.specs.List.{AllByRecursion}
-use Rattle.cad_forms.specs.Sums.{IsProduct, greatest}
-use Rattle.cad_forms.specs.Request.{script, account, save, Asks, asks_script, asks_save}
+use Rattle.cad_commands.specs.Views.{pure_command}
+use Rattle.cad_commands.specs.declared.kinds.Command as own
+use Rattle.cad_runs.specs.Commands.{account, transaction}
 use Rattle.cadence.specs.Answer as answer
-use Rattle.cadence.specs.Answer.{Loads, none, loaded, Saves, nothing_there, out_of_range, occupied, saved, Does, made, no_account, saves, error_number}
+use Rattle.cadence.specs.Answer.{Loads, none, loaded, Saves, nothing_there, out_of_range, occupied, saved, SavesFor, no_account, by_owner, IsSave, RunsScript, Does, made, saves, error_number}
 use Rattle.cadence.specs.declared.outcome.Outcome.{Outcome}
 use Rattle.cadence.specs.declared.outcome.Outcome.TheVariants.{Stays, Leads as Leading}
 use Rattle.cadence.specs.declared.reply.Reply.TheVariants.{Failed}
@@ -50,16 +54,16 @@ puts_refused stop (Err e) base current signer to n h m = tt
 -- what is put of a sum
 pub comes_saved : (o : Outcome) (base : Map) (w v : Accounts) (signer : ℕ) (s : Save) (z : ℤ) (n : Num) → Loads w signer s.load z v → saved_value z s.first s.others ≡ Ok (value_of n) → n.kind ≡ Int
     → Puts o base v signer s.to n → ComesBy o base (Saves w signer s)
-comes_saved (Stays reply) base w v signer s z n loads value kind h = subst (λ a. Saves w signer s (answer.stays a)) (sym h.0) (occupied loads value h.1)
+comes_saved (Stays reply) base w v signer s z n loads value kind h = (answer.failed 111, h.0, occupied loads value h.1)
 comes_saved (Leading reply changes) base w v signer s z n loads value kind h =
-    (stored_as signer s.to (Some (Number n)) v, h.2, subst (λ a. Saves w signer s (answer.leads a (stored_as signer s.to (Some (Number n)) v))) (sym h.0) (saved n loads value kind h.1), h.3, h.4)
+    (answer.done, h.0, stored_as signer s.to (Some (Number n)) v, h.2, saved n loads value kind h.1, h.3, h.4)
 
--- a save by a signer with an account
-pub comes_has : (o : Outcome) (base : Map) (w : Accounts) (signer : ℕ) (s : Save) → Has w signer → ComesBy o base (Saves w signer s) → Comes o base w (save signer s)
-comes_has (Stays reply) base w signer s has h = saves has h
-comes_has (Leading reply changes) base w signer s has h = (h.0, h.1, saves has h.2, h.3, h.4)
+-- what comes may be allowed by more
+pub comes_as : {P Q : answer.Outcome → Type 0} (o : Outcome) (base : Map) → ((x : answer.Outcome) → P x → Q x) → ComesBy o base P → ComesBy o base Q
+comes_as (Stays reply) base f h = (h.0, h.1, f (answer.stays h.0) h.2)
+comes_as (Leading reply changes) base f h = (h.0, h.1, h.2, h.3, f (answer.leads h.0 h.2) h.4, h.5, h.6)
 
-if_ok : {A E : Type 0} {P Q : A → Type 0} (r : Result A E) → ((a : A) → P a → Q a) → IfOk r P → IfOk r Q
+pub if_ok : {A E : Type 0} {P Q : A → Type 0} (r : Result A E) → ((a : A) → P a → Q a) → IfOk r P → IfOk r Q
 if_ok (Ok a) f h = f a h
 if_ok (Err e) f h = tt
 
@@ -86,16 +90,49 @@ has_still old current signer start load h starts =
 
 -- the signer has an account
 pub comes_to_save : {E : Type 0} (r : Result Outcome E) (base below old : Map) (signer : ℕ) (s : Save) → below ≡ base → base ≡ old → ((w : Accounts) → StandsFor base w → Has w signer)
-    → IfOk r (λ o. (w : Accounts) → StandsFor old w → ComesBy o below (Saves w signer s)) → IfOk r (λ o. (w : Accounts) → StandsFor base w → Comes o base w (save signer s))
+    → IfOk r (λ o. (w : Accounts) → StandsFor old w → ComesBy o below (Saves w signer s)) → IfOk r (λ o. (w : Accounts) → StandsFor base w → ComesBy o base (SavesFor w signer s))
 comes_to_save r base below old signer s same is has = if_ok r (λ o h w stands.
-    comes_has o base w signer s (has w stands) (subst (λ b. ComesBy o b (Saves w signer s)) same (h w (subst (λ m. StandsFor m w) is stands))))
+    comes_as {P = Saves w signer s} {Q = SavesFor w signer s} o base (λ x k. by_owner (has w stands) k) (subst (λ b. ComesBy o b (Saves w signer s)) same (h w (subst (λ m. StandsFor m w) is stands))))
 
-pub comes_no_account : (w : Accounts) (signer : ℕ) (s : Save) (b : Bool) → (IsTrue b → Has w signer) × (Has w signer → IsTrue b) → b ≡ false → Does w (save signer s) (answer.stays (answer.bad 26))
-comes_no_account w signer s b tells differs = no_account (λ has. let t = tells.1 has in let both : false ≡ true = sym differs ∙ t in cc both)
+pub lacks : (w : Accounts) (signer : ℕ) (b : Bool) → (IsTrue b → Has w signer) × (Has w signer → IsTrue b) → b ≡ false → ¬ Has w signer
+lacks w signer b tells differs = λ has. let t = tells.1 has in let both : false ≡ true = sym differs ∙ t in cc both
 
--- the literals of what is asked for are in range
-pub bounds_script : (line : List ℕ) (products : List (List ℕ)) → Asks line (script products) → AllByRecursion IsProduct products
-bounds_script line products (asks_script a) = a.script.script.sum_is.products
+pub comes_no_account : (w : Accounts) (signer : ℕ) (s : Save) (b : Bool) → (IsTrue b → Has w signer) × (Has w signer → IsTrue b) → b ≡ false → SavesFor w signer s (answer.stays (answer.bad 26))
+comes_no_account w signer s b tells differs = no_account (lacks w signer b tells differs)
 
-pub bounds_save : (line : List ℕ) (signer : ℕ) (s : Save) → Asks line (save signer s) → AllByRecursion (λ n. n ≤ greatest) s.first × AllByRecursion IsProduct s.others
-bounds_save line signer s (asks_save a) = (a.saves.is.literals, a.saves.is.products)
+-- ---- transactions that are saves
+
+-- a transaction that is a save comes to what the save comes to
+pub comes_transaction : {E : Type 0} (r : Result Outcome E) (base : Map) (code : List ℕ) (arguments : List Data) (signers : List Address) (units : ℕ) (signer : Address) (s : Save)
+    → IsSave code arguments signers units signer s → IfOk r (λ o. (w : Accounts) → StandsFor base w → ComesBy o base (SavesFor w signer.0 s))
+    → IfOk r (λ o. (w : Accounts) → StandsFor base w → Comes o base w (transaction code arguments signers units))
+comes_transaction r base code arguments signers units signer s is = if_ok r (λ o h w stands.
+    comes_as {P = SavesFor w signer.0 s} {Q = Does w (transaction code arguments signers units)} o base (λ x k. saves is k) (h w stands))
+
+-- what a command comes to, by the value that it is
+pub comes_command : {E : Type 0} (r : Result Outcome E) (base : Map) (c d : own.Command) → c ≡ d → IfOk r (λ o. (w : Accounts) → StandsFor base w → Comes o base w (pure_command d))
+    → IfOk r (λ o. (w : Accounts) → StandsFor base w → Comes o base w (pure_command c))
+comes_command r base c d is h = subst (λ (x : own.Command). IfOk r (λ o. (w : Accounts) → StandsFor base w → Comes o base w (pure_command x))) (sym is) h
+
+-- the parts of a command, by the values that were handed on
+pub comes_parts : {E : Type 0} (r : Result Outcome E) (base : Map) (code text : List ℕ) (arguments all : List Json) (signers named : List Address) (units : ℕ) → text ≡ code → all ≡ arguments
+    → named ≡ signers → IfOk r (λ o. (w : Accounts) → StandsFor base w → Comes o base w (transaction text (map view all) named units))
+    → IfOk r (λ o. (w : Accounts) → StandsFor base w → Comes o base w (transaction code (map view arguments) signers units))
+comes_parts r base code text arguments all signers named units same_code same_arguments same_signers h =
+    subst (λ (c : List ℕ). IfOk r (λ o. (w : Accounts) → StandsFor base w → Comes o base w (transaction c (map view arguments) signers units))) same_code
+    (subst (λ (l : List Json). IfOk r (λ o. (w : Accounts) → StandsFor base w → Comes o base w (transaction text (map view l) signers units))) same_arguments
+    (subst (λ (l : List Address). IfOk r (λ o. (w : Accounts) → StandsFor base w → Comes o base w (transaction text (map view all) l units))) same_signers h))
+
+-- a command that is known
+pub does_command : (w : Accounts) (c d : own.Command) (o : answer.Outcome) → c ≡ d → Does w (pure_command d) o → Does w (pure_command c) o
+does_command w c d o is h = subst (λ (x : own.Command). Does w (pure_command x) o) (sym is) h
+
+pub script_by_parts : (code text : List ℕ) (arguments all : List Json) (units : ℕ) (a : answer.Answer) → text ≡ code → all ≡ arguments → RunsScript text (map view all) units a
+    → RunsScript code (map view arguments) units a
+script_by_parts code text arguments all units a same_code same_arguments h =
+    subst (λ (c : List ℕ). RunsScript c (map view arguments) units a) same_code (subst (λ (l : List Json). RunsScript text (map view l) units a) same_arguments h)
+
+-- an argument isn't none
+pub some_argument : (arguments : List Json) → (length arguments == 0) ≡ false → map view arguments ≡ [] → ⊥
+some_argument [] differs is = cc differs
+some_argument (x ∷ more) differs is = cc is

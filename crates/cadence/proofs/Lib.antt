@@ -9,6 +9,7 @@ pub mod Saids
 pub mod Comings
 pub mod Readies
 pub mod Declining
+pub mod Replying
 pub mod Tellings
 pub mod Runs
 pub mod Openings

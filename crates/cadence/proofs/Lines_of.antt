@@ -1,16 +1,15 @@
 -- The line of an answer has one line feed, its last byte.
-use Rattle.std.proofs.Common.{◌≡◌, ◌⊎◌, inl, inr, ℕ, zero, suc, ◌+◌, ◌-◌, ◌/◌, ◌%◌, ◌^◌, ◌==◌, ◌||◌, Bool, true, false, if◌then◌else◌, List, [], ◌∷◌, ◌++◌, length, replicate, codes, nat_lt, refl, ◌∙◌, ap, subst, arith}
-use Rattle.std.specs.Fmt.{decimal, digits, digits_onto, digit_glyph}
+use Rattle.std.proofs.Common.{◌≡◌, ◌⊎◌, inl, inr, ℕ, zero, suc, ◌+◌, ◌/◌, ◌%◌, ◌==◌, ◌||◌, Bool, true, false, if◌then◌else◌, ℤ, pos, negsuc, List, [], ◌∷◌, ◌++◌, codes, nat_lt, refl, ◌∙◌, ap, subst, arith}
+use Rattle.std.specs.Fmt.{decimal, signed_decimal, digits, digits_onto, digit_glyph}
 use Rattle.std.specs.Char.{digit_char}
 use Rattle.std.specs.Prelude.{None, cond}
 use Rattle.json.specs.Print.{escape_letter, escape_byte, escape, quoted}
 use Rattle.cad_declarations.specs.declared.stop.Rejected.{Rejected}
 use Rattle.std.proofs.lemmas.Bool.Decides.{eqb_tells}
-use Rattle.cad_syntax.specs.declared.num.Num.{Num}
+use Rattle.serde_json.specs.Data.{Num, unsigned, negative, float, Data, null, boolean, number, string, array, object, Items, no_items, item, Members, no_members, member}
+use Rattle.serde_json.specs.Written.{number_text, comma_if, compact_text, items_text, members_text}
 use Rattle.cad_syntax.specs.Addresses.{hex_digits, address_text}
-use Rattle.cad_num.specs.Numbers.{is_fixed}
-use Rattle.cad_num.specs.Decimal.{written, magnitude_text, eight_digits}
-use Rattle.cadence.specs.Answer.{Answer, result, address, done, failed, bad, rejected, answer_line}
+use Rattle.cadence.specs.Answer.{Answer, result, address, done, failed, limit, bad, rejected, answer_line}
 use Rattle.cad_rejections.specs.Texts.{phase_name, joined, rejected_text}
 use Rattle.cad_grammar.specs.declared.phase.Phase.{Phase}
 use Rattle.cad_grammar.specs.declared.phase.Phase.TheVariants.{Lex, Parse, Resolve, Types, Conformance, Moves, Purity, Initialisation}
@@ -47,23 +46,6 @@ decimal_none n = onto_none 64 n [] refl
 
 both_none : (xs ys : List ℕ) → line_feeds xs ≡ 0 → line_feeds ys ≡ 0 → line_feeds (xs ++ ys) ≡ 0
 both_none xs ys h k = feeds_append xs ys ∙ omega (arith, h, k)
-
-zeros_none : (k : ℕ) → line_feeds (replicate k 48) ≡ 0
-zeros_none zero = refl
-zeros_none (suc k) = zeros_none k
-
-magnitude_by : (c : Bool) (n : ℕ) → line_feeds (if c then decimal (n / 10 ^ 8) ++ 46 ∷ eight_digits (n % 10 ^ 8) else decimal n) ≡ 0
-magnitude_by true n = both_none (decimal (n / 10 ^ 8)) (46 ∷ eight_digits (n % 10 ^ 8)) (decimal_none (n / 10 ^ 8))
-    (both_none (replicate (8 - length (decimal (n % 10 ^ 8))) 48) (decimal (n % 10 ^ 8)) (zeros_none (8 - length (decimal (n % 10 ^ 8)))) (decimal_none (n % 10 ^ 8)))
-magnitude_by false n = decimal_none n
-
-sign_none : (c : Bool) → line_feeds (if c then 45 ∷ [] else []) ≡ 0
-sign_none true = refl
-sign_none false = refl
-
-written_none : (n : Num) → line_feeds (written n) ≡ 0
-unfolding written
-written_none n = both_none (if n.negative then 45 ∷ [] else []) (magnitude_text n.kind n.magnitude) (sign_none n.negative) (magnitude_by (is_fixed n.kind) n.magnitude)
 
 hex_char : (d : ℕ) → (digit_char d == 10) ≡ false
 hex_char d = glyph_by (nat_lt d 10) d
@@ -149,10 +131,53 @@ rejected_none r =
     (phase_name r.phase) (codes "\",\"reply\":\"rejected\"}")
     refl (decimal_none r.at) refl refl refl (quoted_none (joined r.inside)) refl (phase_none r.phase) refl
 
+-- ---- JSON
+
+signed_none : (z : ℤ) → line_feeds (signed_decimal z) ≡ 0
+signed_none (pos n) = decimal_none n
+signed_none (negsuc n) = decimal_none (suc n)
+
+comma_none : (later : Bool) → line_feeds (comma_if later) ≡ 0
+comma_none true = refl
+comma_none false = refl
+
+number_none : (n : Num) → line_feeds (number_text n) ≡ 0
+number_none (unsigned n) = decimal_none n
+number_none (negative z) = signed_none z
+number_none (float x) = refl
+
+word_none : (b : Bool) → line_feeds (compact_text (boolean b)) ≡ 0
+word_none true = refl
+word_none false = refl
+
+-- nor has JSON without spaces
+mutual
+  json_none : (d : Data) → line_feeds (compact_text d) ≡ 0
+  json_none null = refl
+  json_none (boolean b) = word_none b
+  json_none (number n) = number_none n
+  json_none (string s) = quoted_none s
+  json_none (array ds) = items_none false ds
+  json_none (object ms) = members_none false ms
+
+  items_none : (later : Bool) (ds : Items) → line_feeds (items_text later ds) ≡ 0
+  items_none later no_items = refl
+  items_none later (item d ds) =
+      both_none (comma_if later) (compact_text d ++ items_text true ds) (comma_none later)
+      (both_none (compact_text d) (items_text true ds) (json_none d) (items_none true ds))
+
+  members_none : (later : Bool) (ms : Members) → line_feeds (members_text later ms) ≡ 0
+  members_none later no_members = refl
+  members_none later (member k d ms) =
+      both_none (comma_if later) (quoted k ++ 58 ∷ (compact_text d ++ members_text true ms)) (comma_none later)
+      (both_none (quoted k) (58 ∷ (compact_text d ++ members_text true ms)) (quoted_none k)
+      (both_none (compact_text d) (members_text true ms) (json_none d) (members_none true ms)))
+
 pub one_feed : (a : Answer) → line_feeds (answer_line a) ≡ 1
-one_feed (result n) = wrapped (codes "{\"reply\":\"ok\",\"result\":{\"type\":\"Int\",\"value\":\"") (written n) (codes "\"}}") refl (written_none n) refl
+one_feed (result json) = wrapped (codes "{\"reply\":\"ok\",\"result\":") (compact_text json) (codes "}") refl (json_none json) refl
 one_feed (address n) = wrapped (codes "{\"address\":\"") (address_text n) (codes "\",\"reply\":\"ok\"}") refl (both_none (codes "0x") (hex_digits 16 n) refl (hex_none 16 n)) refl
 one_feed done = alone (codes "{\"destroyed\":[],\"events\":[],\"made\":[],\"reply\":\"ok\"}") refl
 one_feed (failed n) = wrapped (codes "{\"error\":\"") (decimal n) (codes "\",\"reply\":\"failed\"}") refl (decimal_none n) refl
+one_feed limit = alone (codes "{\"reply\":\"limit\"}") refl
 one_feed (bad n) = wrapped (codes "{\"error\":\"") (decimal n) (codes "\",\"reply\":\"bad\"}") refl (decimal_none n) refl
 one_feed (rejected r) = alone (rejected_text None r) (rejected_none r)

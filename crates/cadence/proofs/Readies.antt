@@ -8,18 +8,20 @@ use Rattle.cad_accounts.specs.declared.row.Row.{Row}
 use Rattle.cad_accounts.specs.Registers.{Map, at, applied, are_rising, size_of, Leads}
 use Rattle.cad_accounts.specs.Accounts.{Accounts, StandsFor, AreRegisters, HasSize}
 use Rattle.cad_accounts.proofs.Existing.{rows_exist}
-use Rattle.cad_forms.specs.Request.{Request, Asks}
+use Rattle.cad_commands.specs.Commands.{command_of}
+use Rattle.cad_runs.specs.Commands.{Command}
+use Rattle.serde_json.specs.Data.{Data}
 use Rattle.cad_store.specs.declared.store.Store.{Store}
 use Rattle.cadence.specs.Answer as answer
-use Rattle.cadence.specs.Answer.{Answer, Answers, too_long, Declines, declined, asks, Does, Commits, unchanged, fits, full, most_bytes, bad}
+use Rattle.cadence.specs.Answer.{Answer, Answers, too_long, answered, Does, Commits, unchanged, fits, full, most_bytes, bad}
 use Rattle.cadence.specs.Held.{longest}
 use Rattle.cadence.specs.Code.Held.{Holds}
 use Rattle.cadence.specs.Code.Outcomes.{Comes, IsReady}
-use Rattle.cadence.specs.Code.Views.{answer_of}
+use Rattle.cadence.specs.Code.Views.{Tells}
 use Rattle.cadence.specs.declared.line.Line.{Line}
 use Rattle.cadence.specs.declared.reply.Reply as own
 use Rattle.cadence.specs.declared.outcome.Outcome.{Outcome}
-use Rattle.cadence.specs.declared.outcome.Outcome.TheVariants.{Leads as Leading}
+use Rattle.cadence.specs.declared.outcome.Outcome.TheVariants.{Stays as Staying, Leads as Leading}
 use Rattle.cadence.specs.declared.prepare.Prepared.{Prepared}
 use Rattle.cadence.specs.declared.prepare.Prepared.TheVariants.{Reply, Commit}
 
@@ -78,28 +80,33 @@ short_line line pending short h = test_short longest (length pending) (sym h.lon
 pub held_line : (line : Line) (pending : List ℕ) → line.long ≡ false → Holds line pending → line.held.items ≡ pending
 held_line line pending short h = h.held ∙ take_all longest pending (short_line line pending short h)
 
-pub no_request : (w : Accounts) (line : Line) (pending : List ℕ) (a : Answer) → line.long ≡ false → ((request : Request) → Asks line.held.items request → ⊥)
-    → Declines w line.held.items a → Holds line pending → Answers w pending a w
-no_request w line pending a short lacks declines h =
-    declined (short_line line pending short h) (subst (λ l. (request : Request) → Asks l request → ⊥) (held_line line pending short h) lacks)
-    (subst (λ l. Declines w l a) (held_line line pending short h) declines)
-
-pub with_request : (w : Accounts) (line : Line) (request : Request) (a : Answer) (v : Accounts) → line.long ≡ false → Asks line.held.items request → (o : answer.Outcome) × Does w request o × Commits w o a v
+pub with_command : (w : Accounts) (line : Line) (a : Answer) (v : Accounts) → line.long ≡ false → (o : answer.Outcome) × Does w (command_of line.held.items) o × Commits w o a v
     → (pending : List ℕ) → Holds line pending → Answers w pending a v
-with_request w line request a v short is done pending h = asks (short_line line pending short h) (subst (λ l. Asks l request) (held_line line pending short h) is) done.1 done.2
+with_command w line a v short done pending h =
+    answered (short_line line pending short h) (subst (λ (l : List ℕ). Does w (command_of l) done.0) (held_line line pending short h) done.1) done.2
+
+-- what a command comes to, which stays
+pub ready_stays : (old : Map) (outcome : Outcome) (reply : own.Reply) (text : List ℕ) → outcome ≡ Staying reply → ((a : Answer) → Tells reply a → text ≡ answer.answer_line a)
+    → (w : Accounts) (command : Command Data) → StandsFor old w → Comes outcome old w command
+    → (a : Answer) × (v : Accounts) × ((o : answer.Outcome) × Does w command o × Commits w o a v) × (text ≡ answer.answer_line a) × StandsFor old v
+ready_stays old outcome reply text is tells w command is_w comes =
+    let h = subst (λ o. Comes o old w command) is comes in
+    (h.0, w, (answer.stays h.0, h.2, unchanged), tells h.0 h.1, is_w)
 
 pub ready_leads : {E : Type 0} (r : Result Prepared E) (old : Map) (store : Store) (outcome : Outcome) (reply : own.Reply) (changes : List Entry) → outcome ≡ Leading reply changes
-    → IfOk r (λ p. (w v : Accounts) (new : Map) → StandsFor old w → Leads old new changes → StandsFor new v → IsReady p store (Commits w (answer.leads (answer_of reply) v)))
-    → IfOk r (λ p. (w : Accounts) (request : Request) → StandsFor old w → Comes outcome old w request → IsReady p store (λ a v. (o : answer.Outcome) × Does w request o × Commits w o a v))
-ready_leads (Ok p) old store outcome reply changes is f = λ w request is_w comes.
-    let h = subst (λ o. Comes o old w request) is comes in
-    ready_as p store (λ a u c. (answer.leads (answer_of reply) h.0, h.2, c)) (f w h.0 h.1 is_w h.3 h.4)
+    → IfOk r (λ p. (a : Answer) (w v : Accounts) (new : Map) → Tells reply a → StandsFor old w → Leads old new changes → StandsFor new v → IsReady p store (Commits w (answer.leads a v)))
+    → IfOk r (λ p. (w : Accounts) (command : Command Data) → StandsFor old w → Comes outcome old w command → IsReady p store (λ a v. (o : answer.Outcome) × Does w command o × Commits w o a v))
+ready_leads (Ok p) old store outcome reply changes is f = λ w command is_w comes.
+    let h = subst (λ o. Comes o old w command) is comes in
+    ready_as p store (λ a u c. (answer.leads h.0 h.2, h.4, c)) (f h.0 w h.2 h.3 h.1 is_w h.5 h.6)
 ready_leads (Err e) old store outcome reply changes is f = tt
 
-pub ready_request : {E : Type 0} (r : Result Prepared E) (old : Map) (store : Store) (line : Line) (outcome : Outcome) (request : Request) → line.long ≡ false → Asks line.held.items request
-    → ((w : Accounts) → StandsFor old w → Comes outcome old w request)
-    → IfOk r (λ p. (w : Accounts) (request : Request) → StandsFor old w → Comes outcome old w request → IsReady p store (λ a v. (o : answer.Outcome) × Does w request o × Commits w o a v))
+pub ready_command : {E : Type 0} (r : Result Prepared E) (old : Map) (store : Store) (line : Line) (outcome : Outcome) (command : Command Data) → line.long ≡ false
+    → command ≡ command_of line.held.items → ((w : Accounts) → StandsFor old w → Comes outcome old w command)
+    → IfOk r (λ p. (w : Accounts) (command : Command Data) → StandsFor old w → Comes outcome old w command → IsReady p store (λ a v. (o : answer.Outcome) × Does w command o × Commits w o a v))
     → IfOk r (λ p. (w : Accounts) → StandsFor old w → IsReady p store (λ a v. (pending : List ℕ) → Holds line pending → Answers w pending a v))
-ready_request (Ok p) old store line outcome request short asked comes f = λ w is_w.
-    ready_as p store (λ a v done pending h. with_request w line request a v short asked done pending h) (f w request is_w (comes w is_w))
-ready_request (Err e) old store line outcome request short asked comes f = tt
+ready_command (Ok p) old store line outcome command short is comes f = λ w is_w.
+    ready_as p store
+    (λ a v done pending h. with_command w line a v short (subst (λ (c : Command Data). (o : answer.Outcome) × Does w c o × Commits w o a v) is done) pending h)
+    (f w command is_w (comes w is_w))
+ready_command (Err e) old store line outcome command short is comes f = tt

@@ -1,5 +1,7 @@
 -- A command has one answer at most, and leads to one state of the accounts.
-use Rattle.std.proofs.Common.{◌≡◌, ℕ, zero, suc, ◌≤◌, ◌<◌, Bool, true, false, ℤ, List, [], Option, Some, None, Result, Ok, Err, refl, sym, ◌∙◌, ap, subst, arith}
+use Rattle.std.proofs.Common.{◌≡◌, ℕ, zero, suc, ◌≤◌, ◌<◌, Bool, true, false, ℤ, List, [], ◌∷◌, Option, Some, None, Result, Ok, Err, refl, sym, ◌∙◌, ap, subst, arith}
+use Rattle.serde_json.specs.Data.{Data}
+use Rattle.cad_syntax.specs.declared.address.Address.{Address}
 use Rattle.cad_syntax.specs.declared.kind.Kind.{Kind}
 use Rattle.cad_syntax.specs.declared.kind.Kind.TheVariants.{Int}
 use Rattle.cad_syntax.specs.declared.num.Num.{Num}
@@ -9,15 +11,18 @@ use Rattle.cad_num.specs.declared.error.NumError.{NumError}
 use Rattle.cad_num.specs.Numbers.{value_of}
 use Rattle.cad_number_codec.specs.declared.value.Value.{Value}
 use Rattle.cad_number_codec.specs.declared.value.Value.TheVariants.{Number}
-use Rattle.cad_accounts.specs.Accounts.{Accounts, HasSize, stored_at, stored_as, most_accounts}
-use Rattle.cad_forms.specs.Sums.{sum_value}
-use Rattle.cad_forms.specs.Saves.{Save, saved_value}
-use Rattle.cad_forms.specs.Request.{Request, Asks}
-use Rattle.cadence.specs.Answer.{Answer, result, failed, error_number, answer_line, Runs, gives, fails, Loads, none, loaded, Outcome, stays, leads, Saves, nothing_there, out_of_range, occupied, saved, Does, runs, spent, made, no_account, saves, Commits, unchanged, fits, full, rejected, Declines, no_account_there, refused, accepted, no_code, IsThere, place_of, Answers, too_long, declined, asks}
+use Rattle.cad_accounts.specs.Accounts.{Accounts, Has, HasSize, stored_at, stored_as, most_accounts}
+use Rattle.cad_forms.specs.Saves.{Save, IsSaveCode, saved_value}
+use Rattle.cadence.specs.Answer.{Answer, failed, rejected, error_number, answer_line, answer_of_reply, program_in, Outcome, stays, leads, Declines, refused, accepted, RunsScript, refused_script, unserved, replies, Loads, none, loaded, Saves, nothing_there, out_of_range, occupied, saved, SavesFor, no_account, by_owner, IsSave, Does, unread, spent, made, nowhere, deploys, saves, transacts, runs, Commits, unchanged, fits, full, Answers, too_long, answered}
+use Rattle.cad_account_uses.specs.Naming.{names_accounts}
+use Rattle.cad_acceptance.specs.Acceptance.{CheckedProgram, AcceptsText}
 use Rattle.cad_acceptance.specs.Stops.{FirstStop}
-use Rattle.cad_check.specs.Laws.{OneFirstStop}
+use Rattle.cad_check.specs.Laws.{OneFirstStop, OneAcceptance, AcceptedTextsHaveNoStop}
+use Rattle.cad_commands.specs.Commands.{command_of}
 use Rattle.cad_declarations.specs.declared.stop.Rejected.{Rejected}
-use Rattle.cad_request.specs.Submissions.{Submits}
+use Rattle.cad_runs.specs.Commands.{Command, Reply}
+use Rattle.cad_script_replies.specs.Replies as script
+use Rattle.cad_script_replies.specs.Replies.{OneAnswer}
 
 -- ---- numbers
 
@@ -38,7 +43,7 @@ same_num a b k l values =
     let same = parts b.kind a.negative b.negative a.magnitude b.magnitude (subst (λ x. is_kept x a.negative a.magnitude ≡ true) kinds a.kept) b.kept values in
     same_fields a.kind b.kind a.negative b.negative a.magnitude b.magnitude kinds same.0 same.1 a.kept b.kept
 
--- ---- runs and loads
+-- ---- loads
 
 same_some : {A : Type 0} (x y : A) → Some x ≡ Some y → x ≡ y
 same_some x y e = cc e
@@ -57,12 +62,6 @@ some_or_none r x e f = let o = sym e ∙ f in cc o
 
 apart : (a b : ℕ) → a ≤ b → b < a → ⊥
 apart a b h k = omega (arith, h, k)
-
-same_run : (z : Result ℤ NumError) (a b : Answer) → Runs z a → Runs z b → answer_line a ≡ answer_line b
-same_run z a b (gives {n = m} e k) (gives {n = n} f l) = ap (λ x. answer_line (result x)) (same_num m n k l (same_ok z (value_of m) (value_of n) e f))
-same_run z a b (gives {n = m} e k) (fails {e = d} f) = absurd (ok_or_err z (value_of m) d e f)
-same_run z a b (fails {e = d} e) (gives {n = n} f l) = absurd (ok_or_err z (value_of n) d f e)
-same_run z a b (fails {e = d} e) (fails {e = g} f) = ap (λ x. answer_line (failed (error_number x))) (same_err z d g e f)
 
 same_number : (r : Option Value) (m n : Num) → r ≡ Some (Number m) → r ≡ Some (Number n) → m ≡ n
 same_number r m n e f = let o = sym e ∙ f in cc o
@@ -118,82 +117,101 @@ module _ (w : Accounts) (signer : ℕ) (s : Save) where
       let one = same_num n i kind sort (same_ok (saved_value z s.first s.others) (value_of n) (value_of i) e (same.0 ∙ f)) in
       (refl, ap (λ a. stored_as signer s.to (Some (Number n)) a) same.1 ∙ ap (λ x. stored_as signer s.to (Some (Number x)) u) one)
 
--- ---- outcomes
+same_saves_for : (w : Accounts) (signer : ℕ) (s : Save) (o p : Outcome) → SavesFor w signer s o → SavesFor w signer s p → Same o p
+same_saves_for w signer s o p (no_account h) (no_account k) = refl
+same_saves_for w signer s o p (no_account h) (by_owner k t) = absurd (h k)
+same_saves_for w signer s o p (by_owner h t) (no_account k) = absurd (k h)
+same_saves_for w signer s o p (by_owner h t) (by_owner k q) = same_saves w signer s o p t q
 
-count_apart : (a b : ℕ) → a ≡ b → a < b → ⊥
-count_apart a b h k = omega (arith, h, k)
+-- the same signer and the same save
+module _ (one_save : (code : List ℕ) (s t : Save) → IsSaveCode code s → IsSaveCode code t → s ≡ t) where
+  first_of : (a b : Address) (signers : List Address) → signers ≡ a ∷ [] → signers ≡ b ∷ [] → a ≡ b
+  first_of a b signers e f = let o = sym e ∙ f in cc o
 
-same_does : (w : Accounts) (r : Request) (o p : Outcome) → Does w r o → Does w r p → Same o p
-same_does w r o p (runs {products = q} {a = a} h) (runs {a = b} k) = same_run (sum_value q) a b h k
-same_does w r o p (spent h) (spent k) = refl
-same_does w r o p (spent h) (made k) = absurd (count_apart w.count most_accounts h k)
-same_does w r o p (made h) (spent k) = absurd (count_apart w.count most_accounts k h)
-same_does w r o p (made h) (made k) = (refl, refl)
-same_does w r o p (no_account h) (no_account k) = refl
-same_does w r o p (no_account h) (saves k t) = absurd (h k)
-same_does w r o p (saves h t) (no_account k) = absurd (k h)
-same_does w r o p (saves {signer = signer} {s = s} h t) (saves k q) = same_saves w signer s o p t q
+  same_asked : (code : List ℕ) (arguments : List Data) (signers : List Address) (units : ℕ) (a b : Address) (s t : Save)
+      → IsSave code arguments signers units a s → IsSave code arguments signers units b t → (a ≡ b) × (s ≡ t)
+  same_asked code arguments signers units a b s t h k = (first_of a b signers h.one_signer k.one_signer, one_save code s t h.code_is k.code_is)
 
-module _ (one_size : (w : Accounts) (m n : ℕ) → HasSize w m → HasSize w n → m ≡ n) where
-  -- the same accounts aren't both small and large
-  sizes_apart : (v u : Accounts) (m n most : ℕ) → v ≡ u → HasSize v m → HasSize u n → m ≤ most → most < n → ⊥
-  sizes_apart v u m n most same h k small large =
-      apart n most (subst (λ x. x ≤ most) (one_size u m n (subst (λ a. HasSize a m) same h) k) small) large
+  same_save : (w : Accounts) (code : List ℕ) (arguments : List Data) (signers : List Address) (units : ℕ) (a b : Address) (s t : Save) (o p : Outcome)
+      → IsSave code arguments signers units a s → IsSave code arguments signers units b t → SavesFor w a.0 s o → SavesFor w b.0 t p → Same o p
+  same_save w code arguments signers units a b s t o p h k x y =
+      let same = same_asked code arguments signers units a b s t h k in
+      same_saves_for w b.0 t o p (subst (λ (u : Save). SavesFor w b.0 u o) same.1 (subst (λ (c : Address). SavesFor w c.0 s o) same.0 x)) y
 
-  same_commits : (w : Accounts) (o p : Outcome) (a b : Answer) (v u : Accounts) → Same o p → Commits w o a v → Commits w p b u → (answer_line a ≡ answer_line b) × (v ≡ u)
-  same_commits w o p a b v u same unchanged unchanged = (same, refl)
-  same_commits w o p a b v u same unchanged (fits k small) = absurd same
-  same_commits w o p a b v u same unchanged (full k large) = absurd same
-  same_commits w o p a b v u same (fits h small) unchanged = absurd same
-  same_commits w o p a b v u same (fits h small) (fits k least) = same
-  same_commits w o p a b v u same (fits {size = m} h small) (full {v = y} {size = n} k large) = absurd (sizes_apart v y m n _ same.1 h k small large)
-  same_commits w o p a b v u same (full h large) unchanged = absurd same
-  same_commits w o p a b v u same (full {v = x} {size = m} h large) (fits {size = n} k small) = absurd (sizes_apart u x n m _ (sym same.1) k h small large)
-  same_commits w o p a b v u same (full h large) (full k larger) = (refl, refl)
+-- ---- code
 
-  module _ (one_request : (line : List ℕ) (r s : Request) → Asks line r → Asks line s → r ≡ s)
-      (one_submission : (line : List ℕ) (p q : Option ℕ) (a b : List ℕ) → Submits line p a → Submits line q b → (p ≡ q) × (a ≡ b))
-      (one_stop : OneFirstStop) where
-    -- the same account is there or isn't
-    not_there : (w : Accounts) (p q : Option ℕ) → p ≡ q → IsThere w p → ¬ IsThere w q → ⊥
-    not_there w p q same there lacks = lacks (subst (IsThere w) same there)
+module _ (one_stop : OneFirstStop) where
+  same_declined : (place : Option Address) (code : List ℕ) (a b : Answer) → Declines place code a → Declines place code b → answer_line a ≡ answer_line b
+  same_declined place code a b (refused {r = x} h) (refused {r = y} k) = ap (λ r. answer_line (rejected r)) (one_stop [] place code x y h k)
+  same_declined place code a b (refused {r = x} h) (accepted k) = absurd (k x h)
+  same_declined place code a b (accepted h) (refused {r = y} k) = absurd (h y k)
+  same_declined place code a b (accepted h) (accepted k) = refl
 
-    stop_there : (p q : Option ℕ) (a b : List ℕ) (r : Rejected) → (p ≡ q) × (a ≡ b) → FirstStop [] (place_of p) a r → FirstStop [] (place_of q) b r
-    stop_there p q a b r same h = subst (λ (c : List ℕ). FirstStop [] (place_of q) c r) same.1 (subst (λ (x : Option ℕ). FirstStop [] (place_of x) a r) same.0 h)
+  module _ (one_acceptance : OneAcceptance) (no_stop : AcceptedTextsHaveNoStop) (one_answer : OneAnswer) where
+    -- a program can't both name accounts and name none
+    both_ways : (code : List ℕ) (x y : CheckedProgram) → AcceptsText [] None code x → AcceptsText [] None code y → names_accounts x.bodies ≡ true → names_accounts y.bodies ≡ false → ⊥
+    both_ways code x y h k names unnamed =
+        let o : true ≡ false = sym names ∙ ap (λ (z : CheckedProgram). names_accounts z.bodies) (one_acceptance [] None code x y h k) ∙ unnamed in
+        cc o
 
-    same_refusal : (w : Accounts) (line : List ℕ) (a b : Answer) → Declines w line a → Declines w line b → answer_line a ≡ answer_line b
-    same_refusal w line a b (no_account_there f g) (no_account_there h k) = refl
-    same_refusal w line a b (no_account_there {place = p} {code = c} f g) (refused {place = q} {code = d} h k l) =
-        absurd (not_there w q p (one_submission line q p d c h f).0 k g)
-    same_refusal w line a b (no_account_there {place = p} {code = c} f g) (accepted {place = q} {code = d} h k l) =
-        absurd (not_there w q p (one_submission line q p d c h f).0 k g)
-    same_refusal w line a b (no_account_there {place = p} {code = c} f g) (no_code h) = absurd (h p c f)
-    same_refusal w line a b (refused {place = p} {code = c} f g s) (no_account_there {place = q} {code = d} h k) =
-        absurd (not_there w p q (one_submission line p q c d f h).0 g k)
-    same_refusal w line a b (refused {place = p} {code = c} {r = x} f g s) (refused {place = q} {code = d} {r = y} h k t) =
-        ap (λ r. answer_line (rejected r)) (one_stop [] (place_of q) d x y (stop_there p q c d x (one_submission line p q c d f h) s) t)
-    same_refusal w line a b (refused {place = p} {code = c} {r = x} f g s) (accepted {place = q} {code = d} h k t) =
-        absurd (t x (stop_there p q c d x (one_submission line p q c d f h) s))
-    same_refusal w line a b (refused {place = p} {code = c} f g s) (no_code h) = absurd (h p c f)
-    same_refusal w line a b (accepted {place = p} {code = c} f g s) (no_account_there {place = q} {code = d} h k) =
-        absurd (not_there w p q (one_submission line p q c d f h).0 g k)
-    same_refusal w line a b (accepted {place = p} {code = c} f g s) (refused {place = q} {code = d} {r = y} h k t) =
-        absurd (s y (stop_there q p d c y (one_submission line q p d c h f) t))
-    same_refusal w line a b (accepted f g s) (accepted h k t) = refl
-    same_refusal w line a b (accepted f g s) (no_code h) = refl
-    same_refusal w line a b (no_code f) (no_account_there {place = p} {code = c} h k) = absurd (f p c h)
-    same_refusal w line a b (no_code f) (refused {place = p} {code = c} h k t) = absurd (f p c h)
-    same_refusal w line a b (no_code f) (accepted h k t) = refl
-    same_refusal w line a b (no_code f) (no_code h) = refl
+    same_script : (code : List ℕ) (arguments : List Data) (units : ℕ) (a b : Answer) → RunsScript code arguments units a → RunsScript code arguments units b
+        → answer_line a ≡ answer_line b
+    same_script code arguments units a b (refused_script {r = x} h) (refused_script {r = y} k) = ap (λ r. answer_line (rejected r)) (one_stop [] None code x y h k)
+    same_script code arguments units a b (refused_script {r = r} h) (unserved {x = y} k t) = absurd (no_stop [] None code y r k h)
+    same_script code arguments units a b (refused_script {r = r} h) (replies {x = y} k t q) = absurd (no_stop [] None code y r k h)
+    same_script code arguments units a b (unserved {x = x} h t) (refused_script {r = r} k) = absurd (no_stop [] None code x r h k)
+    same_script code arguments units a b (unserved h t) (unserved k q) = refl
+    same_script code arguments units a b (unserved {x = x} h t) (replies {x = y} k q z) = absurd (both_ways code x y h k t q)
+    same_script code arguments units a b (replies {x = x} h t q) (refused_script {r = r} k) = absurd (no_stop [] None code x r h k)
+    same_script code arguments units a b (replies {x = x} h t q) (unserved {x = y} k z) = absurd (both_ways code y x k h z t)
+    same_script code arguments units a b (replies {x = x} {reply = r} h t q) (replies {x = y} {reply = i} k z j) =
+        ap (λ e. answer_line (answer_of_reply e))
+        (one_answer (program_in y) arguments units r i
+        (subst (λ (c : CheckedProgram). script.Answers (program_in c) arguments units r) (one_acceptance [] None code x y h k) q) j)
 
-    pub same_answer : (w : Accounts) (line : List ℕ) (a b : Answer) (u v : Accounts) → Answers w line a u → Answers w line b v → (answer_line a ≡ answer_line b) × (u ≡ v)
-    same_answer w line a b u v (too_long h) (too_long k) = (refl, refl)
-    same_answer w line a b u v (too_long h) (declined k f d) = absurd (apart _ _ k h)
-    same_answer w line a b u v (too_long h) (asks k f d c) = absurd (apart _ _ k h)
-    same_answer w line a b u v (declined h f d) (too_long k) = absurd (apart _ _ h k)
-    same_answer w line a b u v (declined h f d) (declined k g e) = (same_refusal w line a b d e, refl)
-    same_answer w line a b u v (declined h f x) (asks {request = s} k g d c) = absurd (f s g)
-    same_answer w line a b u v (asks h f d c) (too_long k) = absurd (apart _ _ h k)
-    same_answer w line a b u v (asks {request = r} h f d c) (declined k g x) = absurd (g r f)
-    same_answer w line a b u v (asks {request = r} {outcome = o} h f d c) (asks {request = s} {outcome = p} k g e t) =
-        same_commits w o p a b u v (same_does w s o p (subst (λ x. Does w x o) (one_request line r s f g) d) e) c t
+    -- ---- commands
+
+    count_apart : (a b : ℕ) → a ≡ b → a < b → ⊥
+    count_apart a b h k = omega (arith, h, k)
+
+    module _ (one_save : (code : List ℕ) (s t : Save) → IsSaveCode code s → IsSaveCode code t → s ≡ t) where
+      same_does : (w : Accounts) (c : Command Data) (o p : Outcome) → Does w c o → Does w c p → Same o p
+      same_does w c o p unread unread = refl
+      same_does w c o p (spent h) (spent k) = refl
+      same_does w c o p (spent h) (made k) = absurd (count_apart w.count most_accounts h k)
+      same_does w c o p (made h) (spent k) = absurd (count_apart w.count most_accounts k h)
+      same_does w c o p (made h) (made k) = (refl, refl)
+      same_does w c o p (nowhere h) (nowhere k) = refl
+      same_does w c o p (nowhere h) (deploys k t) = absurd (h k)
+      same_does w c o p (deploys h t) (nowhere k) = absurd (k h)
+      same_does w c o p (deploys {place = place} {code = code} {a = a} h t) (deploys {a = b} k q) = same_declined (Some place) code a b t q
+      same_does w c o p (saves {code = code} {arguments = all} {signers = ss} {units = n} {signer = a} {s = s} h t) (saves {signer = b} {s = u} k q) =
+          same_save one_save w code all ss n a b s u o p h k t q
+      same_does w c o p (saves {signer = a} {s = s} h t) (transacts k q) = absurd (k a s h)
+      same_does w c o p (transacts h t) (saves {signer = b} {s = u} k q) = absurd (h b u k)
+      same_does w c o p (transacts {code = code} {a = a} h t) (transacts {a = b} k q) = same_declined None code a b t q
+      same_does w c o p (runs {code = code} {arguments = all} {units = n} {a = a} h) (runs {a = b} k) = same_script code all n a b h k
+
+      module _ (one_size : (w : Accounts) (m n : ℕ) → HasSize w m → HasSize w n → m ≡ n) where
+        -- the same accounts aren't both small and large
+        sizes_apart : (v u : Accounts) (m n most : ℕ) → v ≡ u → HasSize v m → HasSize u n → m ≤ most → most < n → ⊥
+        sizes_apart v u m n most same h k small large =
+            apart n most (subst (λ x. x ≤ most) (one_size u m n (subst (λ a. HasSize a m) same h) k) small) large
+
+        same_commits : (w : Accounts) (o p : Outcome) (a b : Answer) (v u : Accounts) → Same o p → Commits w o a v → Commits w p b u → (answer_line a ≡ answer_line b) × (v ≡ u)
+        same_commits w o p a b v u same unchanged unchanged = (same, refl)
+        same_commits w o p a b v u same unchanged (fits k small) = absurd same
+        same_commits w o p a b v u same unchanged (full k large) = absurd same
+        same_commits w o p a b v u same (fits h small) unchanged = absurd same
+        same_commits w o p a b v u same (fits h small) (fits k least) = same
+        same_commits w o p a b v u same (fits {size = m} h small) (full {v = y} {size = n} k large) = absurd (sizes_apart v y m n _ same.1 h k small large)
+        same_commits w o p a b v u same (full h large) unchanged = absurd same
+        same_commits w o p a b v u same (full {v = x} {size = m} h large) (fits {size = n} k small) = absurd (sizes_apart u x n m _ (sym same.1) k h small large)
+        same_commits w o p a b v u same (full h large) (full k larger) = (refl, refl)
+
+        pub same_answer : (w : Accounts) (line : List ℕ) (a b : Answer) (u v : Accounts) → Answers w line a u → Answers w line b v → (answer_line a ≡ answer_line b) × (u ≡ v)
+        same_answer w line a b u v (too_long h) (too_long k) = (refl, refl)
+        same_answer w line a b u v (too_long h) (answered k d c) = absurd (apart _ _ k h)
+        same_answer w line a b u v (answered h d c) (too_long k) = absurd (apart _ _ h k)
+        same_answer w line a b u v (answered {outcome = o} h d c) (answered {outcome = p} k e t) =
+            same_commits w o p a b u v (same_does w (command_of line) o p d e) c t

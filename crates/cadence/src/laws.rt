@@ -9,18 +9,20 @@ ghost use Rattle.cadence.specs.Answer.{Answer, Answers, answer_line};
 ghost use Rattle.cadence.specs.Crashes.{DiskStands, Survives};
 
 use cad_accounts::{one_size, one_state};
-use cad_check::one_stop;
-use cad_forms::one_request;
-use cad_request::one_submission;
+use cad_check::{no_stop_of_accepted, one_acceptance, one_stop};
+use cad_forms::one_save;
+use cad_script_replies::one_answer;
 use cad_store::one_map_a_disk;
 
 /// A command has one reply line at most, and leads to one state of the accounts.
 pub fn one_reply()
     ensures { (w : Accounts) (line : List ℕ) (a b : Answer) (u v : Accounts) → Answers w line a u → Answers w line b v → (answer_line a ≡ answer_line b) × (u ≡ v) }
 {
-    one_request();
-    one_submission();
     one_stop();
+    one_acceptance();
+    no_stop_of_accepted();
+    one_answer();
+    one_save();
     one_size();
 }
 

@@ -3,11 +3,16 @@
 
 #[cfg(test)]
 mod account_tests;
+mod accounts;
+mod commands;
+mod judging;
 mod laws;
 mod line;
 mod outcome;
 mod prepare;
 mod reply;
+mod saving;
+mod scripts;
 mod serve;
 mod status;
 #[cfg(test)]

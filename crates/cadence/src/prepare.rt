@@ -1,32 +1,26 @@
 // What is ready to be put or written in answer to a line.
-ghost use Rattle.std.specs.Prelude.{◌≡◌, ◌↔◌, [], List, ℕ, IfOk, IsTrue, option_map};
-ghost use Rattle.cad_acceptance.specs.Stops.{FirstStop};
-ghost use Rattle.cad_check.specs.Answers.{Tells};
+ghost use Rattle.std.specs.Prelude.{◌≡◌, List, ℕ, IfOk};
+ghost use Rattle.serde_json.specs.Data.{Data};
 ghost use Rattle.cad_host.specs.Disk.{Event};
 ghost use Rattle.cad_accounts.specs.Registers.{Map, Leads};
 ghost use Rattle.cad_accounts.specs.Accounts.{Accounts, StandsFor};
 ghost use Rattle.cad_accounts.specs.Worlds.{AreSound};
+ghost use Rattle.cad_runs.specs.Commands as runs;
 ghost use Rattle.cad_store.specs.Stores.{held, room_of, IsOn};
 ghost use Rattle.cadence.specs.Code.Held.{Holds};
-ghost use Rattle.cad_forms.specs.Request.{Request};
-ghost use Rattle.cad_request.specs.Submissions.{Submits};
-ghost use Rattle.cadence.specs.Answer.{Answers, Declines, Does, Commits, IsThere, most_bytes};
+ghost use Rattle.cadence.specs.Answer.{Answer, Answers, Does, Commits, most_bytes};
 ghost use Rattle.cadence.specs.Answer as answer;
-ghost use Rattle.cadence.specs.Code.Views.{answer_of, HasInt};
-ghost use Rattle.cadence.specs.Code.Outcomes.{IsReady, Comes, ComesInt};
+ghost use Rattle.cadence.specs.Code.Views.{Tells};
+ghost use Rattle.cadence.specs.Code.Outcomes.{IsReady, Comes};
 
+use crate::commands::outcome_of;
 use crate::line::Line;
-use crate::outcome::{Outcome, has_account, outcome_of};
+use crate::outcome::Outcome;
 use crate::reply::{Reply, reply_line};
-use cad_accounts::{Changes, World};
-use cad_check::first_stop;
-use cad_declarations::Rejected;
-use cad_discards::discard_deployed;
-use cad_forms::asked;
-use cad_request::{Submission, submitted};
+use cad_accounts::Changes;
+use cad_commands::command;
 use cad_store::{Commit, ReadyStop, Store};
-use cad_syntax::{Address, Text};
-use cad_tables::no_contracts;
+use cad_syntax::Text;
 use std::alloc::{AllocError, Global};
 
 /// A reply line, and a commit where it has to be written before the line is put.
@@ -35,18 +29,17 @@ pub enum Prepared {
     Commit(Commit, Text),
 }
 
-// Makes the changes of a request ready. They take effect where the accounts aren't too large then.
+// Makes the changes of a command ready. They take effect where the accounts aren't too large then.
 fn commit_of(
     alloc: Global,
     store: &mut Store,
     reply: Reply,
     changes: Changes,
 ) -> Result<Prepared, AllocError>
-    requires int { HasInt reply }
     requires leads { (new : Map) × Leads (held store.old) new changes }
     requires room { room_of store.old ≡ most_bytes }
-    ensures ready { IfOk result (λ p. (w v : Accounts) (new : Map) → StandsFor (held store.old) w → Leads (held store.old) new changes → StandsFor new v
-        → IsReady p store.new (Commits w (answer.leads (answer_of reply) v))) }
+    ensures ready { IfOk result (λ p. (a : Answer) (w v : Accounts) (new : Map) → Tells reply a → StandsFor (held store.old) w → Leads (held store.old) new changes → StandsFor new v
+        → IsReady p store.new (Commits w (answer.leads a v))) }
     ensures held { held store.new ≡ held store.old }
     ensures room { room_of store.new ≡ room_of store.old }
     ensures on { (m : List Event) → IsOn m store.old → IsOn m store.new }
@@ -69,13 +62,12 @@ fn commit_of(
     }
 }
 
-// Makes what a request comes to ready.
+// Makes what a command comes to ready.
 fn ready_for(alloc: Global, store: &mut Store, outcome: Outcome) -> Result<Prepared, AllocError>
-    requires int { ComesInt outcome }
-    requires comes { (w : Accounts) × (request : Request) × Comes outcome (held store.old) w request }
+    requires comes { (w : Accounts) × (command : runs.Command Data) × Comes outcome (held store.old) w command }
     requires room { room_of store.old ≡ most_bytes }
-    ensures ready { IfOk result (λ p. (w : Accounts) (request : Request) → StandsFor (held store.old) w → Comes outcome (held store.old) w request
-        → IsReady p store.new (λ a v. (o : answer.Outcome) × Does w request o × Commits w o a v)) }
+    ensures ready { IfOk result (λ p. (w : Accounts) (command : runs.Command Data) → StandsFor (held store.old) w → Comes outcome (held store.old) w command
+        → IsReady p store.new (λ a v. (o : answer.Outcome) × Does w command o × Commits w o a v)) }
     ensures held { held store.new ≡ held store.old }
     ensures room { room_of store.new ≡ room_of store.old }
     ensures on { (m : List Event) → IsOn m store.old → IsOn m store.new }
@@ -86,60 +78,6 @@ fn ready_for(alloc: Global, store: &mut Store, outcome: Outcome) -> Result<Prepa
             Ok(Prepared::Reply(text))
         }
         Outcome::Leads(reply, changes) => commit_of(alloc, store, reply, changes),
-    }
-}
-
-// Whether the account is there in which a code is to stand.
-fn is_there(alloc: Global, store: &Store, place: Option<Address>) -> Result<bool, AllocError>
-    requires { AreSound (held store.now) }
-    ensures { IfOk result (λ b. (w : Accounts) → StandsFor (held store.now) w → IsTrue b ↔ IsThere w (option_map (λ a. a.0) place)) }
-{
-    match place {
-        Some(address) => {
-            let world = World::over(alloc, store);
-            has_account(&world, address)
-        }
-        None => Ok(true),
-    }
-}
-
-// Where a code is refused first, beside no contracts.
-fn stop_of(alloc: Global, submission: &Submission) -> Result<Option<Rejected>, AllocError>
-    ensures { IfOk result (λ stop. Tells (FirstStop [] submission.now.place submission.now.code) stop) }
-{
-    let deployed = no_contracts(alloc);
-    let place = submission.place;
-    let stop = first_stop(alloc, submission.code.as_bytes(), place, &deployed);
-    discard_deployed(deployed);
-    stop
-}
-
-// The reply to code that isn't run.
-fn judged(alloc: Global, submission: &Submission) -> Result<Reply, AllocError>
-    ensures answers { IfOk result (λ reply. (w : Accounts) (line : List ℕ) → Submits line (option_map (λ a. a.0) submission.now.place) submission.now.code
-        → IsThere w (option_map (λ a. a.0) submission.now.place) → Declines w line (answer_of reply)) }
-    ensures int { IfOk result HasInt }
-{
-    match stop_of(alloc, submission)? {
-        Some(rejected) => Ok(Reply::Rejected(rejected)),
-        None => Ok(Reply::Bad(29)),
-    }
-}
-
-// The reply to a line that asks for nothing that runs.
-fn refusal(alloc: Global, store: &Store, line: &[u8]) -> Result<Reply, AllocError>
-    requires { AreSound (held store.now) }
-    ensures answers { IfOk result (λ reply. (w : Accounts) → StandsFor (held store.now) w → Declines w line.now (answer_of reply)) }
-    ensures int { IfOk result HasInt }
-{
-    let Some(submission) = submitted(alloc, line)? else {
-        return Ok(Reply::Bad(29));
-    };
-    let there = is_there(alloc, store, submission.place)?;
-    if there {
-        judged(alloc, &submission)
-    } else {
-        Ok(Reply::Bad(26))
     }
 }
 
@@ -156,11 +94,7 @@ pub fn prepare(alloc: Global, store: &mut Store, line: &Line) -> Result<Prepared
         let text = reply_line(alloc, Reply::Bad(27))?;
         return Ok(Prepared::Reply(text));
     }
-    let Some(request) = asked(alloc, &line.held)? else {
-        let reply = refusal(alloc, store, &line.held)?;
-        let text = reply_line(alloc, reply)?;
-        return Ok(Prepared::Reply(text));
-    };
-    let outcome = outcome_of(alloc, store, &request)?;
+    let command = command(alloc, &line.held)?;
+    let outcome = outcome_of(alloc, store, &command)?;
     ready_for(alloc, store, outcome)
 }

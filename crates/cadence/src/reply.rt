@@ -1,26 +1,27 @@
 // Replies to commands.
 ghost use Rattle.std.specs.Prelude.{◌≡◌, ◌++◌, ◌∷◌, [], List, ℕ, IfOk, codes, decimal};
 ghost use Rattle.cadence.specs.Answer as answer;
-ghost use Rattle.cadence.specs.Answer.{answer_line};
-ghost use Rattle.cadence.specs.Code.Views.{answer_of, HasInt};
+ghost use Rattle.cadence.specs.Answer.{Answer, answer_line};
+ghost use Rattle.cadence.specs.Code.Views.{Tells};
 
 use cad_declarations::Rejected;
-use cad_num::write_decimal;
 use cad_rejections::rejected_text;
-use cad_syntax::{Address, Num, Text};
+use cad_syntax::{Address, Text};
 use std::alloc::{AllocError, Global};
 
 /// What is answered to a command.
 #[derive(Debug, Drop)]
 pub enum Reply {
-    /// A script's result, an Int.
-    Result(Num),
+    /// A script's result: compact JSON.
+    Result(Text),
     /// An account was made.
     Account(Address),
     /// A transaction took effect.
     Done,
     /// A run failed, by the number of its error.
     Failed(u16),
+    /// A unit of a run was due, and none was left.
+    Limit,
     /// The line asks for nothing that can run, by the number of its fault.
     Bad(u16),
     /// The code is refused: by a phase, and where.
@@ -56,19 +57,10 @@ fn rejected_line(alloc: Global, rejected: &Rejected) -> Result<Text, AllocError>
 
 /// The line of a reply, with a line feed at its end.
 pub fn reply_line(alloc: Global, reply: Reply) -> Result<Text, AllocError>
-    requires { HasInt reply }
-    ensures { IfOk result (λ text. text ≡ answer_line (answer_of reply)) }
+    ensures { IfOk result (λ text. (a : Answer) → Tells reply a → text ≡ answer_line a) }
 {
     match reply {
-        Reply::Result(number) => {
-            let number = write_decimal(alloc, number)?;
-            line_of(
-                alloc,
-                "{\"reply\":\"ok\",\"result\":{\"type\":\"Int\",\"value\":\"",
-                number.as_str(),
-                "\"}}",
-            )
-        }
+        Reply::Result(json) => line_of(alloc, "{\"reply\":\"ok\",\"result\":", json.as_str(), "}"),
         Reply::Account(address) => {
             let address = address.to_hex(alloc)?;
             line_of(
@@ -83,6 +75,7 @@ pub fn reply_line(alloc: Global, reply: Reply) -> Result<Text, AllocError>
             Text::from_str(alloc, line)
         }
         Reply::Failed(number) => number_line(alloc, number, "\",\"reply\":\"failed\"}"),
+        Reply::Limit => Text::from_str(alloc, "{\"reply\":\"limit\"}\n"),
         Reply::Bad(number) => number_line(alloc, number, "\",\"reply\":\"bad\"}"),
         Reply::Rejected(rejected) => rejected_line(alloc, &rejected),
     }

@@ -13,7 +13,50 @@ const SEVEN: &str = "{\"reply\":\"ok\",\"result\":{\"type\":\"Int\",\"value\":\"
 
 const TOO_LONG: &str = "{\"error\":\"27\",\"reply\":\"bad\"}\n";
 
-const NO_FORM: &str = "{\"error\":\"29\",\"reply\":\"bad\"}\n";
+const UNREAD: &str = "{\"error\":\"21\",\"reply\":\"bad\"}\n";
+
+// Lines that ask for nothing that can run, each with the number of its fault.
+const FAULTS: [(&str, u16); 10] = [
+    ("hello", 21),
+    ("{}", 22),
+    ("{\"kind\":\"dance\"}", 23),
+    ("{\"kind\":\"script\"}", 22),
+    ("{\"kind\":\"script\",\"code\":\"#\",\"limit\":0}", 28),
+    (
+        "{\"kind\":\"script\",\"code\":\"access(all) fun main(a: Address) {}\",\"arguments\":[{\"type\":\"Address\",\"value\":\"1\"}]}",
+        24,
+    ),
+    (
+        "{\"kind\":\"script\",\"code\":\"access(all) fun main() {}\",\"arguments\":[1]}",
+        25,
+    ),
+    ("{\"kind\":\"script\",\"code\":\"transaction {}\"}", 26),
+    (
+        "{\"kind\":\"script\",\"code\":\"access(all) fun main(): Address { return getAccount(0x1).address }\"}",
+        29,
+    ),
+    ("{\"kind\":\"transaction\",\"code\":\"transaction {}\"}", 29),
+];
+
+// Scripts that run, with their replies.
+const SCRIPTS: [(&str, &str); 4] = [
+    (
+        "{\"kind\":\"script\",\"code\":\"access(all) fun main(): Bool { return 1 < 2 }\"}",
+        "{\"reply\":\"ok\",\"result\":{\"type\":\"Bool\",\"value\":true}}\n",
+    ),
+    (
+        "{\"kind\":\"script\",\"code\":\"access(all) fun main(a: Int8): Int8 { return a + 1 }\",\"arguments\":[{\"value\":\"127\",\"type\":\"Int8\"}]}",
+        "{\"error\":\"101\",\"reply\":\"failed\"}\n",
+    ),
+    (
+        "{\"kind\":\"script\",\"code\":\"access(all) fun main() { panic(\\\"stop\\\") }\"}",
+        "{\"error\":\"109\",\"reply\":\"failed\"}\n",
+    ),
+    (
+        "{\"kind\":\"script\",\"code\":\"access(all) fun main() { while true {} }\",\"limit\":5}",
+        "{\"reply\":\"limit\"}\n",
+    ),
+];
 
 const UNPARSED: &str = "{\"kind\":\"script\",\"code\":\"fun\"}";
 
@@ -67,7 +110,7 @@ fn replies_to_lines(rt: HostRuntime) -> Result<(), Fail> {
         ("".to_string(alloc)?, "".to_string(alloc)?),
         (
             format!(in alloc; "hello\n{SUM}")?,
-            format!(in alloc; "{NO_FORM}{SEVEN}")?,
+            format!(in alloc; "{UNREAD}{SEVEN}")?,
         ),
         (
             format!(in alloc; "{UNPARSED}\n{UNLEXED}\n{SUM}")?,
@@ -83,6 +126,33 @@ fn replies_to_lines(rt: HostRuntime) -> Result<(), Fail> {
         let status = serve(alloc, words.as_slice(), &mut host);
         assert_eq!(rt; status, Status::Done);
         assert_eq!(rt; host.output(), want.as_bytes());
+    }
+    Ok(())
+}
+
+// The replies of a run to one line.
+fn replies_to(alloc: Global, line: &str) -> Result<Items<u8>, Fail> {
+    let words = words_of(alloc, &["run", "accounts"])?;
+    let mut host = SureHost::new(alloc, line.as_bytes())?;
+    serve(alloc, words.as_slice(), &mut host);
+    Ok(Items::from_slice(alloc, host.output())?)
+}
+
+#[test]
+fn tells_faults_apart(rt: HostRuntime) -> Result<(), Fail> {
+    let alloc = rt.alloc();
+    for (line, number) in FAULTS {
+        let want = format!(in alloc; "{{\"error\":\"{number}\",\"reply\":\"bad\"}}\n")?;
+        assert_eq!(rt; replies_to(alloc, line)?.as_slice(), want.as_bytes());
+    }
+    Ok(())
+}
+
+#[test]
+fn runs_scripts(rt: HostRuntime) -> Result<(), Fail> {
+    let alloc = rt.alloc();
+    for (line, want) in SCRIPTS {
+        assert_eq!(rt; replies_to(alloc, line)?.as_slice(), want.as_bytes());
     }
     Ok(())
 }

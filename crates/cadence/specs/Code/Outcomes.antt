@@ -1,17 +1,18 @@
--- What the program's values say of a request.
+-- What the program's values say of what a command comes to.
 use Rattle.std.specs.Prelude.{◌≡◌, ◌≢◌, ℕ, List, [], Option, Some, None}
+use Rattle.serde_json.specs.Data.{Data}
 use Rattle.cad_syntax.specs.declared.num.Num.{Num}
 use Rattle.cad_num.specs.Numbers.{value_of}
 use Rattle.cad_number_codec.specs.declared.value.Value.TheVariants.{Number}
 use Rattle.cad_wire.specs.declared.entry.Entry.{Entry}
 use Rattle.cad_accounts.specs.Registers.{Map, applied, Leads}
 use Rattle.cad_accounts.specs.Accounts.{Accounts, StandsFor, stored_at, stored_as}
-use Rattle.cad_forms.specs.Request.{Request}
+use Rattle.cad_runs.specs.Commands.{Command}
 use Rattle.cad_store.specs.declared.store.Store.{Store}
 use Rattle.cad_store.specs.Stores.{held, IsOut}
 use Rattle.cadence.specs.Answer.{Answer, Loads, Does, answer_line, done, failed}
 use Rattle.cadence.specs.Answer as answer
-use Rattle.cadence.specs.Code.Views.{answer_of, HasInt}
+use Rattle.cadence.specs.Code.Views.{Tells}
 use Rattle.cadence.specs.declared.outcome.Outcome.{Outcome}
 use Rattle.cadence.specs.declared.outcome.Outcome.TheVariants as outcome
 use Rattle.cadence.specs.declared.prepare.Prepared.{Prepared}
@@ -19,18 +20,13 @@ use Rattle.cadence.specs.declared.prepare.Prepared.TheVariants as prepared
 
 -- over these registers it is one that is allowed
 abbrev pub ComesBy : Outcome → Map → (answer.Outcome → Type 0) → Type 0
-ComesBy (outcome.Stays reply) map Allowed = Allowed (answer.stays (answer_of reply))
+ComesBy (outcome.Stays reply) map Allowed = (a : Answer) × Tells reply a × Allowed (answer.stays a)
 ComesBy (outcome.Leads reply changes) map Allowed =
-    (v : Accounts) × (new : Map) × Allowed (answer.leads (answer_of reply) v) × Leads map new changes × StandsFor new v
+    (a : Answer) × Tells reply a × (v : Accounts) × (new : Map) × Allowed (answer.leads a v) × Leads map new changes × StandsFor new v
 
--- it is what the request comes to
-abbrev pub Comes : Outcome → Map → Accounts → Request → Type 0
-Comes o map w request = ComesBy o map (Does w request)
-
--- a result is an Int
-abbrev pub ComesInt : Outcome → Type 0
-ComesInt (outcome.Stays reply) = HasInt reply
-ComesInt (outcome.Leads reply changes) = HasInt reply
+-- it is what the command comes to
+abbrev pub Comes : Outcome → Map → Accounts → Command Data → Type 0
+Comes o map w command = ComesBy o map (Does w command)
 
 -- the first factor of a sum: None where nothing is stored that it would be loaded from
 abbrev pub Starts : Option Num → Map → Accounts → ℕ → Option (List ℕ) → Type 0
@@ -39,8 +35,8 @@ Starts (Some n) new w signer load = (v : Accounts) × Loads w signer load (value
 
 -- a value is saved, or something is stored there
 abbrev pub Puts : Outcome → Map → Accounts → ℕ → List ℕ → Num → Type 0
-Puts (outcome.Stays reply) map v signer to n = (answer_of reply ≡ failed 111) × (stored_at v signer to ≢ None)
-Puts (outcome.Leads reply changes) map v signer to n = (answer_of reply ≡ done) × (stored_at v signer to ≡ None)
+Puts (outcome.Stays reply) map v signer to n = Tells reply (failed 111) × (stored_at v signer to ≢ None)
+Puts (outcome.Leads reply changes) map v signer to n = Tells reply done × (stored_at v signer to ≡ None)
     × (new : Map) × Leads map new changes × StandsFor new (stored_as signer to (Some (Number n)) v)
 
 -- A reply is ready to be put, or a commit is ready to be written before it: both are allowed.

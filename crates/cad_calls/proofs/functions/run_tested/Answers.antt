@@ -1,0 +1,13 @@
+use Rattle.std.proofs.Common.{map}
+use Rattle.cad_calls.specs.Pieces.{maybe_piece}
+use Rattle.cad_function_sources.specs.Sources.{piece_of}
+use Rattle.cad_calls.proofs.Runs.{finished_err, finished_ok}
+use Rattle.cad_calls.proofs.functions.run_tested.Goals as goal
+
+pub returns-in-Ok : goal.returns-in-Ok
+returns-in-Ok g c =
+    finished_ok (g.C.Callees.front c.args.callees.now) (g.C.Callees.calls c.args.callees.now) c.args.turns (maybe_piece c.args.own) (map piece_of c.args.others.now) c.args.state.now c.run_aside.new.state c.postconditions.new.state c.postconditions.result (g.met.C.Callees.keeps c.args.callees.now) c.in-Ok.ensures c.postconditions.ensures
+
+pub returns-in-Err : goal.returns-in-Err
+returns-in-Err g c =
+    finished_err (g.C.Callees.front c.args.callees.now) (g.C.Callees.calls c.args.callees.now) c.args.turns (maybe_piece c.args.own) (map piece_of c.args.others.now) c.args.state.now c.in-Err.stop c.in-Err.ensures

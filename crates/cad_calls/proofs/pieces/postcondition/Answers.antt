@@ -1,0 +1,12 @@
+use Rattle.cad_function_sources.specs.Sources.{piece_of}
+use Rattle.cad_declarations.specs.Views.{function_of}
+use Rattle.cad_calls.proofs.Laws.{post_err, post_ok}
+use Rattle.cad_calls.proofs.pieces.postcondition.Goals as goal
+
+pub returns-in-Ok : goal.returns-in-Ok
+returns-in-Ok g c =
+    post_ok (g.C.Callees.front c.args.callees.now) (g.C.Callees.calls c.args.callees.now) (piece_of c.args.piece).within c.args.piece.initializes (function_of c.args.piece.function.now) c.args.state.now c.piece_after.new.state c.pass_function.new.state c.pass_function.result c.in-Ok.ensures c.pass_function.ensures
+
+pub returns-in-Err : goal.returns-in-Err
+returns-in-Err g c =
+    post_err (g.C.Callees.front c.args.callees.now) (g.C.Callees.calls c.args.callees.now) (piece_of c.args.piece).within (piece_of c.args.piece).function c.args.state.now c.in-Err.stop c.in-Err.ensures

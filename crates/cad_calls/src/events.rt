@@ -1,0 +1,147 @@
+// The event that tells of the end of a resource, by its default arguments.
+ghost use Rattle.std.specs.Prelude.{◌≡◌, option_map};
+ghost use Rattle.cad_calls.specs.Code.Parts as parts;
+ghost use Rattle.cad_calls.specs.Pieces.{event_in};
+ghost use Rattle.cad_declarations.specs.Views.{destroyed_of};
+ghost use Rattle.cad_evaluation.specs.Evaluation.{destroying_nothing, event_made};
+ghost use Rattle.cad_expressions.specs.Views.{items_row};
+ghost use Rattle.cad_rows.specs.Views.{pure_tree};
+ghost use Rattle.cad_state.specs.Views.{CarriesOut, FindsAndCarriesOut};
+
+use cad_declarations::DestroyedEvent;
+use cad_expressions::{Callees, Quiet, eval_arguments};
+use cad_function_sources::{Source, destroyed_event, discard_own, source_of};
+use cad_making::{event, look_in, look_out};
+use cad_outcomes::Stop;
+use cad_rows::{Place, Tree, discard_tree};
+use cad_state::RunState;
+use cad_syntax::TypeId;
+
+/// The default arguments of an event, with the resource as `self`.
+fn evaluate_defaults<C: Callees>(
+    destroyed: &DestroyedEvent,
+    id: &TypeId,
+    label: u64,
+    callees: &C,
+    state: &mut RunState,
+) -> Result<Vec<Place>, Stop>
+    requires { C.is_ready callees.now }
+    ensures { FindsAndCarriesOut items_row (parts.event_row (C.front callees.now) (C.calls callees.now) id.now label (destroyed_of destroyed.now)) state.old state.new result }
+{
+    match look_in(state, id, label) {
+        Ok(()) => eval_arguments(destroyed.arguments.as_slice(), callees, state),
+        Err(stop) => Err(stop),
+    }
+}
+
+/// The event of them, while the resource is still `self`.
+fn make_inside<C: Callees>(
+    destroyed: &DestroyedEvent,
+    id: &TypeId,
+    label: u64,
+    callees: &C,
+    state: &mut RunState,
+) -> Result<Tree, Stop>
+    requires { C.is_ready callees.now }
+    ensures { FindsAndCarriesOut pure_tree (parts.event_inside (C.front callees.now) (C.calls callees.now) id.now label (destroyed_of destroyed.now)) state.old state.new result }
+{
+    match evaluate_defaults(destroyed, id, label, callees, state) {
+        Ok(row) => event(state, &destroyed.event, row),
+        Err(stop) => Err(stop),
+    }
+}
+
+/// The resource isn't `self` any more; the event is handed over.
+fn look_out_with(tree: Tree, state: &mut RunState) -> Result<Tree, Stop>
+    ensures { CarriesOut pure_tree (parts.looked_with (pure_tree tree)) state.old state.new result }
+{
+    match look_out(state) {
+        Ok(()) => Ok(tree),
+        Err(stop) => {
+            discard_tree(tree);
+            Err(stop)
+        }
+    }
+}
+
+/// The event that tells of the end of a resource.
+fn make_event<C: Callees>(
+    destroyed: &DestroyedEvent,
+    id: &TypeId,
+    label: u64,
+    callees: &C,
+    state: &mut RunState,
+) -> Result<Tree, Stop>
+    requires { C.is_ready callees.now }
+    ensures { FindsAndCarriesOut pure_tree (event_made (C.front callees.now) (C.calls callees.now) id.now label (destroyed_of destroyed.now)) state.old state.new result }
+{
+    match make_inside(destroyed, id, label, callees, state) {
+        Ok(tree) => look_out_with(tree, state),
+        Err(stop) => Err(stop),
+    }
+}
+
+/// The event that a type declares, as its source has it.
+fn own_event(own: &Option<Source>) -> Option<&DestroyedEvent>
+    ensures { option_map (λ d. destroyed_of d.now) result ≡ event_in own.now }
+{
+    match own {
+        Some(source) => destroyed_event(source),
+        None => None,
+    }
+}
+
+/// The event of the source of a type; IllTyped where there is none.
+fn tell_event<C: Callees>(
+    own: &Option<Source>,
+    id: &TypeId,
+    label: u64,
+    callees: &C,
+    state: &mut RunState,
+) -> Result<Tree, Stop>
+    requires { C.is_ready callees.now }
+    ensures { FindsAndCarriesOut pure_tree (parts.event_told (C.front callees.now) (C.calls callees.now) id.now label (event_in own.now)) state.old state.new result }
+{
+    match own_event(own) {
+        Some(destroyed) => make_event(destroyed, id, label, callees, state),
+        None => Err(Stop::IllTyped),
+    }
+}
+
+/// The same, where default arguments destroy nothing but by what they call.
+fn tell_quietly<C: Callees>(
+    own: &Option<Source>,
+    id: &TypeId,
+    label: u64,
+    callees: &C,
+    state: &mut RunState,
+) -> Result<Tree, Stop>
+    requires { C.is_ready callees.now }
+    ensures { FindsAndCarriesOut pure_tree (parts.event_told (C.front callees.now) (destroying_nothing (C.calls callees.now)) id.now label (event_in own.now)) state.old state.new result }
+{
+    let quiet = Quiet { inner: callees };
+    let result = tell_event(own, id, label, &quiet, state);
+    let Quiet { inner: _ } = quiet;
+    result
+}
+
+/// The event that tells of the end of a resource of a type, whose node has the label. Errors are those of its default
+/// arguments; IllTyped where the type declares none.
+pub fn call_event<C: Callees>(
+    id: &TypeId,
+    label: u64,
+    callees: &C,
+    state: &mut RunState,
+) -> Result<Tree, Stop>
+    requires { C.is_ready callees.now }
+    ensures { FindsAndCarriesOut pure_tree (parts.end_told (C.front callees.now) (C.calls callees.now) id.now label) state.old state.new result }
+{
+    match source_of(state, id) {
+        Ok(own) => {
+            let result = tell_quietly(&own, id, label, callees, state);
+            discard_own(own);
+            result
+        }
+        Err(_) => Err(Stop::Memory),
+    }
+}

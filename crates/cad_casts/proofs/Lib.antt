@@ -1,0 +1,4 @@
+pub mod CastLaws
+pub mod Plain
+pub mod RowLaws
+pub mod Settles

@@ -1,0 +1,5 @@
+pub mod Addresses
+pub mod Items
+pub mod Limits
+pub mod Lines
+pub mod Samples

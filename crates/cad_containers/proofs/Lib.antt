@@ -1,0 +1,10 @@
+mod AimLaws
+mod Changing
+mod KeyChanges
+mod Keys
+mod Looks
+mod MemberLaws
+mod Places
+mod Rows
+mod Spots
+mod Tables

@@ -1,0 +1,13 @@
+use Rattle.std.proofs.Common.{map}
+use Rattle.cad_rows.specs.Views.{pure_row, pure_shape}
+use Rattle.cad_syntax.specs.Types.{pure_type}
+use Rattle.cad_values.specs.Values.{pure_value}
+use Rattle.cad_containers.specs.Code.Members.{dictionary_read}
+use Rattle.cad_containers.proofs.MemberLaws.{by_entries}
+use Rattle.cad_containers.proofs.reads.read_entries.Goals as goal
+
+pub returns-in-Some : goal.returns-in-Some
+returns-in-Some c =
+    let x = c.in-Some.dictionary in
+    by_entries c.args.spot.optionals (pure_shape c.args.spot.shape.now) (pure_row c.args.spot.parts.now) (pure_row x.parts.now) (pure_type x.key.now) (pure_type x.value.now) (map pure_value x.keys.now)
+    (dictionary_read c.args.member (pure_row c.args.arguments.now)) c.read_dictionary.result c.in-Some.ensures.0 c.in-Some.ensures.1 c.in-Some.ensures.2 c.read_dictionary.ensures

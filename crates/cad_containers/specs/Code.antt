@@ -1,0 +1,5 @@
+pub mod Changes
+pub mod Dictionaries
+pub mod Members
+pub mod Parts
+pub mod Tables

@@ -1,0 +1,11 @@
+use Rattle.cad_declarations.specs.Views.{term_of}
+use Rattle.cad_execution.proofs.ChoiceLaws.{test_err, test_ok}
+use Rattle.cad_execution.proofs.chosen.first_holds.Goals as goal
+
+pub returns-in-Ok : goal.returns-in-Ok
+returns-in-Ok g c =
+    test_ok (g.C.Callees.front c.args.callees.now) (g.C.Callees.calls c.args.callees.now) (term_of c.args.test.now) c.in-Ok.tree c.args.state.now c.first_value.new.state c.truth.result c.in-Ok.ensures c.truth.ensures
+
+pub returns-in-Err : goal.returns-in-Err
+returns-in-Err g c =
+    test_err (g.C.Callees.front c.args.callees.now) (g.C.Callees.calls c.args.callees.now) (term_of c.args.test.now) c.args.state.now c.in-Err.stop c.in-Err.ensures

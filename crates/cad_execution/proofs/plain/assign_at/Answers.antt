@@ -1,0 +1,13 @@
+use Rattle.cad_declarations.specs.Views.{term_of}
+use Rattle.cad_execution.proofs.PlainLaws.{assign_at_err, assign_at_ok}
+use Rattle.cad_locations.specs.Views.{location_of}
+use Rattle.cad_syntax.specs.Types.{pure_type}
+use Rattle.cad_execution.proofs.plain.assign_at.Goals as goal
+
+pub returns-in-Ok : goal.returns-in-Ok
+returns-in-Ok g c =
+    assign_at_ok (g.C.Callees.front c.args.callees.now) (g.C.Callees.calls c.args.callees.now) (location_of c.args.location.now) (term_of c.args.value.now) (pure_type c.args.target.now) c.in-Ok.tree c.args.state.now c.come.new.state c.assign.new.state c.assign.result c.next.result (g.met.C.Callees.keeps c.args.callees.now) c.in-Ok.ensures c.assign.ensures c.next.ensures
+
+pub returns-in-Err : goal.returns-in-Err
+returns-in-Err g c =
+    assign_at_err (g.C.Callees.front c.args.callees.now) (g.C.Callees.calls c.args.callees.now) (location_of c.args.location.now) (term_of c.args.value.now) (pure_type c.args.target.now) c.args.state.now c.in-Err.stop c.in-Err.ensures

@@ -1,0 +1,10 @@
+use Rattle.cad_execution.proofs.PlainLaws.{break_err, break_ok}
+use Rattle.cad_execution.proofs.plain.break_loop.Goals as goal
+
+pub returns-in-Ok : goal.returns-in-Ok
+returns-in-Ok c =
+    break_ok c.args.state.now c.tick.new.self c.in-Ok.ensures
+
+pub returns-in-Err : goal.returns-in-Err
+returns-in-Err c =
+    break_err c.args.state.now c.in-Err.stop c.in-Err.ensures

@@ -1,0 +1,11 @@
+-- How statements end.
+use Rattle.cad_evaluation.specs.Flows as spec
+use Rattle.cad_execution.specs.declared.flow.Flow.{Flow}
+use Rattle.cad_execution.specs.declared.flow.Flow.TheVariants.{Next, Returned, Broken, Continued}
+use Rattle.cad_rows.specs.Views.{pure_tree}
+
+abbrev pub flow_of : Flow → spec.Flow
+flow_of Next = spec.next
+flow_of (Returned tree) = spec.returned (pure_tree tree)
+flow_of Broken = spec.broken
+flow_of Continued = spec.continued

@@ -1,0 +1,14 @@
+//! Statements: what they mean, over what is called.
+#![tactic(auto)]
+
+mod chosen;
+mod ends;
+mod flow;
+mod leaves;
+mod places;
+mod plain;
+mod statements;
+
+pub use flow::{Flow, discard_flow};
+pub use leaves::{come, emit_event, truth};
+pub use statements::exec_block;

@@ -1,0 +1,327 @@
+// Statements that run no others.
+ghost use Rattle.std.specs.Prelude.{◌≡◌, ℕ, map};
+ghost use Rattle.cad_declarations.specs.Typed as e;
+ghost use Rattle.cad_declarations.specs.Views.{argument_of, place_of, return_of, term_of, variable_of};
+ghost use Rattle.cad_evaluation.specs.Containers as containers;
+ghost use Rattle.cad_evaluation.specs.Statements as spec;
+ghost use Rattle.cad_execution.specs.Code.Parts as parts;
+ghost use Rattle.cad_execution.specs.Views.{flow_of};
+ghost use Rattle.cad_locations.specs.Views.{location_of};
+ghost use Rattle.cad_outcomes.specs.Outcomes.{no_value};
+ghost use Rattle.cad_rows.specs.Views.{pure_tree};
+ghost use Rattle.cad_state.specs.Views.{FindsAndCarriesOut};
+ghost use Rattle.cad_syntax.specs.Types.{pure_type};
+ghost use Rattle.cad_values.specs.Values.{pure_value, void};
+
+use crate::flow::{Flow, give_back, next};
+use crate::leaves::{come, emit_event, first_come, first_value};
+use crate::places::{first_location, locate};
+use cad_declarations::{Argument, Place, Term, Variable};
+use cad_expressions::Callees;
+use cad_locations::{Location, discard_location};
+use cad_making::let_go;
+use cad_operators::plain_tree;
+use cad_outcomes::Stop;
+use cad_rows::Tree;
+use cad_state::RunState;
+use cad_syntax::{CadType, TypeId};
+use cad_values::Value;
+use std::alloc::Global;
+
+/// `let a: T = e`
+pub(crate) fn declare<C: Callees>(
+    variable: &Variable,
+    value: &Term,
+    callees: &C,
+    state: &mut RunState,
+) -> Result<Flow, Stop>
+    requires { C.is_ready callees.now }
+    ensures { (at n : ℕ) → FindsAndCarriesOut flow_of (spec.exec (C.front callees.now) (C.calls callees.now) n (e.declare at (variable_of variable.now) (term_of value.now))) state.old state.new result }
+{
+    match first_come(value, &variable.declared, callees, state) {
+        Ok(tree) => next(state.fill_variable(variable.number as usize, tree)),
+        Err(stop) => Err(stop),
+    }
+}
+
+/// What stood at a location, where the value of an expression comes to, as it comes to a variable.
+fn exchange_value<C: Callees>(
+    location: &Location,
+    own: &CadType,
+    value: &Term,
+    target: &CadType,
+    callees: &C,
+    state: &mut RunState,
+) -> Result<Tree, Stop>
+    requires { C.is_ready callees.now }
+    ensures { FindsAndCarriesOut pure_tree (parts.exchange_at (C.front callees.now) (C.calls callees.now) (location_of location.now) (pure_type own.now) (term_of value.now) (pure_type target.now)) state.old state.new result }
+{
+    match come(value, target, callees, state) {
+        Ok(tree) => cad_locations::exchange(state, location, own, tree),
+        Err(stop) => Err(stop),
+    }
+}
+
+/// The value of an expression comes to a location, and what stood there to a variable.
+fn exchange_into<C: Callees>(
+    location: &Location,
+    variable: &Variable,
+    value: &Term,
+    target: &CadType,
+    callees: &C,
+    state: &mut RunState,
+) -> Result<Flow, Stop>
+    requires { C.is_ready callees.now }
+    ensures { FindsAndCarriesOut flow_of (parts.exchange_into (C.front callees.now) (C.calls callees.now) (location_of location.now) (variable_of variable.now) (term_of value.now) (pure_type target.now)) state.old state.new result }
+{
+    match exchange_value(location, &variable.declared, value, target, callees, state) {
+        Ok(old) => next(state.fill_variable(variable.number as usize, old)),
+        Err(stop) => Err(stop),
+    }
+}
+
+/// `let old: T <- place <- e`
+pub(crate) fn exchange<C: Callees>(
+    variable: &Variable,
+    place: &Place,
+    of: &CadType,
+    value: &Term,
+    callees: &C,
+    state: &mut RunState,
+) -> Result<Flow, Stop>
+    requires { C.is_ready callees.now }
+    ensures { (at n : ℕ) → FindsAndCarriesOut flow_of (spec.exec (C.front callees.now) (C.calls callees.now) n (e.exchange at (variable_of variable.now) (place_of place.now) (pure_type of.now) (term_of value.now))) state.old state.new result }
+{
+    match first_location(place, callees, state) {
+        Ok(location) => {
+            let flow = exchange_into(&location, variable, value, of, callees, state);
+            discard_location(location);
+            flow
+        }
+        Err(stop) => Err(stop),
+    }
+}
+
+/// The value of an expression is assigned to a location.
+fn assign_at<C: Callees>(
+    location: &Location,
+    value: &Term,
+    target: &CadType,
+    callees: &C,
+    state: &mut RunState,
+) -> Result<Flow, Stop>
+    requires { C.is_ready callees.now }
+    ensures { FindsAndCarriesOut flow_of (parts.assign_at (C.front callees.now) (C.calls callees.now) (location_of location.now) (term_of value.now) (pure_type target.now)) state.old state.new result }
+{
+    match come(value, target, callees, state) {
+        Ok(tree) => next(cad_locations::assign(state, location, tree)),
+        Err(stop) => Err(stop),
+    }
+}
+
+/// `place = e`
+pub(crate) fn assign<C: Callees>(
+    place: &Place,
+    value: &Argument,
+    callees: &C,
+    state: &mut RunState,
+) -> Result<Flow, Stop>
+    requires { C.is_ready callees.now }
+    ensures { (at n : ℕ) → FindsAndCarriesOut flow_of (spec.exec (C.front callees.now) (C.calls callees.now) n (e.assign at (place_of place.now) (term_of value.now.value) (pure_type value.now.target))) state.old state.new result }
+{
+    match first_location(place, callees, state) {
+        Ok(location) => {
+            let flow = assign_at(&location, &value.value, &value.target, callees, state);
+            discard_location(location);
+            flow
+        }
+        Err(stop) => Err(stop),
+    }
+}
+
+/// The value of an expression comes to a location that is nil.
+fn force_assign_at<C: Callees>(
+    location: &Location,
+    value: &Term,
+    target: &CadType,
+    callees: &C,
+    state: &mut RunState,
+) -> Result<Flow, Stop>
+    requires { C.is_ready callees.now }
+    ensures { FindsAndCarriesOut flow_of (parts.force_assign_at (C.front callees.now) (C.calls callees.now) (location_of location.now) (term_of value.now) (pure_type target.now)) state.old state.new result }
+{
+    match come(value, target, callees, state) {
+        Ok(tree) => next(cad_locations::force_assign(state, location, tree)),
+        Err(stop) => Err(stop),
+    }
+}
+
+/// `place <-! e`
+pub(crate) fn force_assign<C: Callees>(
+    place: &Place,
+    value: &Argument,
+    callees: &C,
+    state: &mut RunState,
+) -> Result<Flow, Stop>
+    requires { C.is_ready callees.now }
+    ensures { (at n : ℕ) → FindsAndCarriesOut flow_of (spec.exec (C.front callees.now) (C.calls callees.now) n (e.force_assign at (place_of place.now) (term_of value.now.value) (pure_type value.now.target))) state.old state.new result }
+{
+    match first_location(place, callees, state) {
+        Ok(location) => {
+            let flow = force_assign_at(&location, &value.value, &value.target, callees, state);
+            discard_location(location);
+            flow
+        }
+        Err(stop) => Err(stop),
+    }
+}
+
+/// What stands at a location and what stands in a place change places.
+fn swap_with<C: Callees>(
+    left: &Location,
+    left_type: &CadType,
+    right: &Place,
+    right_type: &CadType,
+    callees: &C,
+    state: &mut RunState,
+) -> Result<Flow, Stop>
+    requires { C.is_ready callees.now }
+    ensures { FindsAndCarriesOut flow_of (parts.swap_with (C.front callees.now) (C.calls callees.now) (location_of left.now) (pure_type left_type.now) (place_of right.now) (pure_type right_type.now)) state.old state.new result }
+{
+    match locate(right, callees, state) {
+        Ok(location) => {
+            let flow = next(cad_locations::swap(state, left, left_type, &location, right_type));
+            discard_location(location);
+            flow
+        }
+        Err(stop) => Err(stop),
+    }
+}
+
+/// `a <-> b`
+pub(crate) fn swap<C: Callees>(
+    left: &Place,
+    left_type: &CadType,
+    right: &Place,
+    right_type: &CadType,
+    callees: &C,
+    state: &mut RunState,
+) -> Result<Flow, Stop>
+    requires { C.is_ready callees.now }
+    ensures { (at n : ℕ) → FindsAndCarriesOut flow_of (spec.exec (C.front callees.now) (C.calls callees.now) n (e.swap at (place_of left.now) (pure_type left_type.now) (place_of right.now) (pure_type right_type.now))) state.old state.new result }
+{
+    match first_location(left, callees, state) {
+        Ok(location) => {
+            let flow = swap_with(&location, left_type, right, right_type, callees, state);
+            discard_location(location);
+            flow
+        }
+        Err(stop) => Err(stop),
+    }
+}
+
+/// An expression whose value goes.
+pub(crate) fn expression<C: Callees>(
+    value: &Term,
+    callees: &C,
+    state: &mut RunState,
+) -> Result<Flow, Stop>
+    requires { C.is_ready callees.now }
+    ensures { (at n : ℕ) → FindsAndCarriesOut flow_of (spec.exec (C.front callees.now) (C.calls callees.now) n (e.expression at (term_of value.now))) state.old state.new result }
+{
+    match first_value(value, callees, state) {
+        Ok(tree) => next(let_go(tree)),
+        Err(stop) => Err(stop),
+    }
+}
+
+/// `break`
+pub(crate) fn break_loop(state: &mut RunState) -> Result<Flow, Stop>
+    ensures { FindsAndCarriesOut flow_of parts.break_flow state.old state.new result }
+{
+    match state.tick() {
+        Ok(()) => Ok(Flow::Broken),
+        Err(stop) => Err(stop),
+    }
+}
+
+/// `continue`
+pub(crate) fn continue_loop(state: &mut RunState) -> Result<Flow, Stop>
+    ensures { FindsAndCarriesOut flow_of parts.continue_flow state.old state.new result }
+{
+    match state.tick() {
+        Ok(()) => Ok(Flow::Continued),
+        Err(stop) => Err(stop),
+    }
+}
+
+/// The value of a function without a result.
+fn void_value() -> Value
+    ensures { pure_value result ≡ void }
+{
+    Value::Void
+}
+
+/// The same as a tree.
+fn void_tree(alloc: Global) -> Tree
+    ensures { pure_tree result ≡ containers.void_tree }
+{
+    plain_tree(alloc, void_value())
+}
+
+/// `return` without a value
+fn return_nothing(state: &mut RunState) -> Result<Flow, Stop>
+    ensures { FindsAndCarriesOut flow_of parts.return_flow state.old state.new result }
+{
+    match state.tick() {
+        Ok(()) => {
+            let alloc = *state.making.allocator();
+            Ok(Flow::Returned(void_tree(alloc)))
+        }
+        Err(stop) => Err(stop),
+    }
+}
+
+/// `return`
+pub(crate) fn return_value<C: Callees>(
+    value: &Option<Argument>,
+    callees: &C,
+    state: &mut RunState,
+) -> Result<Flow, Stop>
+    requires { C.is_ready callees.now }
+    ensures { (at n : ℕ) → FindsAndCarriesOut flow_of (spec.exec (C.front callees.now) (C.calls callees.now) n (return_of at value.now)) state.old state.new result }
+{
+    match value {
+        Some(given) => give_back(first_come(&given.value, &given.target, callees, state)),
+        None => return_nothing(state),
+    }
+}
+
+/// An event is emitted, after the unit of the statement.
+fn first_emit<C: Callees>(
+    event: &TypeId,
+    arguments: &[Argument],
+    callees: &C,
+    state: &mut RunState,
+) -> Result<(), Stop>
+    requires { C.is_ready callees.now }
+    ensures { FindsAndCarriesOut no_value (parts.first_emit (C.front callees.now) (C.calls callees.now) event.now (e.arguments_of (map argument_of arguments.now))) state.old state.new result }
+{
+    match state.tick() {
+        Ok(()) => emit_event(event, arguments, callees, state),
+        Err(stop) => Err(stop),
+    }
+}
+
+/// `emit E(..)`
+pub(crate) fn emit<C: Callees>(
+    event: &TypeId,
+    arguments: &[Argument],
+    callees: &C,
+    state: &mut RunState,
+) -> Result<Flow, Stop>
+    requires { C.is_ready callees.now }
+    ensures { (at n : ℕ) → FindsAndCarriesOut flow_of (spec.exec (C.front callees.now) (C.calls callees.now) n (e.emit at event.now (e.arguments_of (map argument_of arguments.now)))) state.old state.new result }
+{
+    next(first_emit(event, arguments, callees, state))
+}

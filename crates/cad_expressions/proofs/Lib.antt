@@ -1,0 +1,12 @@
+pub mod Arms
+pub mod Calls
+pub mod Destroying
+pub mod Forms
+pub mod Going
+pub mod Pairs
+pub mod Plain
+pub mod Rights
+pub mod Seconds
+pub mod Standings
+pub mod Trees
+pub mod Turns

@@ -1,0 +1,8 @@
+use Rattle.cad_expressions.proofs.Going.{goes_with, goes_stopped}
+use Rattle.cad_expressions.proofs.ends.destroy_found.Goals as goal
+
+pub returns-in-Ok : goal.returns-in-Ok
+returns-in-Ok g c = goes_with _ _ _ _ _ _ _ _ _ c.in-Ok.is (λ h. c.destroy.ensures h)
+
+pub returns-in-Err : goal.returns-in-Err
+returns-in-Err g c = goes_stopped _ _ _ _ _ _ _ _ c.in-Err.is

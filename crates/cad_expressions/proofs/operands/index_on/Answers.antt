@@ -1,0 +1,12 @@
+use Rattle.cad_expressions.proofs.Going.{goes_on, goes_given, goes_stopped}
+use Rattle.cad_expressions.specs.Code.Steps.{evaluated, index_read}
+use Rattle.cad_declarations.specs.Views.{term_of}
+use Rattle.cad_expressions.proofs.Forms.{evaluated_keeps}
+use Rattle.cad_expressions.proofs.operands.index_on.Goals as goal
+
+pub returns-in-Ok : goal.returns-in-Ok
+unfolding index_read
+returns-in-Ok g c = goes_on _ _ _ _ _ _ _ _ _ c.in-Ok.is (c.read_index-found.ensures.goes c.args.state.now (evaluated (g.E.Evaluator.front c.args.evaluator.now) (g.E.Evaluator.calls c.args.evaluator.now) (term_of c.args.index.now)) (evaluated_keeps (g.E.Evaluator.front c.args.evaluator.now) (g.E.Evaluator.calls c.args.evaluator.now) (term_of c.args.index.now) (g.met.E.Evaluator.keeps c.args.evaluator.now)) c.value-at.ensures)
+
+pub returns-in-Err : goal.returns-in-Err
+returns-in-Err g c = goes_stopped _ _ _ _ _ _ _ _ c.in-Err.is

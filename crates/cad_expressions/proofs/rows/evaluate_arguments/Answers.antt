@@ -1,0 +1,15 @@
+use Rattle.std.proofs.Common.{map, refl, ap}
+use Rattle.cad_rows.specs.Views.{pure_row}
+use Rattle.cad_declarations.specs.Typed as e
+use Rattle.cad_declarations.specs.Views.{argument_of, term_of}
+use Rattle.cad_syntax.specs.Types.{pure_type}
+use Rattle.cad_expressions.specs.Code.Steps.{arguments}
+use Rattle.cad_expressions.specs.Views.{items_row}
+use Rattle.cad_expressions.proofs.Turns.{begun_row, stopped_row}
+use Rattle.cad_expressions.proofs.rows.evaluate_arguments.Goals as goal
+
+pub returns-in-Ok : goal.returns-in-Ok
+returns-in-Ok g c = begun_row (arguments (g.E.Evaluator.front c.args.evaluator.now) (g.E.Evaluator.calls c.args.evaluator.now) (e.arguments_of (map argument_of c.args.all.now))) items_row c.push_arguments.new.row (pure_row c.push_arguments.new.row.items) (pure_row c.new-row.result.items) c.args.state.now c.push_arguments.new.state refl (ap pure_row c.new-row.ensures.items) c.in-Ok.ensures
+
+pub returns-in-Err : goal.returns-in-Err
+returns-in-Err g c = stopped_row (arguments (g.E.Evaluator.front c.args.evaluator.now) (g.E.Evaluator.calls c.args.evaluator.now) (e.arguments_of (map argument_of c.args.all.now))) items_row (pure_row c.push_arguments.new.row.items) (pure_row c.new-row.result.items) c.in-Err.stop c.args.state.now c.push_arguments.new.state (ap pure_row c.new-row.ensures.items) c.in-Err.ensures

@@ -1,0 +1,8 @@
+use Rattle.cad_expressions.proofs.Going.{goes_given, goes_stopped}
+use Rattle.cad_expressions.proofs.values.force_of.Goals as goal
+
+pub returns-in-Ok : goal.returns-in-Ok
+returns-in-Ok c y = goes_given _ _ _ _ _ _ _ _ c.in-Ok.is c.force.ensures
+
+pub returns-in-Err : goal.returns-in-Err
+returns-in-Err c y = goes_stopped _ _ _ _ _ _ _ _ c.in-Err.is

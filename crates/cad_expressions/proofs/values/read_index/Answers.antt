@@ -1,0 +1,10 @@
+use Rattle.cad_expressions.proofs.Going.{goes_on, goes_stopped}
+use Rattle.cad_expressions.specs.Code.Steps.{index_of}
+use Rattle.cad_expressions.proofs.values.read_index.Goals as goal
+
+pub returns-in-Ok : goal.returns-in-Ok
+unfolding index_of
+returns-in-Ok c = goes_on _ _ _ _ _ _ _ _ _ c.in-Ok.is c.index-read.ensures
+
+pub returns-in-Err : goal.returns-in-Err
+returns-in-Err c = goes_stopped _ _ _ _ _ _ _ _ c.in-Err.is

@@ -1,0 +1,44 @@
+// What evaluates the parts of an expression: a parameter of its forms, so that each is proved by itself.
+ghost use Rattle.cad_declarations.specs.Views.{term_of};
+ghost use Rattle.cad_evaluation.specs.Callees.{Calls, Front};
+ghost use Rattle.cad_expressions.specs.Code.Steps as steps;
+ghost use Rattle.cad_expressions.specs.Views.{callee_of};
+ghost use Rattle.cad_labels.specs.Laws.{CalleesKeep};
+ghost use Rattle.cad_rows.specs.Views.{pure_row, pure_tree};
+ghost use Rattle.cad_state.specs.Views.{FindsAndCarriesOut};
+
+use crate::callees::Callee;
+use cad_declarations::Term;
+use cad_outcomes::Stop;
+use cad_rows::{Place, Tree};
+use cad_state::RunState;
+
+/// What parts of expressions mean, over what calls mean and the front end by which contracts are added.
+pub(crate) trait Evaluator {
+    /// The front end.
+    ghost front: { Self → Front };
+
+    /// What each call does.
+    ghost calls: { Self → Calls };
+
+    /// What the code that evaluates rests on.
+    ghost is_ready: { Self → Type 0 };
+
+    /// The value of a part. Errors are those of its own parts.
+    fn value(&self, state: &mut RunState, term: &Term) -> Result<Tree, Stop>
+        requires { is_ready self.now }
+        ensures { FindsAndCarriesOut pure_tree (steps.evaluated (front self.now) (calls self.now) (term_of term.now)) state.old state.new result };
+
+    /// Calls, with arguments in order. Errors are those of what is called.
+    fn call(
+        &self,
+        state: &mut RunState,
+        callee: Callee<'_>,
+        arguments: Vec<Place>,
+    ) -> Result<Tree, Stop>
+        requires { is_ready self.now }
+        ensures { FindsAndCarriesOut pure_tree (calls self.now (callee_of callee.entry) (pure_row arguments.items)) state.old state.new result };
+
+    /// Results of calls over arguments without labels have none, and labels are kept apart.
+    ghost keeps: { (it : Self) → CalleesKeep (calls it) };
+}

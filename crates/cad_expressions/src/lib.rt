@@ -1,0 +1,24 @@
+//! Expressions: what they mean, over what is called.
+#![tactic(auto)]
+
+mod callees;
+mod ends;
+mod entries;
+mod evaluator;
+mod expressions;
+mod growth;
+mod literals;
+mod makes;
+mod members;
+mod nesting;
+mod operands;
+mod places;
+mod reads;
+mod rows;
+mod stands;
+mod terms;
+mod uses;
+mod values;
+
+pub use callees::{Callee, Callees, Quiet};
+pub use expressions::{eval, eval_arguments, eval_place};

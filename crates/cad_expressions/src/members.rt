@@ -1,0 +1,76 @@
+// What is done with a receiver, in the recursion over expressions.
+ghost use Rattle.std.specs.Prelude.{map};
+ghost use Rattle.cad_declarations.specs.Typed.{arguments_of};
+ghost use Rattle.cad_declarations.specs.Views.{argument_of, use_of};
+ghost use Rattle.cad_expressions.specs.Code.Steps as steps;
+ghost use Rattle.cad_expressions.specs.Code.Steps.{GoesOn};
+ghost use Rattle.cad_expressions.specs.Views.{items_row};
+ghost use Rattle.cad_labels.specs.Laws.{AnyOne};
+ghost use Rattle.cad_outcomes.specs.Outcomes.{no_value};
+ghost use Rattle.cad_receivers.specs.Views.{receiver_of};
+ghost use Rattle.cad_rows.specs.Views.{pure_tree};
+ghost use Rattle.cad_state.specs.Views.{FindsAndCarriesOut};
+
+use crate::evaluator::Evaluator;
+use crate::reads::read_member;
+use crate::rows::evaluate_arguments;
+use crate::uses::{call_member, call_method};
+use cad_declarations::{Argument, Use};
+use cad_outcomes::Stop;
+use cad_receivers::{Receiver, check_callable, check_use, get};
+use cad_rows::{Place, Tree};
+use cad_state::RunState;
+
+/// What is done with a receiver: it is looked at before the arguments, and again after them.
+pub(crate) fn evaluate_use<E: Evaluator>(
+    member: &Use,
+    evaluator: &E,
+    state: &mut RunState,
+    receiver: &Receiver,
+) -> Result<Tree, Stop>
+    requires { E.is_ready evaluator.now }
+    ensures { FindsAndCarriesOut pure_tree (steps.used (E.front evaluator.now) (E.calls evaluator.now) (use_of member.now) (receiver_of receiver.now)) state.old state.new result }
+{
+    match member {
+        Use::Field {
+            name,
+            authorization,
+        } => get(state, receiver, name, authorization),
+        Use::Method {
+            name,
+            is_view: _,
+            is_never: _,
+            arguments,
+        } => {
+            let ready = check_callable(state, receiver, name);
+            let row = arguments_behind(arguments.as_slice(), evaluator, state, ready);
+            call_method(evaluator, state, name, receiver, row)
+        }
+        Use::BuiltinField(own) => read_member(state, *own, receiver),
+        Use::BuiltinCall {
+            member: own,
+            types,
+            arguments,
+        } => {
+            let ready = check_use(state, receiver, *own);
+            let row = arguments_behind(arguments.as_slice(), evaluator, state, ready);
+            call_member(state, *own, types.as_slice(), receiver, row)
+        }
+    }
+}
+
+/// Arguments behind what was done.
+fn arguments_behind<E: Evaluator>(
+    all: &[Argument],
+    evaluator: &E,
+    state: &mut RunState,
+    before: Result<(), Stop>,
+) -> Result<Vec<Place>, Stop>
+    requires { E.is_ready evaluator.now }
+    ensures { GoesOn AnyOne no_value items_row (λ _. steps.arguments (E.front evaluator.now) (E.calls evaluator.now) (arguments_of (map argument_of all.now))) before state.old state.new result }
+{
+    match before {
+        Ok(()) => evaluate_arguments(all, evaluator, state),
+        Err(stop) => Err(stop),
+    }
+}

@@ -1,0 +1,184 @@
+// Calls and built-in members, once their arguments have their values.
+ghost use Rattle.std.specs.Prelude.{map};
+ghost use Rattle.cad_evaluation.specs.Callees.{Calls, Front};
+ghost use Rattle.cad_expressions.specs.Code.Steps as steps;
+ghost use Rattle.cad_expressions.specs.Code.Steps.{GoesOn};
+ghost use Rattle.cad_expressions.specs.Views.{items_row};
+ghost use Rattle.cad_labels.specs.Laws.{HasNoneInRow};
+ghost use Rattle.cad_receivers.specs.Uses.{aimed};
+ghost use Rattle.cad_receivers.specs.Views.{receiver_of};
+ghost use Rattle.cad_rows.specs.Views.{pure_row, pure_tree};
+ghost use Rattle.cad_state.specs.Views.{CarriesOut, FindsAndCarriesOut};
+ghost use Rattle.cad_syntax.specs.Types.{pure_type};
+
+use crate::callees::Callee;
+use crate::evaluator::Evaluator;
+use cad_builtins::is_read;
+use cad_members::{function, member};
+use cad_outcomes::Stop;
+use cad_receivers::{Receiver, aim};
+use cad_rows::{Place, Tree, discard_row};
+use cad_state::RunState;
+use cad_syntax::{CadType, Name, TypeId};
+use cad_types::Builtin;
+
+/// A function outside contracts is called.
+pub(crate) fn call_with<E: Evaluator>(
+    evaluator: &E,
+    state: &mut RunState,
+    name: &Name,
+    row: Result<Vec<Place>, Stop>,
+) -> Result<Tree, Stop>
+    requires { E.is_ready evaluator.now }
+    ensures { GoesOn HasNoneInRow items_row pure_tree (steps.called (E.calls evaluator.now) name.now) row state.old state.new result }
+{
+    match row {
+        Ok(found) => call_function(evaluator, state, name, found),
+        Err(stop) => Err(stop),
+    }
+}
+
+/// A function outside contracts is called with these.
+fn call_function<E: Evaluator>(
+    evaluator: &E,
+    state: &mut RunState,
+    name: &Name,
+    row: Vec<Place>,
+) -> Result<Tree, Stop>
+    requires { E.is_ready evaluator.now }
+    ensures { FindsAndCarriesOut pure_tree (steps.called (E.calls evaluator.now) name.now (pure_row row.items)) state.old state.new result }
+{
+    match state.tick() {
+        Ok(()) => evaluator.call(state, Callee::Function(name), row),
+        Err(stop) => {
+            discard_row(row);
+            Err(stop)
+        }
+    }
+}
+
+/// A built-in function is called, or a built-in member of a type.
+pub(crate) fn builtin_with(
+    state: &mut RunState,
+    builtin: Builtin,
+    types: &[CadType],
+    row: Result<Vec<Place>, Stop>,
+) -> Result<Tree, Stop>
+    ensures { GoesOn HasNoneInRow items_row pure_tree (steps.built_in_called builtin (map pure_type types.now)) row state.old state.new result }
+{
+    match row {
+        Ok(found) => call_builtin(state, builtin, types, found),
+        Err(stop) => Err(stop),
+    }
+}
+
+/// A built-in function is called with these.
+fn call_builtin(
+    state: &mut RunState,
+    builtin: Builtin,
+    types: &[CadType],
+    row: Vec<Place>,
+) -> Result<Tree, Stop>
+    ensures { CarriesOut pure_tree (steps.built_in_called builtin (map pure_type types.now) (pure_row row.items)) state.old state.new result }
+{
+    if is_read(builtin) {
+        return function(state, builtin, types, row);
+    }
+    match state.tick() {
+        Ok(()) => function(state, builtin, types, row),
+        Err(stop) => {
+            discard_row(row);
+            Err(stop)
+        }
+    }
+}
+
+/// A function of a receiver is called.
+pub(crate) fn call_method<E: Evaluator>(
+    evaluator: &E,
+    state: &mut RunState,
+    name: &Name,
+    receiver: &Receiver,
+    row: Result<Vec<Place>, Stop>,
+) -> Result<Tree, Stop>
+    requires { E.is_ready evaluator.now }
+    ensures { GoesOn HasNoneInRow items_row pure_tree (steps.method_called (E.calls evaluator.now) name.now (receiver_of receiver.now)) row state.old state.new result }
+{
+    match row {
+        Ok(found) => invoke(evaluator, state, name, receiver, found),
+        Err(stop) => Err(stop),
+    }
+}
+
+/// A unit, and then what a receiver is.
+fn aim_again(state: &mut RunState, receiver: &Receiver) -> Result<(TypeId, u64), Stop>
+    ensures { FindsAndCarriesOut aimed (steps.aimed_again (receiver_of receiver.now)) state.old state.new result }
+{
+    match state.tick() {
+        Ok(()) => aim(state, receiver),
+        Err(stop) => Err(stop),
+    }
+}
+
+/// A function of what a receiver is now is called with these.
+fn invoke<E: Evaluator>(
+    evaluator: &E,
+    state: &mut RunState,
+    name: &Name,
+    receiver: &Receiver,
+    row: Vec<Place>,
+) -> Result<Tree, Stop>
+    requires { E.is_ready evaluator.now }
+    ensures { FindsAndCarriesOut pure_tree (steps.method_called (E.calls evaluator.now) name.now (receiver_of receiver.now) (pure_row row.items)) state.old state.new result }
+{
+    match aim_again(state, receiver) {
+        Ok(goal) => evaluator.call(
+            state,
+            Callee::Method {
+                of: &goal.0,
+                name,
+                label: goal.1,
+            },
+            row,
+        ),
+        Err(stop) => {
+            discard_row(row);
+            Err(stop)
+        }
+    }
+}
+
+/// A built-in member of a receiver is called.
+pub(crate) fn call_member(
+    state: &mut RunState,
+    builtin: Builtin,
+    types: &[CadType],
+    receiver: &Receiver,
+    row: Result<Vec<Place>, Stop>,
+) -> Result<Tree, Stop>
+    ensures { (front : Front) (calls : Calls) → GoesOn HasNoneInRow items_row pure_tree (steps.member_called front calls builtin (map pure_type types.now) (receiver_of receiver.now)) row state.old state.new result }
+{
+    match row {
+        Ok(found) => call_member_with(state, builtin, types, receiver, found),
+        Err(stop) => Err(stop),
+    }
+}
+
+/// A built-in member of a receiver is called with these.
+fn call_member_with(
+    state: &mut RunState,
+    builtin: Builtin,
+    types: &[CadType],
+    receiver: &Receiver,
+    row: Vec<Place>,
+) -> Result<Tree, Stop>
+    ensures { (front : Front) (calls : Calls) → FindsAndCarriesOut pure_tree (steps.member_called front calls builtin (map pure_type types.now) (receiver_of receiver.now) (pure_row row.items)) state.old state.new result }
+{
+    match state.tick() {
+        Ok(()) => member(state, builtin, types, receiver, row),
+        Err(stop) => {
+            discard_row(row);
+            Err(stop)
+        }
+    }
+}

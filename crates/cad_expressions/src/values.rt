@@ -1,0 +1,311 @@
+// What is done with the value of a part, outside of the recursion.
+ghost use Rattle.std.specs.Prelude.{Bool, option_map};
+ghost use Rattle.cad_evaluation.specs.Casts as casts;
+ghost use Rattle.cad_evaluation.specs.Operators as operators;
+ghost use Rattle.cad_evaluation.specs.Uses as uses;
+ghost use Rattle.cad_expressions.specs.Code.Steps as steps;
+ghost use Rattle.cad_expressions.specs.Code.Steps.{AreTypes, GoesOn};
+ghost use Rattle.cad_expressions.specs.Views.{items_row, pairs_of};
+ghost use Rattle.cad_labels.specs.Laws.{HasNone, HasNoneInRow};
+ghost use Rattle.cad_label_runs.proofs.Values.{PairsHaveNone};
+ghost use Rattle.cad_members.specs.Optionals.{left_or_none};
+ghost use Rattle.cad_outcomes.specs.Outcomes.{Gives, no_value};
+ghost use Rattle.cad_receivers.specs.Views.{receiver_of};
+ghost use Rattle.cad_rows.specs.Views.{pure_tree};
+ghost use Rattle.cad_state.specs.Views.{CarriesOut};
+ghost use Rattle.cad_state.specs.declared.state.RunState.{RunState};
+ghost use Rattle.cad_syntax.specs.Types.{pure_type};
+ghost use Rattle.cad_world.specs.Transfers.{transferred};
+
+use cad_casts::cast;
+use cad_containers::{Pair, array, dictionary, discard_pairs};
+use cad_declarations::discard_type;
+use cad_grammar::{BinaryOperator, CastKind, UnaryOperator};
+use cad_making::end_variables;
+use cad_members::{binary, coalesce, force, round, unary, wrap};
+use cad_operators::{truth_in, truth_only};
+use cad_outcomes::Stop;
+use cad_receivers::{Receiver, index};
+use cad_rows::{Place, Tree, discard_row, discard_tree};
+use cad_state::RunState;
+use cad_syntax::CadType;
+use std::alloc::Global;
+
+/// What allocates in a run.
+pub(crate) fn memory(state: &RunState) -> Global {
+    *state.making.allocator()
+}
+
+/// Lets a value go, if one was found.
+pub(crate) fn discard_found(value: Result<Tree, Stop>) {
+    match value {
+        Ok(found) => discard_tree(found),
+        Err(_) => {}
+    }
+}
+
+/// An array literal of its elements.
+pub(crate) fn array_with(element: &CadType, row: Result<Vec<Place>, Stop>) -> Result<Tree, Stop>
+    ensures { (y : RunState) → GoesOn HasNoneInRow items_row pure_tree (uses.array_of (pure_type element.now)) row y y result }
+{
+    match row {
+        Ok(found) => array_of(element, found),
+        Err(stop) => Err(stop),
+    }
+}
+
+/// An array of this type.
+fn array_of(element: &CadType, row: Vec<Place>) -> Result<Tree, Stop>
+    ensures { Gives pure_tree (uses.array_of (pure_type element.now) (items_row row)) result }
+{
+    match element.clone() {
+        Ok(own) => array(own, row),
+        Err(_) => {
+            discard_row(row);
+            Err(Stop::Memory)
+        }
+    }
+}
+
+/// A dictionary literal of its keys and values.
+pub(crate) fn dictionary_with(
+    state: &mut RunState,
+    key: &CadType,
+    value: &CadType,
+    pairs: Result<Vec<Pair>, Stop>,
+) -> Result<Tree, Stop>
+    ensures { GoesOn PairsHaveNone pairs_of pure_tree (uses.dictionary_of (pure_type key.now) (pure_type value.now)) pairs state.old state.new result }
+{
+    match pairs {
+        Ok(found) => dictionary_of(state, key, value, found),
+        Err(stop) => Err(stop),
+    }
+}
+
+/// A dictionary of these types.
+fn dictionary_of(
+    state: &RunState,
+    key: &CadType,
+    value: &CadType,
+    pairs: Vec<Pair>,
+) -> Result<Tree, Stop>
+    ensures { CarriesOut pure_tree (uses.dictionary_of (pure_type key.now) (pure_type value.now) (pairs_of pairs)) state.now state.now result }
+{
+    match copy_types(key, value) {
+        Ok((own_key, own_value)) => dictionary(state, own_key, own_value, pairs),
+        Err(stop) => {
+            discard_pairs(pairs);
+            Err(stop)
+        }
+    }
+}
+
+/// Copies of the types of keys and of values.
+fn copy_types(key: &CadType, value: &CadType) -> Result<(CadType, CadType), Stop>
+    ensures { AreTypes (pure_type key.now) (pure_type value.now) result }
+{
+    match key.clone() {
+        Ok(own_key) => match value.clone() {
+            Ok(own_value) => Ok((own_key, own_value)),
+            Err(_) => {
+                discard_type(own_key);
+                Err(Stop::Memory)
+            }
+        },
+        Err(_) => Err(Stop::Memory),
+    }
+}
+
+/// A value comes to a hidden variable.
+pub(crate) fn put_aside(
+    state: &mut RunState,
+    number: u32,
+    value: Result<Tree, Stop>,
+) -> Result<(), Stop>
+    ensures { GoesOn HasNone pure_tree no_value (steps.put_aside number) value state.old state.new result }
+{
+    match value {
+        Ok(found) => state.fill_variable(number as usize, found),
+        Err(stop) => Err(stop),
+    }
+}
+
+/// Hidden variables end behind a value.
+pub(crate) fn take_down(
+    state: &mut RunState,
+    number: u32,
+    value: Result<Tree, Stop>,
+) -> Result<Tree, Stop>
+    ensures { GoesOn HasNone pure_tree pure_tree (steps.taken_down number) value state.old state.new result }
+{
+    match value {
+        Ok(found) => end_behind(state, number, found),
+        Err(stop) => Err(stop),
+    }
+}
+
+/// Variables from a number on end, and the value stays.
+fn end_behind(state: &mut RunState, number: u32, value: Tree) -> Result<Tree, Stop>
+    ensures { CarriesOut pure_tree (steps.taken_down number (pure_tree value)) state.old state.new result }
+{
+    match end_variables(state, number as usize) {
+        Ok(()) => Ok(value),
+        Err(stop) => {
+            discard_tree(value);
+            Err(stop)
+        }
+    }
+}
+
+/// What an operator of one operand makes of it.
+pub(crate) fn unary_of(
+    state: &mut RunState,
+    operator: UnaryOperator,
+    value: Result<Tree, Stop>,
+) -> Result<Tree, Stop>
+    ensures { GoesOn HasNone pure_tree pure_tree (operators.unary operator) value state.old state.new result }
+{
+    match value {
+        Ok(found) => unary(state, operator, found),
+        Err(stop) => Err(stop),
+    }
+}
+
+/// What an operator makes of two operands.
+pub(crate) fn binary_of(
+    state: &mut RunState,
+    operator: BinaryOperator,
+    left: Tree,
+    right: Result<Tree, Stop>,
+) -> Result<Tree, Stop>
+    ensures { GoesOn HasNone pure_tree pure_tree (operators.binary operator (pure_tree left)) right state.old state.new result }
+{
+    match right {
+        Ok(found) => binary(state, operator, left, found),
+        Err(stop) => {
+            discard_tree(left);
+            Err(stop)
+        }
+    }
+}
+
+/// The content of an optional that is forced.
+pub(crate) fn force_of(value: Result<Tree, Stop>) -> Result<Tree, Stop>
+    ensures { (y : RunState) → GoesOn HasNone pure_tree pure_tree uses.forced value y y result }
+{
+    match value {
+        Ok(found) => force(found),
+        Err(stop) => Err(stop),
+    }
+}
+
+/// A value that is cast.
+pub(crate) fn cast_of(
+    state: &mut RunState,
+    kind: CastKind,
+    declared: &CadType,
+    value: Result<Tree, Stop>,
+) -> Result<Tree, Stop>
+    ensures { GoesOn HasNone pure_tree pure_tree (casts.cast kind (pure_type declared.now)) value state.old state.new result }
+{
+    match value {
+        Ok(found) => cast(state, kind, declared, found),
+        Err(stop) => Err(stop),
+    }
+}
+
+/// The truth that a value is.
+pub(crate) fn truth_of(value: Result<Tree, Stop>) -> Result<bool, Stop>
+    ensures { (y : RunState) → GoesOn HasNone pure_tree (λ (b : Bool). b) steps.truth_told value y y result }
+{
+    match value {
+        Ok(found) => {
+            let truth = truth_in(&found);
+            discard_tree(found);
+            match truth {
+                Some(is) => Ok(is),
+                None => Err(Stop::IllTyped),
+            }
+        }
+        Err(stop) => Err(stop),
+    }
+}
+
+/// The truth that a second operand is, as a value.
+pub(crate) fn truth_only_of(state: &mut RunState, value: Result<Tree, Stop>) -> Result<Tree, Stop>
+    ensures { GoesOn HasNone pure_tree pure_tree uses.truth_only value state.old state.new result }
+{
+    match value {
+        Ok(found) => {
+            let truth = truth_only(memory(state), &found);
+            discard_tree(found);
+            truth
+        }
+        Err(stop) => Err(stop),
+    }
+}
+
+/// The content of an optional, or the optional itself; none of nil.
+pub(crate) fn content_or_whole(
+    takes_off: bool,
+    value: Result<Tree, Stop>,
+) -> Result<Option<Tree>, Stop>
+    ensures { (y : RunState) → GoesOn HasNone pure_tree (λ o. option_map (λ t. pure_tree t) o) (left_or_none takes_off) value y y result }
+{
+    match value {
+        Ok(found) => coalesce(takes_off, found),
+        Err(stop) => Err(stop),
+    }
+}
+
+/// A value in as many optionals as a type asks for.
+pub(crate) fn round_to(declared: &CadType, value: Result<Tree, Stop>) -> Result<Tree, Stop>
+    ensures { (y : RunState) → GoesOn HasNone pure_tree pure_tree (steps.rounded_to (pure_type declared.now)) value y y result }
+{
+    match value {
+        Ok(found) => round(declared, found),
+        Err(stop) => Err(stop),
+    }
+}
+
+/// A value in one optional more, if it is wrapped.
+pub(crate) fn wrap_if(wraps: bool, value: Result<Tree, Stop>) -> Result<Tree, Stop>
+    ensures { (y : RunState) → GoesOn HasNone pure_tree pure_tree (steps.wrapped_by wraps) value y y result }
+{
+    match value {
+        Ok(found) => { if wraps { wrap(found) } else { Ok(found) } }
+        Err(stop) => Err(stop),
+    }
+}
+
+/// What stands in a receiver at an index.
+pub(crate) fn read_index(
+    state: &mut RunState,
+    base: &Receiver,
+    at: Result<Tree, Stop>,
+) -> Result<Tree, Stop>
+    ensures { GoesOn HasNone pure_tree pure_tree (steps.index_of (receiver_of base.now)) at state.old state.new result }
+{
+    match at {
+        Ok(found) => {
+            let read = index(state, base, &found);
+            discard_tree(found);
+            read
+        }
+        Err(stop) => Err(stop),
+    }
+}
+
+/// A value becomes what comes to a place of a type.
+pub(crate) fn hand_over(
+    state: &mut RunState,
+    declared: &CadType,
+    value: Result<Tree, Stop>,
+) -> Result<Tree, Stop>
+    ensures { GoesOn HasNone pure_tree pure_tree (transferred (pure_type declared.now)) value state.old state.new result }
+{
+    match value {
+        Ok(found) => state.transfer(found, declared),
+        Err(stop) => Err(stop),
+    }
+}

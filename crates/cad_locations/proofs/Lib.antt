@@ -1,0 +1,9 @@
+mod Slots
+mod Looks
+mod Settled
+mod Spots
+mod Asked
+mod Fills
+mod Changes
+mod Swaps
+mod Contracts

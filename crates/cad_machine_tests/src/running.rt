@@ -1,0 +1,194 @@
+// What running a script beside a contract comes to.
+use cad_calls::FrontEnd;
+use cad_check::check_text;
+use cad_declarations::{Checked, Deployed, Installed};
+use cad_discards::{discard_checked, discard_deployed, discard_installed};
+use cad_outcomes::Stop;
+use cad_rows::{Place, Shape, Tree, add_last};
+use cad_scripts::{begin, run_script};
+use cad_state::{Contract, RunState, discard_contract, discard_state};
+use cad_syntax::{Address, Bytes, Name, Names, Num, Numbers, Text, TypeId};
+use cad_tables::{no_contracts, with_contract};
+use cad_values::Value;
+use std::alloc::{AllocError, Global};
+use std::mem::replace;
+use std::process::Abort;
+use std::rc::Rc;
+
+/// The account of the contract.
+const PLACE: Address = Address(1);
+
+/// A front end by which no contract is added.
+struct Closed;
+
+impl FrontEnd for Closed {
+    ghost use Rattle.std.specs.Prelude.{None};
+
+    ghost front = { λ it contracts address code. None };
+}
+
+/// What a run comes to: the number that the script gives, and what its state lists.
+#[derive(Drop)]
+pub(crate) struct Outcome {
+    pub number: Result<Option<Num>, Stop>,
+    pub made: Numbers,
+    pub destroyed: Numbers,
+    /// The first field of each event, where it is a number.
+    pub events: Vec<Option<Num>>,
+}
+
+/// A program that several may hold.
+fn shared(alloc: Global, checked: Checked) -> Result<Rc<Checked>, AllocError> {
+    match Rc::new(alloc, checked) {
+        Ok(one) => Ok(one),
+        Err(refused) => {
+            discard_checked(refused.value);
+            Err(AllocError)
+        }
+    }
+}
+
+/// The program that a text is. A text that is refused fails the test.
+fn checked(
+    rt: &impl Abort,
+    alloc: Global,
+    code: &str,
+    place: Option<Address>,
+    deployed: &Deployed,
+) -> Rc<Checked> {
+    let verdict = check_text(alloc, code.as_bytes(), place, deployed).expect(rt, "memory");
+    let program = verdict.expect(rt, "accepted");
+    shared(alloc, program).expect(rt, "memory")
+}
+
+/// The name of the contract.
+fn contract_name(alloc: Global) -> Result<Name, AllocError> {
+    Ok(Name(Text::from_str(alloc, "C")?))
+}
+
+/// The type of the contract.
+fn contract_id(alloc: Global) -> Result<TypeId, AllocError> {
+    let mut names = Names::new(alloc);
+    names.push(contract_name(alloc)?)?;
+    Ok(TypeId {
+        address: PLACE,
+        names,
+    })
+}
+
+/// The value of a contract without fields.
+fn contract_value(rt: &impl Abort, alloc: Global) -> Vec<Place> {
+    let id = contract_id(alloc).expect(rt, "memory");
+    let tree = Tree {
+        optionals: 0,
+        shape: Shape::Composite {
+            id,
+            identity: 0,
+            fields: Names::new(alloc),
+        },
+        parts: Vec::new(alloc),
+    };
+    let mut row = Vec::new(alloc);
+    add_last(&mut row, tree).expect(rt, "memory");
+    row
+}
+
+/// The contract as a run has it.
+fn running(rt: &impl Abort, alloc: Global, checked: &Rc<Checked>) -> Vec<Contract> {
+    let id = contract_id(alloc).expect(rt, "memory");
+    let code = Rc::new(alloc, Bytes::new(alloc)).expect(rt, "memory");
+    let own = checked.clone().expect(rt, "memory");
+    let mut contracts = Vec::new(alloc);
+    match contracts.push(Contract {
+        id,
+        code,
+        checked: own,
+        value: contract_value(rt, alloc),
+        is_running: false,
+    }) {
+        Ok(()) => {}
+        Err(refused) => discard_contract(refused.value),
+    }
+    contracts
+}
+
+/// The contract as a check has it.
+fn deployed(rt: &impl Abort, alloc: Global, none: &Deployed, checked: Rc<Checked>) -> Deployed {
+    let name = contract_name(alloc).expect(rt, "memory");
+    let code = Rc::new(alloc, Bytes::new(alloc)).expect(rt, "memory");
+    let installed = Installed {
+        address: PLACE,
+        name,
+        code,
+        checked,
+    };
+    let all = with_contract(alloc, none, &installed).expect(rt, "memory");
+    discard_installed(installed);
+    all
+}
+
+/// The number that a value is.
+fn number_of(value: &Value) -> Option<Num> {
+    match value {
+        Value::Number(number) => Some(*number),
+        _ => None,
+    }
+}
+
+/// The number in the first field of an event.
+fn number_in(event: &Value) -> Option<Num> {
+    match event {
+        Value::Composite { fields, .. } => match fields.as_slice().first() {
+            Some(field) => number_of(&field.value),
+            None => None,
+        },
+        _ => None,
+    }
+}
+
+/// What a run came to.
+fn told(
+    rt: &impl Abort,
+    alloc: Global,
+    given: Result<Value, Stop>,
+    mut state: RunState,
+) -> Outcome {
+    let mut events = Vec::new(alloc);
+    for event in state.events.as_slice() {
+        events.push(number_in(event)).expect(rt, "memory");
+    }
+    let made = replace(&mut state.made, Numbers::new(alloc));
+    let destroyed = replace(&mut state.destroyed, Numbers::new(alloc));
+    discard_state(state);
+    let number = match given {
+        Ok(value) => Ok(number_of(&value)),
+        Err(stop) => Err(stop),
+    };
+    Outcome {
+        number,
+        made,
+        destroyed,
+        events,
+    }
+}
+
+/// What a script comes to with so many units, beside a contract `C` at address 1.
+pub(crate) fn ran(
+    rt: &impl Abort,
+    alloc: Global,
+    contract: &str,
+    script: &str,
+    units: u64,
+) -> Outcome {
+    let none = no_contracts(alloc);
+    let own = checked(rt, alloc, contract, Some(PLACE), &none);
+    let contracts = running(rt, alloc, &own);
+    let beside = deployed(rt, alloc, &none, own);
+    discard_deployed(none);
+    let program = checked(rt, alloc, script, None, &beside);
+    discard_deployed(beside);
+    let mut state = begin(alloc, program, contracts, 1, units);
+    let fuel = units.saturating_mul(2).saturating_add(2);
+    let given = run_script(fuel, &Closed, Vec::new(alloc), &mut state);
+    told(rt, alloc, given, state)
+}

@@ -1,0 +1,12 @@
+pub mod Acts
+pub mod Aside
+pub mod Destroying
+pub mod Fronts
+pub mod Frames
+pub mod Keeping
+pub mod Names
+pub mod NewLabels
+pub mod Numbered
+pub mod Passing
+pub mod Resources
+pub mod Seen

@@ -1,0 +1,4 @@
+pub mod Code
+pub mod Dying
+pub mod Laws
+pub mod Making

@@ -1,0 +1,4 @@
+pub mod Groups
+pub mod Members
+pub mod Operators
+pub mod Optionals

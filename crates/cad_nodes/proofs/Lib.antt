@@ -1,0 +1,4 @@
+pub mod KeyLaws
+pub mod Written
+pub mod Twice
+pub mod Found

@@ -1,0 +1,4 @@
+pub mod Handing
+pub mod Passing
+pub mod Settling
+pub mod Spots

@@ -1,0 +1,103 @@
+-- What is found out in steps, each of which passes on what it found.
+use Rattle.std.proofs.Common.{◌≡◌, Bool, true, false, ◌&&◌, List, Option, Some, refl, sym, subst, ap, ◌∙◌}
+use Rattle.std.proofs.lemmas.Bool.{false≢true}
+use Rattle.std.specs.Prelude.{Result, Ok, Err}
+use Rattle.cad_outcomes.proofs.Steps.{stops_on, stops_same, then}
+use Rattle.cad_outcomes.specs.Outcomes.{Stops, Does, no_value}
+use Rattle.cad_outcomes.specs.declared.stop.Stop.{Stop}
+use Rattle.cad_outcomes.specs.declared.stop.Stop.TheVariants.{Failed, Limit, IllTyped, Memory}
+use Rattle.cad_receivers.specs.Code.Readings.{Leaves, FindsAndLeaves}
+use Rattle.cad_receivers.specs.Views.{spot_of, found, at_spot}
+use Rattle.cad_receivers.specs.declared.receivers.Spot.{Spot}
+use Rattle.cad_state.specs.Views.{state_over, IsReady, FindsAndCarriesOut}
+use Rattle.cad_state.specs.declared.state.RunState.{RunState}
+use Rattle.cad_world.specs.Marks.{AreGivenOnce}
+use Rattle.cad_world.specs.Receivers as r
+use Rattle.cad_world.specs.State.{State, Account, Outcome, ok, failed, limit, ill, bind, Action, ◌>>=◌, done, guard, with_some}
+
+-- ---- in one state
+
+-- what comes to the same here
+pub here_leaves : {B C : Type 0} (rest : C → Action B) (p p' : Action B) (s : State) (q : Result C Stop) → p s ≡ p' s → Leaves rest p' s q → Leaves rest p s q
+here_leaves rest p p' s (Ok c) e h = e ∙ h
+here_leaves rest p p' s (Err why) e h = stops_same (p s) (p' s) why e h
+
+pub some_leaves : {A B C : Type 0} (rest : C → Action B) (o : Option A) (a : A) (f : A → Action B) (s : State) (q : Result C Stop)
+    → Some a ≡ o → Leaves rest (f a) s q → Leaves rest (with_some o f) s q
+some_leaves rest o a f s q e h = subst (λ x. Leaves rest (with_some x f) s q) e h
+
+pub guard_leaves : {B C : Type 0} (rest : C → Action B) (a b : Bool) (p : Action B) (s : State) (q : Result C Stop)
+    → a ≡ true → b ≡ true → Leaves rest p s q → Leaves rest (guard (a && b) p) s q
+guard_leaves rest a b p s q x y h = subst (λ c. Leaves rest (guard c p) s q) (sym (ap (λ c. c && b) x ∙ y)) h
+
+pub leaves_then : {A B C : Type 0} (rest : C → Action B) (p : Action A) (f : A → Action B) (a : A) (s : State) (q : Result C Stop)
+    → p s ≡ ok a s → Leaves rest (f a) s q → Leaves rest (p >>= f) s q
+leaves_then rest p f a s (Ok c) e h = ap (λ x. bind x f) e ∙ h
+leaves_then rest p f a s (Err why) e h = stops_same (bind (p s) f) (f a s) why (ap (λ x. bind x f) e) h
+
+pub some_does : {A B C : Type 0} (view : C → B) (o : Option A) (a : A) (f : A → Action B) (s t : State) (q : Result C Stop)
+    → Some a ≡ o → Does view (f a) s t q → Does view (with_some o f) s t q
+some_does view o a f s t q e h = subst (λ x. Does view (with_some x f) s t q) e h
+
+-- ---- of what a receiver is now
+
+pub looked_leaves : {B C : Type 0} (rest : C → Action B) (receiver : r.Receiver) (f : r.Spot → Action B) (spot : Spot) (x : RunState) (q : Result C Stop)
+    → FindsAndCarriesOut spot_of (r.look_at receiver) x x (Ok spot) → ((w : List Account) → Leaves rest (f (spot_of spot)) (state_over w x) q)
+    → FindsAndLeaves rest (at_spot receiver f) x q
+looked_leaves rest receiver f spot x q first second w ready = leaves_then rest (r.look_at receiver) f (spot_of spot) (state_over w x) q (first w ready) (second w)
+
+pub look_stops : {B : Type 0} (receiver : r.Receiver) (f : r.Spot → Action B) (x : RunState) (why : Stop)
+    → FindsAndCarriesOut {B = Spot} spot_of (r.look_at receiver) x x (Err why) → (w : List Account) → IsReady w x → Stops (at_spot receiver f (state_over w x)) why
+look_stops receiver f x why h w ready = stops_on (r.look_at receiver (state_over w x)) f why (h w ready)
+
+-- what is done with it changes nothing
+pub looked : {B C : Type 0} (view : C → B) (receiver : r.Receiver) (f : r.Spot → Action B) (spot : Spot) (x : RunState) (q : Result C Stop)
+    → FindsAndCarriesOut spot_of (r.look_at receiver) x x (Ok spot) → ((w : List Account) → Does view (f (spot_of spot)) (state_over w x) (state_over w x) q)
+    → FindsAndCarriesOut view (at_spot receiver f) x x q
+looked view receiver f spot x q first second w ready =
+    then view (r.look_at receiver) f (spot_of spot) (state_over w x) (state_over w x) (state_over w x) q (first w ready) (second w)
+
+-- ---- a receiver that was settled
+
+ready_same : (w : List Account) (x y : RunState) → state_over w y ≡ state_over w x → IsReady w x → IsReady w y
+ready_same w x y e ready = record { unnamed = ready.unnamed; once = subst AreGivenOnce (sym e) ready.once }
+
+pub after_ready : {B C : Type 0} (view : C → B) (action : Action B) (x y z : RunState) (q : Result C Stop)
+    → ((w : List Account) → IsReady w x → state_over w y ≡ state_over w x) → FindsAndCarriesOut view action y z q → FindsAndCarriesOut view action x z q
+after_ready view action x y z q same h w ready =
+    subst (λ s. Does view action s (state_over w z) q) (same w ready) (h w (ready_same w x y (same w ready) ready))
+
+pub after_settle : {B C : Type 0} (view : C → B) (action : Action B) (x y z : RunState) (q : Result C Stop)
+    → ((w : List Account) → state_over w y ≡ state_over w x) → FindsAndCarriesOut view action y z q → FindsAndCarriesOut view action x z q
+after_settle view action x y z q same h = after_ready view action x y z q (λ w ready. same w) h
+
+-- the outcome of an action, and that it has one
+abbrev is_ok : {A : Type 0} → Outcome A → Bool
+is_ok (ok a v) = true
+is_ok _ = false
+
+pub stops_before : {A B : Type 0} (o : Outcome A) (f : A → Action B) (why : Stop) → Stops (bind o (λ a. done)) why → Stops (bind o f) why
+stops_before (ok a v) f (Failed e) h = absurd (false≢true (sym (ap is_ok h)))
+stops_before (ok a v) f Limit h = absurd (false≢true (sym (ap is_ok h)))
+stops_before (ok a v) f IllTyped h = absurd (false≢true (sym (ap is_ok h)))
+stops_before (ok a v) f Memory h = tt
+stops_before (failed n) f (Failed e) h = cc
+stops_before (failed n) f Limit h = cc
+stops_before (failed n) f IllTyped h = cc
+stops_before (failed n) f Memory h = tt
+stops_before limit f (Failed e) h = cc
+stops_before limit f Limit h = refl
+stops_before limit f IllTyped h = cc
+stops_before limit f Memory h = tt
+stops_before ill f (Failed e) h = cc
+stops_before ill f Limit h = cc
+stops_before ill f IllTyped h = refl
+stops_before ill f Memory h = tt
+
+pub stops_then : {A B C : Type 0} (view : C → B) (p : Action A) (f : A → Action B) (x y z : RunState) (why : Stop)
+    → FindsAndCarriesOut {B = Unit {0}} no_value (found p) x y (Err why) → FindsAndCarriesOut {B = C} view (p >>= f) x z (Err why)
+stops_then view p f x y z why h w ready = stops_before (p (state_over w x)) f why (h w ready)
+
+pub settle_stops : {B C : Type 0} (view : C → B) (receiver : r.Receiver) (f : r.Spot → Action B) (x y z : RunState) (why : Stop)
+    → FindsAndCarriesOut {B = Unit {0}} no_value (found (r.look_at receiver)) x y (Err why) → FindsAndCarriesOut {B = C} view (at_spot receiver f) x z (Err why)
+settle_stops view receiver f x y z why h = stops_then view (r.look_at receiver) f x y z why h

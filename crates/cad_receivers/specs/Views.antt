@@ -1,0 +1,35 @@
+-- What receivers are, what they are now, and what is done with that.
+use Rattle.std.specs.Prelude.{ℕ, Option, option_map}
+use Rattle.cad_syntax.specs.declared.types.Authorization.{Authorization}
+use Rattle.cad_evaluation.specs.Standing.{without}
+use Rattle.cad_rows.specs.Views.{pure_shape, pure_row}
+use Rattle.cad_receivers.specs.declared.receivers.Receiver.{Receiver}
+use Rattle.cad_receivers.specs.declared.receivers.Receiver.TheVariants as variant
+use Rattle.cad_receivers.specs.declared.receivers.Spot.{Spot}
+use Rattle.cad_world.specs.Locations.{Location, read}
+use Rattle.cad_world.specs.Receivers as r
+use Rattle.cad_world.specs.State.{Action, ◌>>=◌, ◌>>◌, done}
+
+abbrev pub receiver_of : Receiver → r.Receiver
+receiver_of (variant.Standing rights l n) = r.standing rights l n
+receiver_of (variant.Through shape) = r.through (pure_shape shape)
+receiver_of (variant.Absent nil) = r.absent
+
+abbrev pub spot_of : Spot → r.Spot
+spot_of x = record {
+  rights = option_map (λ own. own.now) x.rights;
+  label = x.label;
+  tree = record { optionals = x.optionals; shape = pure_shape x.shape.now; parts = pure_row x.parts.now };
+}
+
+-- what is looked at is found, and nothing more is done with it
+abbrev pub found : {A : Type 0} → Action A → Action (Unit {0})
+found p = p >> done
+
+-- what is done with what a receiver is now
+abbrev pub at_spot : {A : Type 0} → r.Receiver → (r.Spot → Action A) → Action A
+at_spot x f = r.look_at x >>= f
+
+-- the value in a place without so many of its optionals, as a receiver
+abbrev pub received : Option Authorization → Location → ℕ → Action r.Receiver
+received rights x n = read x >>= (λ t. r.receiver_with rights x (without n t))

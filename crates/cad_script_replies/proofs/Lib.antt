@@ -1,0 +1,4 @@
+pub mod Runs
+pub mod Told
+pub mod Turns
+pub mod Uniqueness

@@ -1,0 +1,79 @@
+-- What a script answers to its arguments, beside no contracts.
+use Rattle.std.specs.Prelude.{◌≡◌, ◌≢◌, ℕ, Bool, true, false, List, [], ◌∷◌, length, Some, None}
+use Rattle.serde_json.specs.Data.{Data}
+use Rattle.cad_syntax.specs.Types.{PureType}
+use Rattle.cad_types.specs.Declarations.{Declaration}
+use Rattle.cad_declarations.specs.Typed.{FunctionBody}
+use Rattle.cad_values.specs.Shapes.{Shapes, declarations}
+use Rattle.cad_values.specs.Values.{PureValue}
+use Rattle.cad_json.specs.Forms.{has_form}
+use Rattle.cad_json.specs.Read.{JsonOf}
+use Rattle.cad_json.specs.Told.{told}
+use Rattle.cad_world.specs.Begin.{begun, IsKept}
+use Rattle.cad_world.specs.Fronts.{Front}
+use Rattle.cad_world.specs.Rows.{Row, stop, first}
+use Rattle.cad_world.specs.Shapes.{shapes}
+use Rattle.cad_world.specs.State as run
+use Rattle.cad_world.specs.State.{Outcome, Program, World}
+use Rattle.cad_world.specs.Trees.{tree_of}
+use Rattle.cad_evaluation.specs.Evaluation.{calls_to}
+use Rattle.cad_runs.specs.Commands.{Reply, result, failed, limit, bad, ill, main_of, types_of}
+use Rattle.cad_runs.specs.Run.{bound, run_script}
+
+-- ---- values
+
+-- beside no contracts: no declared types, and the entitlements that are built in
+abbrev pub value_types : Shapes
+value_types = shapes []
+
+-- JSON for each type, in order, and the row of the values that it stands for
+pub data AreArguments (k : Shapes) : List PureType → List Data → Row → Type 0 where
+  none : AreArguments k [] [] stop
+  one : {type : PureType} {types : List PureType} {json : Data} {all : List Data} {r : Row} (v : PureValue) → JsonOf k type v json → AreArguments k types all r
+      → AreArguments k (type ∷ types) (json ∷ all) (first (tree_of v) r)
+
+-- a result that is told: 134 where a part of it has no form
+abbrev pub told_if : List Declaration → Bool → PureValue → Reply Data
+told_if declared true v = result (told declared v)
+told_if declared false v = failed 134
+
+abbrev pub told_value : List Declaration → PureValue → Reply Data
+told_value declared v = told_if declared (has_form declared v) v
+
+abbrev pub told_reply : List Declaration → Outcome PureValue → Reply Data
+told_reply declared (run.ok v s) = told_value declared v
+told_reply declared (run.failed n) = failed n
+told_reply declared run.limit = limit
+told_reply declared run.ill = ill
+
+-- ---- runs
+
+-- a World between runs without contracts, in which no identity was given; whatever its accounts are
+pub record IsBare (w : World) : Type 0 where
+  pub kept : IsKept w
+  pub contracts : w.contracts ≡ []
+  pub identity : w.next_identity ≡ 1
+
+-- no code is accepted as a contract
+abbrev pub accepts_nothing : Front
+accepts_nothing contracts address code = None
+
+-- `main` runs on a row of arguments with so many units, and this is told of it, in each such World
+abbrev pub Ran : Program → Row → ℕ → Reply Data → Type 0
+Ran p r units reply = (w : World) → IsBare w → told_reply (declarations value_types) (run_script (calls_to accepts_nothing (bound units)) r (begun p units w)) ≡ reply
+
+-- ---- replies
+
+-- What a script answers to JSON as its arguments, with so many units: 26 where it has no `main`, 25 where the arguments are more or
+-- fewer than its parameters, 24 where they aren't of their types.
+pub data Answers (p : Program) (all : List Data) (units : ℕ) : Reply Data → Type 0 where
+  no_main : main_of p ≡ None → Answers p all units (bad 26)
+  miscounted : {main : FunctionBody} → main_of p ≡ Some main → length all ≢ length main.parameters → Answers p all units (bad 25)
+  unfit : {main : FunctionBody} → main_of p ≡ Some main → length all ≡ length main.parameters
+      → ((r : Row) → AreArguments value_types (types_of main.parameters) all r → ⊥) → Answers p all units (bad 24)
+  ran : {main : FunctionBody} {r : Row} {reply : Reply Data} → main_of p ≡ Some main → AreArguments value_types (types_of main.parameters) all r
+      → Ran p r units reply → Answers p all units reply
+
+-- a script has one answer at most
+abbrev pub OneAnswer : Type 0
+OneAnswer = (p : Program) (all : List Data) (units : ℕ) (x y : Reply Data) → Answers p all units x → Answers p all units y → x ≡ y
