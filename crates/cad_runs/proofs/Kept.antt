@@ -8,10 +8,9 @@ use Rattle.cad_values.specs.Shapes.{Shapes}
 use Rattle.cad_values.specs.Values as v
 use Rattle.cad_world.specs.Begin.{begun, left_world, kept_account, kept_contract, IsKept}
 use Rattle.cad_world.specs.Fits.{IsOfValue}
-use Rattle.cad_world.specs.Fronts.{Front}
 use Rattle.cad_world.specs.Rows.{Row, stop, gap, node, Tree, bare}
 use Rattle.cad_world.specs.Shapes.{shapes}
-use Rattle.cad_world.specs.Sound.{AreStored, SoundAccount, IsValueOf, SoundContract, Sound}
+use Rattle.cad_world.specs.Sound.{AreStored, SoundAccount, IsValueOf, Accepts, accepted_by, SoundContract, Sound}
 use Rattle.cad_world.specs.State.{Account, Contract, Program, World}
 use Rattle.cad_world.specs.Trees.{tree_of, row_of, entries_row, fields_row, value_of}
 use Rattle.cad_runs.proofs.ReadBack.{read_back}
@@ -62,17 +61,17 @@ kept_accounts : (k : Shapes) (all : List Account) → AllByRecursion (SoundAccou
 kept_accounts k [] h = refl
 kept_accounts k (a ∷ all) h = λ j. record a { stored = bare_stored k a.identifiers a.stored h.0.stored j } ∷ kept_accounts k all h.1 j
 
-kept_contracts : (front : Front) (w : World) (all : List Contract) → AllByRecursion (SoundContract front w) all → map kept_contract all ≡ all
-kept_contracts front w [] h = refl
-kept_contracts front w (c ∷ all) h =
-    λ j. record c { value = bare_value (shapes w.contracts) c.id c.value h.0.value j; is_running = (sym h.0.stands) j } ∷ kept_contracts front w all h.1 j
+kept_contracts : (accepts : Accepts) (w : World) (all : List Contract) → AllByRecursion (SoundContract accepts w) all → map kept_contract all ≡ all
+kept_contracts accepts w [] h = refl
+kept_contracts accepts w (c ∷ all) h =
+    λ j. record c { value = bare_value (shapes w.contracts) c.id c.value h.0.value j; is_running = (sym h.0.stands) j } ∷ kept_contracts accepts w all h.1 j
 
-is_kept : (front : Front) (w : World) → Sound front w → IsKept w
-is_kept front w h = record {
+pub is_kept : (accepts : Accepts) (w : World) → Sound accepts w → IsKept w
+is_kept accepts w h = record {
   accounts = kept_accounts (shapes w.contracts) w.accounts (recursion_from_All (SoundAccount (shapes w.contracts)) w.accounts h.accounts);
-  contracts = kept_contracts front w w.contracts (recursion_from_All (SoundContract front w) w.contracts h.contracts);
+  contracts = kept_contracts accepts w w.contracts (recursion_from_All (SoundContract accepts w) w.contracts h.contracts);
   rising = h.contracts_rise;
 }
 
 pub sound_reads_back : SoundReadsBack
-sound_reads_back front program units w h = read_back program units w (is_kept front w h)
+sound_reads_back front program units w h = read_back program units w (is_kept (accepted_by front) w h)

@@ -5,7 +5,7 @@ use Rattle.cad_declarations.specs.Typed as e
 use Rattle.cad_world.specs.Fronts.{Front}
 use Rattle.cad_world.specs.Marks.{AreGivenOnce}
 use Rattle.cad_world.specs.Rows.{Row, bare}
-use Rattle.cad_world.specs.Sound.{Sound}
+use Rattle.cad_world.specs.Sound.{Sound, accepted_by}
 use Rattle.cad_world.specs.Begin.{begun, left_world}
 use Rattle.cad_world.specs.State.{Program, World, State, ok}
 use Rattle.cad_evaluation.specs.Evaluation.{calls_to}
@@ -24,7 +24,7 @@ ScriptsLeave Json = (x : Surroundings Json) (w : World) (code : List ℕ) (js : 
 
 -- a sound World is read back from the state that it begins
 abbrev pub SoundReadsBack : Type 0
-SoundReadsBack = (front : Front) (program : Program) (units : ℕ) (w : World) → Sound front w → left_world (begun program units w) ≡ w
+SoundReadsBack = (front : Front) (program : Program) (units : ℕ) (w : World) → Sound (accepted_by front) w → left_world (begun program units w) ≡ w
 
 -- a label that was given is never given again, and stands on one node; arguments come without labels
 abbrev pub LabelsAreGivenOnce : Type 0

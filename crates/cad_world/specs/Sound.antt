@@ -1,6 +1,7 @@
 -- Worlds between commands as programs can leave them.
 use Rattle.std.specs.Prelude.{◌≡◌, ℕ, suc, ◌-◌, ◌<◌, ◌≤◌, ◌^◌, Bool, true, false, not, List, [], ◌∷◌, length, All, filter, Some, IsUtf8, zero}
 use Rattle.cad_syntax.specs.TypeIds.{same_id}
+use Rattle.cad_syntax.specs.declared.address.Address.{Address}
 use Rattle.cad_syntax.specs.declared.text.Name.{Name}
 use Rattle.cad_syntax.specs.declared.type_id.TypeId.{TypeId}
 use Rattle.cad_text.specs.Texts.{most_bytes}
@@ -9,7 +10,7 @@ use Rattle.cad_values.specs.Keys.{Distinct}
 use Rattle.cad_values.specs.Shapes.{Shapes, is_type, is_reference_type}
 use Rattle.cad_values.specs.Values.{PureValue}
 use Rattle.cad_world.specs.Rows.{Row, stop, gap, node, Tree, alone}
-use Rattle.cad_world.specs.State.{Publication, Controller, Account, Contract, World}
+use Rattle.cad_world.specs.State.{Publication, Controller, Account, Contract, Program, World}
 use Rattle.cad_world.specs.Trees.{value_of}
 use Rattle.cad_world.specs.Fits.{FitsItself, Lasts}
 use Rattle.cad_world.specs.Fronts.{Front}
@@ -79,23 +80,30 @@ IsValueOf k id (node [] n s parts stop) =
     FitsContract k (value_of (record { optionals = n; shape = s; parts = parts })) id × Lasts k (record { optionals = n; shape = s; parts = parts })
 IsValueOf k id _ = ⊥
 
+-- which program a code at an address is accepted as, beside these contracts
+abbrev pub Accepts : Type 1
+Accepts = List Contract → Address → List ℕ → Program → Type 0
+
+abbrev pub accepted_by : Front → Accepts
+accepted_by front contracts address code p = front contracts address code ≡ Some p
+
 -- its code is one contract of the name under which it stands, accepted beside the others
-pub record SoundContract (front : Front) (w : World) (c : Contract) : Type 0 where
+pub record SoundContract (accepts : Accepts) (w : World) (c : Contract) : Type 0 where
   pub from_one : 1 ≤ c.id.address.0
   pub there : c.id.address.0 ≤ length w.accounts
   pub name : HasOneName c.id.names
-  pub accepted : front (others c.id w.contracts) c.id.address c.code ≡ Some c.program
+  pub accepted : accepts (others c.id w.contracts) c.id.address c.code c.program
   pub is_contract : c.program.tables.contract ≡ Some c.id
   pub value : IsValueOf (shapes w.contracts) c.id c.value
   pub stands : c.is_running ≡ false
 
 -- ---- Worlds
 
-pub record Sound (front : Front) (w : World) : Type 0 where
+pub record Sound (accepts : Accepts) (w : World) : Type 0 where
   pub few : length w.accounts ≤ most_accounts
   pub accounts : All (SoundAccount (shapes w.contracts)) w.accounts
   pub contracts_rise : rises contract_before w.contracts ≡ true
-  pub contracts : All (SoundContract front w) w.contracts
+  pub contracts : All (SoundContract accepts w) w.contracts
   pub identities : Distinct (live w)
   pub given : All (λ i. i < w.next_identity) (live w)
   pub from_one : 1 ≤ w.next_identity
@@ -116,5 +124,5 @@ abbrev pub LooksAtCode : Front → Type 0
 LooksAtCode front = (cs ds : List Contract) → AreSameCode cs ds → front cs ≡ front ds
 
 abbrev pub OneWorld : Coding → Type 0
-OneWorld coding = (front : Front) (w v : World) → LooksAtCode front → Sound front w → Sound front v
+OneWorld coding = (front : Front) (w v : World) → LooksAtCode front → Sound (accepted_by front) w → Sound (accepted_by front) v
     → ((key : List ℕ) → map_of coding w key ≡ map_of coding v key) → w ≡ v
