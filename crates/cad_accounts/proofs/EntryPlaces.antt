@@ -6,10 +6,10 @@ use Rattle.std.proofs.lemmas.List.{take-append-drop, set_split}
 use Rattle.cad_wire.specs.declared.entry.Entry.{Entry}
 use Rattle.cad_wire.specs.Body.{are_ascending}
 use Rattle.cad_accounts.specs.Registers.{Map, changed, applied}
-use Rattle.cad_accounts.specs.Code.Places.{entry_key, AllBefore, AllBehind, StandsAt, BelongsAt}
+use Rattle.cad_accounts.specs.Code.Places.{entry_key, AllBehind, StandsAt, BelongsAt}
 use Rattle.cad_accounts.specs.KeyOrder.{before, rise}
-use Rattle.cad_accounts.proofs.Keys.{before_differs, behind_differs}
-use Rattle.cad_accounts.proofs.Maps.{changed_there, changed_twice, Free, applied_after}
+use Rattle.cad_accounts.proofs.Keys.{before_differs}
+use Rattle.cad_accounts.proofs.Maps.{changed_twice, Free, applied_after}
 use Rattle.cad_accounts.proofs.OneByOne.{applied_append}
 use Rattle.cad_accounts.proofs.Order.{parted, behind_it, insert_rises, set_rises}
 
@@ -30,13 +30,6 @@ pub free_behind : (key : List ℕ) (es : List Entry) → AllBehind entry_key key
 free_behind key [] h = tt
 free_behind key (e ∷ es) h = (before_differs key e.key.0 h.0, free_behind key es h.1)
 
-free_around : (key : List ℕ) (front back : List Entry) → AllBefore entry_key front key → AllBehind entry_key key back → Free key (front ++ back)
-free_around key [] back before behind = free_behind key back behind
-free_around key (e ∷ front) back before behind = (behind_differs key e.key.0 before.0, free_around key front back before.1 behind)
-
-pub belongs_free : (es : List Entry) (key : List ℕ) (i : ℕ) → BelongsAt entry_key key es i → Free key es
-belongs_free es key i b = subst (Free key) (take-append-drop i es) (free_around key (take i es) (drop i es) b.in_front b.behind)
-
 -- ---- one entry, and those around it
 
 pub applied_with : (front : List Entry) (e : Entry) (back : List Entry) (m : Map) → AllBehind entry_key e.key.0 back → applied (front ++ e ∷ back) m ≡ changed e.key.0 e.value (applied (front ++ back) m)
@@ -44,16 +37,6 @@ applied_with front e back m h =
     applied_append front (e ∷ back) m
     ∙ applied_after e.key.0 e.value back (applied front m) (free_behind e.key.0 back h)
     ∙ ap (changed e.key.0 e.value) (sym (applied_append front back m))
-
-pub value_there : (es : List Entry) (key : List ℕ) (i : ℕ) (d : Entry) (m : Map) → rise entry_key es ≡ true → StandsAt entry_key key es i → applied es m key ≡ (get_or es i d).value
-value_there es key i d m r has =
-    let e = get_or es i d in
-    let same : e.key.0 ≡ key = has.key_is d in
-    let back = subst (λ (k : List ℕ). AllBehind entry_key k (drop (suc i) es)) (sym same) (behind_it entry_key key es i d r has) in
-    ap (λ (l : List Entry). applied l m key) (parted entry_key es i d has.within)
-    ∙ ap (λ (n : Map). n key) (applied_with (take i es) e (drop (suc i) es) m back)
-    ∙ ap (λ (k : List ℕ). changed e.key.0 e.value (applied (take i es ++ drop (suc i) es) m) k) (sym same)
-    ∙ changed_there e.key.0 e.value (applied (take i es ++ drop (suc i) es) m)
 
 -- ---- what one more change makes of entries
 

@@ -3,10 +3,7 @@ use Rattle.std.proofs.Common.{◌≡◌, ℕ, Bool, true, false, cond, List, [],
 use Rattle.std.specs.List.{AllByRecursion}
 use Rattle.cad_wire.specs.declared.entry.Entry.{Entry}
 use Rattle.cad_accounts.specs.Registers.{Map, same_key, changed, applied}
-use Rattle.cad_accounts.proofs.Keys.{same_is, itself, not_same_back}
-
-pub changed_there : (key : List ℕ) (v : Option (List ℕ)) (m : Map) → changed key v m key ≡ v
-changed_there key v m = rw (itself key) refl
+use Rattle.cad_accounts.proofs.Keys.{same_is, not_same_back}
 
 pub changed_else : (key : List ℕ) (v : Option (List ℕ)) (m : Map) (k : List ℕ) → same_key k key ≡ false → changed key v m k ≡ m k
 changed_else key v m k e = rw e refl
@@ -40,13 +37,3 @@ Free key = AllByRecursion (λ e. same_key key e.key.0 ≡ false)
 pub applied_after : (key : List ℕ) (v : Option (List ℕ)) (es : List Entry) (m : Map) → Free key es → applied es (changed key v m) ≡ changed key v (applied es m)
 applied_after key v [] m free = refl
 applied_after key v (e ∷ es) m free = ap (applied es) (changed_swap e.key.0 key e.value v m (not_same_back key e.key.0 free.0)) ∙ applied_after key v es (changed e.key.0 e.value m) free.1
-
-pub applied_free : (key : List ℕ) (es : List Entry) (m : Map) → Free key es → applied es m key ≡ m key
-applied_free key [] m free = refl
-applied_free key (e ∷ es) m free = applied_free key es (changed e.key.0 e.value m) free.1 ∙ changed_else e.key.0 e.value m key free.0
-
-pub some_key : {A : Type 0} (b : Bool) (x y : A) → b ≡ true → cond b x y ≡ x
-some_key b x y e = rw e refl
-
-pub other_key : {A : Type 0} (b : Bool) (x y : A) → b ≡ false → cond b x y ≡ y
-other_key b x y e = rw e refl

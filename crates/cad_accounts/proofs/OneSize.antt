@@ -5,14 +5,12 @@ use Rattle.std.specs.Cmp.Lexicographic.{slice_cmp}
 use Rattle.std.specs.declared.cmp.Ordering.{Ordering}
 use Rattle.std.specs.declared.cmp.Ordering.TheVariants.{Less, Equal, Greater}
 use Rattle.cad_accounts.specs.declared.row.Row.{Row}
-use Rattle.cad_accounts.specs.Registers.{same_key, at, are_rising, size_of}
-use Rattle.cad_accounts.specs.Accounts.{Accounts, HasSize}
+use Rattle.cad_accounts.specs.Registers.{same_key, at, are_rising}
 use Rattle.cad_accounts.specs.Code.Places.{AllBehind}
 use Rattle.cad_accounts.specs.KeyOrder.{row_key}
 use Rattle.cad_accounts.proofs.Keys.{itself, same_is, equal_is, greater_is}
 use Rattle.cad_accounts.proofs.Order.{behind_all, first_before, tail_rises}
 use Rattle.cad_accounts.proofs.RowLaws.{none_behind}
-use Rattle.cad_accounts.proofs.States.{one_map_lem}
 
 pub at_first : (r : Row) (rows : List Row) → at (r ∷ rows) r.key.0 ≡ Some r.value
 at_first r rows = rw (itself r.key.0) refl
@@ -48,7 +46,3 @@ one_list (r ∷ rows) (s ∷ ss) a b same =
     (λ e. let k : key ≡ r.key.0 = same_is key r.key.0 e in
     ap (at rows) k ∙ none_behind rows r.key.0 (first_before row_key r rows a) ∙ sym (none_behind ss r.key.0 over_it) ∙ ap (at ss) (sym k))) in
     λ i. record { key = record { 0 = keys i }; value = values i } ∷ tails i
-
-pub one_size_lem : (w : Accounts) (m n : ℕ) → HasSize w m → HasSize w n → m ≡ n
-one_size_lem w m n a b =
-    a.is ∙ ap size_of (one_list a.rows b.rows a.rising b.rising (one_map_lem w (at a.rows) (at b.rows) a.are b.are)) ∙ sym b.is

@@ -1,5 +1,5 @@
 // Registers in memory, and the interface to any.
-ghost use Rattle.std.specs.Prelude.{◌≡◌, ◌+◌, ◌<◌, ◌≤◌, ◌^◌, ◌-◌, min, [], List, ℕ, true, length, map, slice_get, option_map, sum_by, OnOk, OnErr, Some, IsTrue, ◌↔◌};
+ghost use Rattle.std.specs.Prelude.{◌≡◌, ◌+◌, ◌<◌, ◌≤◌, ◌^◌, ◌-◌, min, [], List, ℕ, true, length, option_map, sum_by, OnOk, OnErr, Some, IsTrue, ◌↔◌};
 ghost use Rattle.cad_wire.specs.Body.{Fits};
 ghost use Rattle.cad_accounts.specs.declared.row.Row.{Row};
 ghost use Rattle.cad_accounts.specs.Registers.{at, are_rising, changed, size_of};
@@ -24,14 +24,6 @@ pub trait Registers {
     /// The bytes of a register, None exactly where it isn't there.
     fn get(&self, key: &Key) -> Option<&[u8]>
         ensures { option_map (λ bytes. bytes.now) result ≡ at (rows self.entry.now) key.now.0 };
-
-    /// The key at a place in byte order, None exactly where there are at most `i` keys.
-    fn key_at(&self, i: u64) -> Option<&Key>
-        ensures { option_map (λ key. key.now) result ≡ slice_get (map (λ row. row.key) (rows self.entry.now)) i };
-
-    /// The bytes at a place in byte order of the keys, None exactly where there are at most `i` registers.
-    fn value_at(&self, i: u64) -> Option<&[u8]>
-        ensures { option_map (λ bytes. bytes.now) result ≡ slice_get (map (λ row. row.value) (rows self.entry.now)) i };
 }
 
 // The place of a key's row, or where it belongs, by halving.
@@ -100,18 +92,6 @@ impl Registers for MapRegisters {
             Ok(i) => Some(self.rows[i].value.as_slice()),
             Err(_) => None,
         }
-    }
-
-    fn key_at(&self, i: u64) -> Option<&Key> {
-        match self.rows.as_slice().get(i as usize) {
-            Some(row) => Some(&row.key),
-            None => None,
-        }
-    }
-
-    fn value_at(&self, i: u64) -> Option<&[u8]> {
-        let row = self.rows.as_slice().get(i as usize)?;
-        Some(row.value.as_slice())
     }
 }
 

@@ -1,11 +1,41 @@
 // Entries, one after another, of which those in byte order are kept apart.
-ghost use Rattle.std.specs.Prelude.{◌≡◌, List, ℕ, OnOk, IfOk};
+ghost use Rattle.std.specs.Prelude.{◌≡◌, List, ℕ, OnOk, IfOk, true};
+ghost use Rattle.cad_wire.specs.Body.{are_ascending};
 ghost use Rattle.cad_accounts.specs.Registers.{Map, applied, changed};
+ghost use Rattle.cad_accounts.specs.Code.Places.{IsPlace, entry_key};
 
-use crate::overlay::place;
 use cad_wire::Entry;
 use std::alloc::{AllocError, Global};
+use std::cmp::Ordering;
 use std::marker::Model;
+
+// Where an entry with a key is, or else where one belongs, by halving.
+fn search(entries: &[Entry], key: &[u8]) -> Result<usize, usize>
+    requires { are_ascending entries.now ≡ true }
+    ensures { IsPlace entry_key key.now entries.now result }
+{
+    entries.binary_search_by(|e| e.key.0.as_slice().cmp(key))
+}
+
+// Where an entry with a key is, or else where one belongs. The last and the first entry are looked at before others.
+fn place(entries: &[Entry], key: &[u8]) -> Result<usize, usize>
+    requires { are_ascending entries.now ≡ true }
+    ensures { IsPlace entry_key key.now entries.now result }
+{
+    let count = entries.len();
+    if count == 0 {
+        return Err(0);
+    }
+    match entries[count - 1].key.0.as_slice().cmp(key) {
+        Ordering::Less => return Err(count),
+        Ordering::Equal => return Ok(count - 1),
+        Ordering::Greater => {}
+    }
+    if entries[0].key.0.as_slice() == key {
+        return Ok(0);
+    }
+    search(entries, key)
+}
 
 // Sorts entries by their keys. Those of one key stay in their order.
 fn sort_by_keys(entries: &mut Vec<Entry>) -> Result<(), AllocError>

@@ -7,7 +7,6 @@ use Rattle.cad_tape.specs.declared.stop.ScanStop.{ScanStop}
 use Rattle.cad_tape.specs.declared.stop.ScanStop.TheVariants as scan
 use Rattle.cad_tape.specs.Reading.{tape_reading, chosen}
 use Rattle.cad_accounts.specs.Registers.{Map}
-use Rattle.cad_accounts.specs.Worlds.{AreSound}
 use Rattle.cad_store.specs.declared.stops.OpenStop.{OpenStop}
 use Rattle.cad_store.specs.declared.stops.OpenStop.TheVariants.{BadStore}
 use Rattle.cad_store.specs.Stops.{stop_of}
@@ -26,9 +25,9 @@ damaged_of scan.Memory e = absurd cc
 pub none_held : (disk : Tape → List ℕ) (m : Map) → tape_reading (disk (chosen (disk Pick))) ≡ None → DiskHolds disk m → ⊥
 none_held disk m none h = let wrong = sym none ∙ h.reading in cc
 
--- what they hold isn't sound
-pub unsound : (disk : Tape → List ℕ) (b : Bool) (m n : Map) → DiskHolds disk n → (IsTrue b ↔ AreSound n) → b ≡ false → DiskHolds disk m → AreSound m → ⊥
-unsound disk b m n held test e h sound =
+-- what they hold isn't accepted
+pub refused : (Accepts : Map → Type 0) (disk : Tape → List ℕ) (b : Bool) (m n : Map) → DiskHolds disk n → (IsTrue b ↔ Accepts n) → b ≡ false → DiskHolds disk m → Accepts m → ⊥
+refused Accepts disk b m n held test e h good =
     let same : m ≡ n = λ i key. one_map disk m n h held key i in
-    let wrong = test.1 (subst AreSound same sound) in
+    let wrong = test.1 (subst Accepts same good) in
     cc

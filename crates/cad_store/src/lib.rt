@@ -2,6 +2,7 @@
 #![tactic(auto)]
 
 mod commit;
+mod judging;
 mod laws;
 mod opening;
 mod place;
@@ -9,10 +10,8 @@ mod sizes;
 mod stops;
 mod store;
 
+pub use judging::Judge;
 pub use laws::{one_map_a_disk, quiet_images};
 pub use opening::open;
 pub use stops::{OpenStop, ReadyStop};
 pub use store::{Commit, Store};
-
-#[cfg(test)]
-mod tests;

@@ -5,17 +5,17 @@ ghost use Rattle.cad_host.specs.Disk.{reads, Looks, FailsLook, Ran};
 ghost use Rattle.cad_host.specs.Faults.{IsCaused};
 ghost use Rattle.cad_tape.specs.Reading.{chosen, tape_reading};
 ghost use Rattle.cad_accounts.specs.Registers.{Map};
-ghost use Rattle.cad_accounts.specs.Worlds.{AreSound};
 ghost use Rattle.cad_store.specs.Stops.{BlamesDisk};
 ghost use Rattle.cad_store.specs.Opening.{in_use, Opens, IsOpening};
 ghost use Rattle.cad_store.specs.Code.Opening.{ReadsStore, SyncsBoth};
 ghost use Rattle.cad_store.specs.Stores.{DiskHolds, held, room_of, IsAt, IsOn};
 ghost use Rattle.cad_store.specs.Code.Opening.{place_behind};
 
+use crate::judging::Judge;
 use crate::place::Place;
 use crate::stops::OpenStop;
 use crate::store::Store;
-use cad_accounts::{fold_records, is_sound};
+use cad_accounts::fold_records;
 use cad_host::{Failed, Host, Tape};
 use cad_tape::scan;
 use std::alloc::Global;
@@ -101,20 +101,25 @@ fn sync_both<H: Host>(host: &mut H, tape: Tape) -> Result<(), Failed>
 /// chosen tape, one after another, are the registers. `room` is how many bytes a record of all registers may have, with the
 /// gate behind it, after any commit. It writes nothing, and syncs what it read, since an earlier run may have ended between a
 /// write and its sync: then nothing is pending on it. Failed only where the disk failed; BadStore where the tape's bytes
-/// aren't those of records, or the registers aren't those of sound accounts. Memory where memory runs out, or where there
+/// aren't those of records, or the judge doesn't accept the registers. Memory where memory runs out, or where there
 /// would be 2^32 registers or more.
-pub fn open<H: Host>(alloc: Global, host: &mut H, room: u64) -> Result<Store, OpenStop>
+pub fn open<H: Host, J: Judge>(
+    alloc: Global,
+    host: &mut H,
+    judge: &J,
+    room: u64,
+) -> Result<Store, OpenStop>
     requires { room ≤ 2 ^ 30 }
-    ensures sound { IfOk result (λ store. AreSound (held store)) }
+    ensures accepted { IfOk result (λ store. J.accepts judge.now (held store)) }
     ensures on { IfOk result (λ store. H.tells → IsOn (H.trace host.new) store) }
     ensures holds { IfOk result (λ store. H.tells → DiskHolds (reads (H.trace host.old)) (held store)) }
     ensures room { IfOk result (λ store. room_of store ≡ room) }
     ensures bad { H.tells → result ≡ Err OpenStop.BadStore
-        → (m : Map) → DiskHolds (reads (H.trace host.old)) m → AreSound m → ⊥ }
+        → (m : Map) → DiskHolds (reads (H.trace host.old)) m → J.accepts judge.now m → ⊥ }
     ensures cause { BlamesDisk result (H.disk_faults host.old) (H.disk_faults host.new) }
     ensures story { H.tells → Opens result (H.trace host.old) (H.trace host.new) }
-    // A store that isn't sound is read, and no more.
-    ensures looked { H.tells → ((m : Map) → DiskHolds (reads (H.trace host.old)) m → AreSound m → ⊥)
+    // What isn't accepted is read, and no more.
+    ensures looked { H.tells → ((m : Map) → DiskHolds (reads (H.trace host.old)) m → J.accepts judge.now m → ⊥)
         → FailsLook Pick (H.trace host.old) (H.trace host.new) ⊎ FailsLook (in_use (H.trace host.old)) (H.trace host.old) (H.trace host.new) }
     // A crash at any moment leaves what one might have left when it began.
     ensures moments { H.tells → Ran (H.trace host.old) (H.trace host.new) (IsOpening (H.trace host.old)) }
@@ -124,7 +129,7 @@ pub fn open<H: Host>(alloc: Global, host: &mut H, room: u64) -> Result<Store, Op
 {
     let tape = tape_in_use(host)?;
     let store = read_store(alloc, host, tape, room)?;
-    if !is_sound(alloc, &store)? {
+    if !judge.is_good(alloc, &store)? {
         return Err(OpenStop::BadStore);
     }
     sync_both(host, tape)?;

@@ -11,7 +11,7 @@ use std::alloc::AllocError;
 pub enum OpenStop {
     /// The disk failed.
     Failed,
-    /// The tapes don't hold the registers of sound accounts.
+    /// The tapes don't hold registers that are accepted.
     BadStore,
     /// Memory ran out.
     Memory,

@@ -11,7 +11,7 @@ ghost use Rattle.cad_store.specs.Stores.{rows_in, held, room_of, IsOn, IsOut};
 use crate::place::Place;
 use crate::sizes::{size_added, size_replaced};
 use crate::stops::ReadyStop;
-use cad_accounts::{Changes, MapRegisters, Registers};
+use cad_accounts::{Changes, MapRegisters, Registers, Row};
 use cad_syntax::Bytes;
 use cad_tape::frame;
 use cad_wire::{Entry, Key, write_entries};
@@ -40,14 +40,6 @@ impl Registers for Store {
     fn get(&self, key: &Key) -> Option<&[u8]> {
         self.registers.get(key)
     }
-
-    fn key_at(&self, i: u64) -> Option<&Key> {
-        self.registers.key_at(i)
-    }
-
-    fn value_at(&self, i: u64) -> Option<&[u8]> {
-        self.registers.value_at(i)
-    }
 }
 
 fn built(alloc: Global, changes: &[Entry]) -> Result<Bytes, AllocError>
@@ -59,6 +51,14 @@ fn built(alloc: Global, changes: &[Entry]) -> Result<Bytes, AllocError>
 }
 
 impl Store {
+    /// The registers, in byte order of their keys.
+    pub fn rows(&self) -> &[Row]
+        ensures rows { result.now ≡ rows_in self.now }
+        ensures rising { are_rising result.now ≡ true }
+    {
+        self.registers.as_slice()
+    }
+
     /// How many bytes a record of all registers has, with the gate behind it: at most 2^64-1 are told.
     pub fn size(&self) -> u64
         ensures { result ≡ min (size_of (rows_in self.now)) (2 ^ 64 - 1) }

@@ -12,6 +12,3 @@ pub use commit::{append, checkpoint, frame};
 pub use laws::{opens, order_matters, records_both_ways};
 pub use scanning::{Records, scan};
 pub use stop::ScanStop;
-
-#[cfg(test)]
-mod tests;

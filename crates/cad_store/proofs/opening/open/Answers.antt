@@ -6,7 +6,7 @@ use Rattle.cad_store.specs.declared.stops.OpenStop.TheVariants.{BadStore}
 use Rattle.cad_store.specs.declared.store.Store.{Store}
 use Rattle.cad_store.specs.Stores.{DiskHolds, held, IsAt, IsOn}
 use Rattle.cad_store.specs.Opening.{opened, at_pick}
-use Rattle.cad_store.proofs.Stopping.{stop_is, none_held, unsound}
+use Rattle.cad_store.proofs.Stopping.{stop_is, none_held, refused}
 use Rattle.cad_store.proofs.Beginning.{at_opened, holds_opened, quiet_opened, open_ran, open_broke, opens_moments, reads_opens, reads_looked, sync_broke, both_synced}
 use Rattle.cad_store.proofs.opening.open.Goals as goal
 
@@ -26,7 +26,7 @@ returns-in_err-store-clause-looked g c = λ tell bad.
     reads_looked Store c.in_err-store.field-0.0 (g.H.Host.trace c.args.host.now) (g.H.Host.trace c.tape_in_use.new.host) (g.H.Host.trace c.read_store.new.host) (c.in_ok-tape.ensures.story tell) (c.in_err-store.ensures.story tell)
 
 pub returns-in_err-store-clause-bad : goal.returns-in_err-store-clause-bad
-returns-in_err-store-clause-bad g c = λ tell bad m holds sound.
+returns-in_err-store-clause-bad g c = λ tell bad m holds good.
     let r = c.from_residual-in_err-store.result in
     let p = err_from_is_err_and r c.from_residual-in_err-store.ensures.1 in
     let stop = sym p.2 ∙ stop_is r p.0 BadStore p.1 bad in
@@ -34,10 +34,10 @@ returns-in_err-store-clause-bad g c = λ tell bad m holds sound.
     none_held (reads (g.H.Host.trace c.tape_in_use.new.host)) m none (subst (λ n. DiskHolds (reads n) m) (sym (c.in_ok-tape.ensures.story tell)) holds)
 
 pub returns-then-not-branch-clause-bad : goal.returns-then-not-branch-clause-bad
-returns-then-not-branch-clause-bad g c = λ tell bad m holds sound.
+returns-then-not-branch-clause-bad g c = λ tell bad m holds good.
     let store = c.in_ok-store.store in
     let held_there = subst (λ n. DiskHolds (reads n) (held store)) (c.in_ok-tape.ensures.story tell) (c.in_ok-store.ensures.holds tell) in
-    unsound (reads (g.H.Host.trace c.args.host.now)) c.in_ok-is_sound.field-0 m (held store) held_there c.in_ok-is_sound.ensures c.if-not-branch.true holds sound
+    refused (g.J.Judge.accepts c.args.judge.now) (reads (g.H.Host.trace c.args.host.now)) c.in_ok-is_good.field-0 m (held store) held_there c.in_ok-is_good.ensures c.if-not-branch.true holds good
 
 pub returns-in_err-sync_both-clause-moments : goal.returns-in_err-sync_both-clause-moments
 returns-in_err-sync_both-clause-moments g c = λ tell.
@@ -73,10 +73,10 @@ pub returns-in_err-sync_both-clause-looked : goal.returns-in_err-sync_both-claus
 returns-in_err-sync_both-clause-looked g c = λ tell bad.
     let store = c.in_ok-store.store in
     let holds = subst (λ n. DiskHolds (reads n) (held store)) (c.in_ok-tape.ensures.story tell) (c.in_ok-store.ensures.holds tell) in
-    absurd (bad (held store) holds (c.in_ok-is_sound.ensures.0 (search rules)))
+    absurd (bad (held store) holds (c.in_ok-is_good.ensures.0 (search rules)))
 
 pub returns-clause-looked : goal.returns-clause-looked
 returns-clause-looked g c = λ tell bad.
     let store = c.in_ok-store.store in
     let holds = subst (λ n. DiskHolds (reads n) (held store)) (c.in_ok-tape.ensures.story tell) (c.in_ok-store.ensures.holds tell) in
-    absurd (bad (held store) holds (c.in_ok-is_sound.ensures.0 (search rules)))
+    absurd (bad (held store) holds (c.in_ok-is_good.ensures.0 (search rules)))

@@ -1,4 +1,0 @@
-pub mod Code
-pub mod Saves
-pub mod Sums
-pub mod Views
