@@ -1,4 +1,3 @@
-pub mod CastLaws
 pub mod Composites
 pub mod CoveredLaws
 pub mod FieldTypes

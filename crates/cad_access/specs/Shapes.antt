@@ -1,4 +1,4 @@
--- Which shapes lead to what accounts have.
+-- Which shapes lead to controllers.
 use Rattle.std.specs.Prelude.{Bool, true, false}
 use Rattle.cad_values.specs.Values.{PureValue}
 use Rattle.cad_values.specs.Values as v
@@ -9,10 +9,6 @@ use Rattle.cad_world.specs.Rows.{NodeShape, plain}
 abbrev pub is_controller : Target → Bool
 is_controller (to.Controller a n) = true
 is_controller _ = false
-
-abbrev pub is_stored : Target → Bool
-is_stored (to.Stored a n) = true
-is_stored _ = false
 
 -- whether what a reference leads to passes
 abbrev pub value_leads : (Target → Bool) → PureValue → Bool

@@ -3,11 +3,9 @@
 
 mod access;
 mod calls;
-mod casts;
 mod covered;
 mod declared;
 mod kinds;
-mod later;
 pub mod laws;
 mod mappings;
 mod members;
@@ -18,14 +16,12 @@ mod shapes;
 
 pub use access::{has_right, may_write, serves};
 pub use calls::{made_label, newest, within};
-pub use casts::cast_type;
 pub use covered::is_covered;
 pub use declared::{are_of_one_contract, bodies_of, contract_in, entry_of, function_in, is_within};
 pub use kinds::{is_below, kinds_of_run};
-pub use later::not_yet;
 pub use mappings::{declared_mapping, identity, is_identity, mapping_of};
 pub use members::{composite_member, interfaces_of, own_member};
 pub use own_types::{in_optionals, own_type, seen_type, shape_type};
 pub use reading::{composite_in, field_names, field_type, may_give, right_given};
 pub use receivers::is_reference;
-pub use shapes::{is_reference_shape, leads_to_controller, leads_to_stored, solid_type};
+pub use shapes::{is_reference_shape, leads_to_controller, solid_type};

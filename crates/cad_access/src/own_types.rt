@@ -6,9 +6,8 @@ ghost use Rattle.cad_world.specs.Rows.{Row};
 ghost use Rattle.cad_world.specs.State.{State};
 ghost use Rattle.cad_world.specs.OwnTypes as spec;
 ghost use Rattle.cad_rows.specs.Views.{pure_shape};
-ghost use Rattle.cad_access.specs.OwnTypes.{LeadsTo, seen_type as type_seen, type_of_shape as type_told};
+ghost use Rattle.cad_access.specs.OwnTypes.{LeadsTo, leads_nowhere as to_nowhere, seen_type as type_seen, type_of_shape as type_told};
 
-use crate::later::not_yet;
 use crate::shapes::{leads_to_controller, solid_type};
 use cad_rows::Shape;
 use cad_syntax::{Authorization, CadType};
@@ -73,7 +72,7 @@ fn if_reference(
     }
 }
 
-/// The type of a shape, if it is a reference to a node one that leads to this shape. What leads to a controller isn't told.
+/// The type of a shape, if it is a reference to a node one that leads to this shape.
 fn type_of_shape(
     alloc: Global,
     shape: &Shape,
@@ -94,7 +93,18 @@ fn type_of_shape(
     }
 }
 
-/// The own type of a shape, told where a reference to a node leads. None of a reference that leads nowhere any more.
+/// Whether a reference to a controller leads to what is gone.
+fn leads_nowhere(shape: &Shape, found: Option<&Shape>) -> bool
+    ensures { result ≡ to_nowhere (pure_shape shape.now) (option_map (λ other. pure_shape other.now) found.entry) }
+{
+    match found {
+        Some(_) => false,
+        None => leads_to_controller(shape),
+    }
+}
+
+/// The own type of a shape, told where a reference to a node leads, and of one to a controller by any shape that it is there. None
+/// of a reference that leads nowhere any more.
 pub fn shape_type(
     alloc: Global,
     shape: &Shape,
@@ -102,14 +112,14 @@ pub fn shape_type(
 ) -> Result<Option<CadType>, AllocError>
     ensures { IfOk result (λ o. (s : State) → LeadsTo s (pure_shape shape.now) (option_map (λ other. pure_shape other.now) found.entry) → option_map pure_type o ≡ spec.shape_type s (pure_shape shape.now)) }
 {
-    if leads_to_controller(shape) {
-        Err(not_yet())
+    if leads_nowhere(shape, found) {
+        Ok(None)
     } else {
         type_of_shape(alloc, shape, found)
     }
 }
 
-/// The own type of a value in this many optionals, whatever its parts, told where a reference to a node leads. None of a
+/// The own type of a value in this many optionals, whatever its parts, told where a reference leads as `shape_type` is. None of a
 /// reference that leads nowhere any more.
 pub fn own_type(
     alloc: Global,

@@ -5,7 +5,7 @@ ghost use Rattle.cad_values.specs.Values.{pure_value};
 ghost use Rattle.cad_world.specs.OwnTypes as own;
 ghost use Rattle.cad_world.specs.Receivers as receivers;
 ghost use Rattle.cad_rows.specs.Views.{pure_shape};
-ghost use Rattle.cad_access.specs.Shapes.{is_controller, is_stored, value_leads, shape_leads};
+ghost use Rattle.cad_access.specs.Shapes.{is_controller, value_leads, shape_leads};
 
 use cad_rows::Shape;
 use cad_syntax::CadType;
@@ -74,26 +74,6 @@ pub fn leads_to_controller(shape: &Shape) -> bool
 {
     match shape {
         Shape::Plain(value) => value_leads_to_controller(value),
-        _ => false,
-    }
-}
-
-/// Whether a value is a reference to what is stored.
-fn value_leads_to_stored(value: &Value) -> bool
-    ensures { result ≡ value_leads is_stored (pure_value value.now) }
-{
-    match value {
-        Value::Reference(reference) => matches!(reference.to, Target::Stored { .. }),
-        _ => false,
-    }
-}
-
-/// Whether a shape is a reference to what is stored.
-pub fn leads_to_stored(shape: &Shape) -> bool
-    ensures { result ≡ shape_leads is_stored (pure_shape shape.now) }
-{
-    match shape {
-        Shape::Plain(value) => value_leads_to_stored(value),
         _ => false,
     }
 }

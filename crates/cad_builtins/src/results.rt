@@ -165,8 +165,8 @@ fn optional_free(alloc: Global, target: Basic) -> Result<CadType, AllocError>
     optional(alloc, free)
 }
 
-/// What a contract may do with its account.
-fn own_account(alloc: Global) -> Result<CadType, AllocError>
+/// The type of the reference with which a contract meets its account: all that it may do there.
+pub fn own_account(alloc: Global) -> Result<CadType, AllocError>
     ensures { IfOk result (λ t. pure_type t ≡ spec.own_account) }
 {
     let mut all = TypeIds::new(alloc);

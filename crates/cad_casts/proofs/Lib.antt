@@ -1,4 +1,5 @@
 pub mod CastLaws
 pub mod Plain
+pub mod References
 pub mod RowLaws
 pub mod Settles

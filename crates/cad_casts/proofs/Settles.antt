@@ -1,13 +1,14 @@
 -- Own types of values, and what leads to them.
-use Rattle.std.proofs.Common.{◌≡◌, ℕ, Bool, true, false, Option, Some, None, option_map, option_and_then, refl, sym, ap, ◌∙◌}
+use Rattle.std.proofs.Common.{◌≡◌, ℕ, Bool, true, false, Option, Some, None, List, option_map, option_and_then, refl, sym, ap, ◌∙◌, subst}
 use Rattle.std.proofs.lemmas.Bool.{false≢true}
 use Rattle.std.specs.Option.{is_some}
 use Rattle.std.specs.Prelude.{Result, Ok, Err, IfOk}
 use Rattle.std.specs.declared.alloc.AllocError.{AllocError}
 use Rattle.cad_syntax.specs.Types.{PureType, pure_type, reference}
+use Rattle.cad_syntax.specs.declared.address.Address.{Address}
 use Rattle.cad_syntax.specs.declared.types.Authorization.{Authorization}
 use Rattle.cad_syntax.specs.declared.types.CadType.{CadType}
-use Rattle.cad_access.specs.OwnTypes.{LeadsTo}
+use Rattle.cad_access.specs.OwnTypes.{LeadsThere, LeadsTo}
 use Rattle.cad_casts.specs.Settled.{settled, label_in, of_own, tree_there}
 use Rattle.cad_evaluation.specs.Casts.{with_type}
 use Rattle.cad_evaluation.specs.Containers.{of_type, all_of_type}
@@ -16,16 +17,21 @@ use Rattle.cad_labels.proofs.Forms.{keeps_done, keeps_give, keeps_or_fail, keeps
 use Rattle.cad_outcomes.specs.Outcomes.{Does, Gives}
 use Rattle.cad_outcomes.specs.declared.stop.Stop.{Stop}
 use Rattle.cad_outcomes.proofs.Steps.{gives_here}
+use Rattle.cad_state.specs.Views.{state_over}
 use Rattle.cad_state.specs.Ways.{is_there}
+use Rattle.cad_state.specs.declared.state.RunState.{RunState}
 use Rattle.cad_types.specs.Below.{below}
 use Rattle.cad_world.specs.Declared.{declarations}
 use Rattle.cad_world.specs.Labels.{at}
 use Rattle.cad_types.specs.Optionals.{optionals}
-use Rattle.cad_world.specs.OwnTypes.{own_type, solid_type}
+use Rattle.cad_values.specs.Values as v
+use Rattle.cad_values.specs.declared.value.Target.{Target}
+use Rattle.cad_values.specs.declared.value.Target.TheVariants as to
+use Rattle.cad_world.specs.OwnTypes.{controller_at, own_type, solid_type}
 use Rattle.cad_world.specs.Rows.{NodeShape, plain, link, array, dictionary, composite, Row, stop, Tree, Found}
 use Rattle.cad_world.specs.Locations.{with_found}
 use Rattle.cad_rows.specs.Views.{PlaceView, vacant, taken, before}
-use Rattle.cad_world.specs.State.{State, ok, failed, bind, Action, ◌>>=◌, ◌>>◌, done, give, or_fail, require}
+use Rattle.cad_world.specs.State.{State, Account, ok, failed, bind, Action, ◌>>=◌, ◌>>◌, done, give, or_fail, require}
 
 -- ---- found by a label
 
@@ -37,7 +43,24 @@ pub found_nowhere : (o : Option Found) (s : State) → is_there o ≡ false → 
 found_nowhere None s h = refl
 found_nowhere (Some f) s h = absurd (false≢true (sym h))
 
--- ---- where a shape leads
+-- ---- controllers
+
+pub is_mapped : {A B : Type 0} (f : A → B) (o : Option A) (p : Option B) → option_map f o ≡ p → is_some o ≡ is_some p
+is_mapped f None p e = ap is_some e
+is_mapped f (Some a) p e = ap is_some e
+
+pub controller_leads : (x : RunState) (a : Authorization) (type : PureType) (target : Target) (address : Address) (n : ℕ) (r : Result Bool AllocError) → target ≡ to.Controller address n
+    → IfOk r (λ is. (w : List Account) → is ≡ is_some (controller_at (state_over w x) address.0 n)) → IfOk r (λ is. (w : List Account) → LeadsThere (state_over w x) (v.reference a type target) is)
+controller_leads x a type target address n (Ok is) e h = λ w. subst (λ (other : Target). LeadsThere (state_over w x) (v.reference a type other) is) (sym e) (h w)
+controller_leads x a type target address n (Err why) e h = tt
+
+pub other_leads : (s : State) (a : Authorization) (type : PureType) (target : Target) → ((address : Address) (n : ℕ) → ¬ (target ≡ to.Controller address n)) → LeadsThere s (v.reference a type target) false
+other_leads s a type (to.Controller address n) other = absurd (other address n refl)
+other_leads s a type (to.Node l) other = tt
+other_leads s a type (to.Stored address n) other = tt
+other_leads s a type (to.Account address) other = tt
+
+-- ---- labels that are told
 
 some_is : {p q : ℕ} → Some p ≡ Some q → p ≡ q
 some_is {p = p} h = ap (some_or p) h
@@ -45,20 +68,6 @@ some_is {p = p} h = ap (some_or p) h
     some_or : ℕ → Option ℕ → ℕ
     some_or d None = d
     some_or d (Some x) = x
-
-pub leads_nowhere : (s : State) (shape : NodeShape) → label_in shape ≡ None → LeadsTo s shape None
-leads_nowhere s (plain v) h = tt
-leads_nowhere s (link a l n) h = absurd (false≢true (sym (ap is_some h)))
-leads_nowhere s (array t) h = tt
-leads_nowhere s (dictionary k t ks) h = tt
-leads_nowhere s (composite id i ns) h = tt
-
-pub leads_there : (s : State) (shape : NodeShape) (l : ℕ) (f : Found) → label_in shape ≡ Some l → at l s ≡ Some f → LeadsTo s shape (Some f.tree.shape)
-leads_there s (plain v) l f h e = tt
-leads_there s (link a m n) l f h e = ap (λ (p : ℕ). option_map (λ x. x.tree.shape) (at p s)) (some_is h) ∙ ap (option_map (λ x. x.tree.shape)) e
-leads_there s (array t) l f h e = tt
-leads_there s (dictionary k t ks) l f h e = tt
-leads_there s (composite id i ns) l f h e = tt
 
 -- ---- what is told of a type
 

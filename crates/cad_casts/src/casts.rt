@@ -2,7 +2,6 @@
 ghost use Rattle.std.specs.Prelude.{◌≡◌};
 ghost use Rattle.cad_syntax.specs.Types.{pure_type};
 ghost use Rattle.cad_casts.specs.Code.Judged as code;
-ghost use Rattle.cad_evaluation.specs.Casts as spec;
 ghost use Rattle.cad_outcomes.specs.Outcomes.{Gives};
 ghost use Rattle.cad_rows.specs.Views.{pure_tree};
 ghost use Rattle.cad_state.specs.Views.{CarriesOut, FindsAndCarriesOut};
@@ -10,8 +9,7 @@ ghost use Rattle.cad_world.specs.State.{give};
 ghost use Rattle.cad_world.specs.Trees as trees;
 
 use crate::below::is_instance;
-use crate::own_types::{own_type_of, shape};
-use cad_access::leads_to_stored;
+use crate::own_types::own_type_of;
 use cad_declarations::discard_type;
 use cad_grammar::CastKind;
 use cad_outcomes::{RunError, Stop};
@@ -116,8 +114,8 @@ fn cast_if(
     }
 }
 
-/// The result of a cast, told the own type of the value.
-fn cast_from(
+/// The result of a cast, told the type of the value by which it is decided.
+pub fn cast_from(
     state: &mut RunState,
     kind: CastKind,
     wanted: &CadType,
@@ -135,8 +133,10 @@ fn cast_from(
     }
 }
 
-/// A cast of what isn't stored.
-fn own_cast(
+/// A value is cast to a type, told by its own type. A static cast hands it over; of a value that isn't of the type a failable one
+/// gives nil, and a forced one is Failed with CastFailed. Failed with ReferenceInvalid of a reference to what is gone. So every
+/// value is cast but a reference to storage, which is of the type of what is stored.
+pub fn own_cast(
     state: &mut RunState,
     kind: CastKind,
     wanted: &CadType,
@@ -151,21 +151,4 @@ fn own_cast(
             Err(stop)
         }
     }
-}
-
-/// A value is cast to a type. A static cast hands it over; of a value that isn't of the type a failable one gives nil, and a
-/// forced one is Failed with CastFailed. Failed with ReferenceInvalid of a reference to what is gone.
-pub fn cast(
-    state: &mut RunState,
-    kind: CastKind,
-    wanted: &CadType,
-    tree: Tree,
-) -> Result<Tree, Stop>
-    ensures { FindsAndCarriesOut pure_tree (spec.cast kind (pure_type wanted.now) (pure_tree tree)) state.old state.new result }
-{
-    if leads_to_stored(shape(&tree)) {
-        discard_tree(tree);
-        return Err(Stop::Memory);
-    }
-    own_cast(state, kind, wanted, tree)
 }

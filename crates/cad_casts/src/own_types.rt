@@ -1,23 +1,30 @@
 // Own types of values, and what containers ask of them.
-ghost use Rattle.std.specs.Prelude.{◌≡◌, Option, IfOk, option_map};
+ghost use Rattle.std.specs.Option.{is_some};
+ghost use Rattle.std.specs.Prelude.{◌≡◌, List, Option, Some, IfOk, option_map};
+ghost use Rattle.cad_access.specs.OwnTypes.{LeadsThere, LeadsTo};
 ghost use Rattle.cad_syntax.specs.Types.{PureType, pure_type};
 ghost use Rattle.cad_casts.specs.Settled as spec;
 ghost use Rattle.cad_evaluation.specs.Casts.{with_type};
 ghost use Rattle.cad_evaluation.specs.Containers as containers;
 ghost use Rattle.cad_outcomes.specs.Outcomes.{no_value, Gives};
 ghost use Rattle.cad_rows.specs.Views.{before, pure_place, pure_row, pure_shape, pure_tree};
-ghost use Rattle.cad_state.specs.Views.{CarriesOut, FindsAndCarriesOut};
+ghost use Rattle.cad_state.specs.Views.{CarriesOut, FindsAndCarriesOut, IsReady, state_over};
+ghost use Rattle.cad_values.specs.Values.{pure_value};
+ghost use Rattle.cad_world.specs.Labels.{at};
 ghost use Rattle.cad_world.specs.Locations.{with_found};
+ghost use Rattle.cad_world.specs.OwnTypes.{controller_at};
 ghost use Rattle.cad_world.specs.Rows.{Row, stop};
-ghost use Rattle.cad_world.specs.State.{done, give, or_fail};
+ghost use Rattle.cad_world.specs.State.{Account, done, give, or_fail};
 
 use crate::below::is_instance;
 use cad_access::own_type;
 use cad_declarations::discard_type;
 use cad_outcomes::{RunError, Stop};
 use cad_rows::{Place, Shape, Tree};
+use cad_run_accounts::controller;
 use cad_state::RunState;
-use cad_syntax::CadType;
+use cad_syntax::{Address, CadType};
+use cad_values::{Reference, Target, Value};
 use std::alloc::AllocError;
 
 /// How many optionals a tree is in.
@@ -55,7 +62,7 @@ fn label_in(shape: &Shape) -> Option<u64>
 }
 
 /// Whether there is a node with a label; behind it the label's hint leads there. ReferenceInvalid where there is none.
-fn find(state: &mut RunState, label: u64) -> Result<(), Stop>
+pub fn find_node(state: &mut RunState, label: u64) -> Result<(), Stop>
     ensures { FindsAndCarriesOut no_value (with_found label (λ f. done)) state.old state.new result }
 {
     match state.locate(label) {
@@ -71,7 +78,7 @@ pub fn settle_type(state: &mut RunState, shape: &Shape) -> Result<(), Stop>
     ensures { FindsAndCarriesOut no_value (spec.settled (pure_shape shape.now)) state.old state.new result }
 {
     match label_in(shape) {
-        Some(label) => find(state, label),
+        Some(label) => find_node(state, label),
         None => Ok(()),
     }
 }
@@ -87,17 +94,79 @@ fn type_told(told: Result<Option<CadType>, AllocError>) -> Result<CadType, Stop>
     }
 }
 
+/// Whether an account has a controller of a number. Memory fails only where the run has no accounts.
+pub fn is_controller(state: &RunState, address: Address, id: u64) -> Result<bool, AllocError>
+    ensures { IfOk result (λ is. (accounts : List Account) → is ≡ is_some (controller_at (state_over accounts state.now) address.0 id)) }
+{
+    match controller(state, address, id) {
+        Ok(Some(_)) => Ok(true),
+        Ok(None) => Ok(false),
+        Err(error) => Err(error),
+    }
+}
+
+/// Whether a reference to a controller leads to one that is there; false of other references.
+fn reference_leads(state: &RunState, reference: &Reference) -> Result<bool, AllocError>
+    ensures { IfOk result (λ is. (accounts : List Account) → LeadsThere (state_over accounts state.now) (pure_value (Value.Reference reference.now)) is) }
+{
+    match &reference.to {
+        Target::Controller { address, id } => is_controller(state, *address, *id),
+        _ => Ok(false),
+    }
+}
+
+/// Whether a value is a reference to a controller that is there.
+fn value_leads(state: &RunState, value: &Value) -> Result<bool, AllocError>
+    ensures { IfOk result (λ is. (accounts : List Account) → LeadsThere (state_over accounts state.now) (pure_value value.now) is) }
+{
+    match value {
+        Value::Reference(reference) => reference_leads(state, reference),
+        _ => Ok(false),
+    }
+}
+
+/// A shape, where it is there.
+fn shape_if(is: bool, shape: &Shape) -> Option<&Shape>
+    ensures { is_some (option_map (λ x. pure_shape x.now) result) ≡ is }
+{
+    if is { Some(shape) } else { None }
+}
+
+/// The node with a label, which `settle_type` has found: its shape.
+fn shape_at(state: &RunState, label: u64) -> Result<&Shape, AllocError>
+    ensures { IfOk result (λ x. (accounts : List Account) → IsReady accounts state.now → option_map (λ f. f.tree.shape) (at label (state_over accounts state.now)) ≡ Some (pure_shape x.now)) }
+{
+    match state.node(label) {
+        Some(node) => Ok(shape(node.tree)),
+        None => Err(AllocError),
+    }
+}
+
+/// Where a shape leads, as `own_type` wants it: the shape of the node of a reference to one, and for a controller that is there
+/// the reference itself. Memory fails where `settle_type` didn't come before.
+fn lead<'a>(state: &'a RunState, own: &'a Shape) -> Result<Option<&'a Shape>, AllocError>
+    ensures { IfOk result (λ o. (accounts : List Account) → IsReady accounts state.now → LeadsTo (state_over accounts state.now) (pure_shape own.now) (option_map (λ x. pure_shape x.now) o)) }
+{
+    match own {
+        Shape::Link { label, .. } => match shape_at(state, *label) {
+            Ok(found) => Ok(Some(found)),
+            Err(error) => Err(error),
+        },
+        Shape::Plain(value) => match value_leads(state, value) {
+            Ok(is) => Ok(shape_if(is, own)),
+            Err(error) => Err(error),
+        },
+        _ => Ok(None),
+    }
+}
+
 /// The own type of a value in this many optionals, whatever its parts. Memory where `settle_type` didn't come before.
 pub fn type_here(state: &RunState, optionals: u64, own: &Shape) -> Result<CadType, Stop>
     ensures { (parts : Row) → FindsAndCarriesOut pure_type (with_type (record { optionals = optionals; shape = pure_shape own.now; parts = parts }) (λ own. give own)) state.now state.now result }
 {
-    let alloc = *state.making.allocator();
-    match label_in(own) {
-        Some(label) => match state.node(label) {
-            Some(node) => type_told(own_type(alloc, optionals, own, Some(shape(node.tree)))),
-            None => Err(Stop::Memory),
-        },
-        None => type_told(own_type(alloc, optionals, own, None)),
+    match lead(state, own) {
+        Ok(found) => type_told(own_type(*state.making.allocator(), optionals, own, found)),
+        Err(_) => Err(Stop::Memory),
     }
 }
 

@@ -4,16 +4,15 @@ use Rattle.std.specs.Prelude.{Result, Ok, Err, IfOk, IfErr}
 use Rattle.cad_syntax.specs.Types.{PureType, pure_type}
 use Rattle.cad_values.specs.Values.{PureValue, pure_value}
 use Rattle.cad_evaluation.specs.Builtins.{on_array, on_array_at, by_array, on_dictionary_at, by_dictionary}
-use Rattle.cad_outcomes.specs.Outcomes.{Does, Stops}
+use Rattle.cad_outcomes.specs.Outcomes.{Stops}
 use Rattle.cad_outcomes.specs.declared.stop.Stop.{Stop}
 use Rattle.cad_outcomes.specs.declared.stop.Stop.TheVariants.{Memory}
 use Rattle.cad_outcomes.proofs.Steps.{stops_on, stops_same, does_same}
-use Rattle.cad_receivers.specs.Views.{at_spot, found}
+use Rattle.cad_receivers.specs.Views.{at_spot}
 use Rattle.cad_rows.specs.Views.{pure_row, pure_tree}
 use Rattle.cad_rows.specs.declared.tree.Tree as code
 use Rattle.cad_state.specs.Views.{state_over, IsReady, FindsAndCarriesOut}
 use Rattle.cad_state.specs.declared.state.RunState.{RunState}
-use Rattle.cad_world.specs.Labels.{at}
 use Rattle.cad_world.specs.Locations.{key_position, keys_in}
 use Rattle.cad_world.specs.Receivers as r
 use Rattle.cad_world.specs.Rows.{NodeShape, array, dictionary, Row, Tree, count_places}
@@ -26,7 +25,6 @@ use Rattle.cad_containers.specs.declared.aims.DictionaryAim.{DictionaryAim}
 use Rattle.cad_containers.specs.declared.parts.Elements.{Elements}
 use Rattle.cad_containers.specs.declared.parts.Entries.{Entries}
 use Rattle.cad_containers.proofs.Looks.{OfLabel, node_of_look}
-use Rattle.cad_containers.proofs.Spots.{stops_so, ready_same}
 
 -- ---- arrays
 
@@ -53,9 +51,6 @@ aimed x s spot (Err why) e h = (
 pub look_stops_aim : (x : r.Receiver) (s : State) (why : Stop) → Stops (r.look_at x s) why → ArrayAimed x s (Err why)
 look_stops_aim x s why h = ((λ p. stops_on (r.look_at x s) (λ first. on_array_at first p) why h), (λ p. stops_on (r.look_at x s) (λ first. on_array first p) why h))
 
-pub settle_stops_aim : (x : r.Receiver) (s : State) (why : Stop) → Stops (found (r.look_at x) s) why → ArrayAimed x s (Err why)
-settle_stops_aim x s why h = ((λ p. stops_so (r.look_at x) (λ first. on_array_at first p) s why h), (λ p. stops_so (r.look_at x) (λ first. on_array first p) s why h))
-
 -- the array that a spot is
 pub aim_is : (spot : r.Spot) (l : ℕ) (x : Elements) (a : Result ArrayAim Stop) → spot.label ≡ Some l → AreElements spot.tree.optionals spot.tree.shape spot.tree.parts (Some x)
     → IfOk a (λ b. (b.label ≡ l) × (pure_type b.element ≡ pure_type x.element.now) × (b.count ≡ count_places (pure_row x.parts.now))) → IfErr a (λ why. why ≡ Memory) → IsArrayAim spot a
@@ -63,31 +58,21 @@ aim_is spot l x (Ok b) e are known memory = (e ∙ ap Some (sym known.0), are.0,
 aim_is spot l x (Err why) e are known memory =
     ((λ p s. subst (λ (w : Stop). Stops (on_array_at spot p s) w) (sym memory) tt), (λ p s. subst (λ (w : Stop). Stops (on_array spot p s) w) (sym memory) tt))
 
--- where nothing but hints has changed
-pub aimed_before : (x : r.Receiver) (s v : State) (a : Result ArrayAim Stop) → v ≡ s → ArrayAimed x v a → ArrayAimed x s a
-aimed_before x s v a e h = subst (λ (q : State). ArrayAimed x q a) e h
-
 -- what is done with the node is done with the receiver
-pub aimed_change : (x : r.Receiver) (p : ℕ → PureType → Row → Action Tree) (a b c : RunState) (aim : ArrayAim) (q : Result code.Tree Stop) → ((w : List Account) → state_over w b ≡ state_over w a)
-    → ((w : List Account) → IsReady w a → ArrayAimed x (state_over w a) (Ok aim)) → ChangesArray aim.label (pure_type aim.element) aim.count (p aim.label (pure_type aim.element)) b c q
+pub aimed_change : (x : r.Receiver) (p : ℕ → PureType → Row → Action Tree) (a c : RunState) (aim : ArrayAim) (q : Result code.Tree Stop)
+    → ((w : List Account) → IsReady w a → ArrayAimed x (state_over w a) (Ok aim)) → ChangesArray aim.label (pure_type aim.element) aim.count (p aim.label (pure_type aim.element)) a c q
     → FindsAndCarriesOut pure_tree (at_spot x (λ spot. on_array_at spot p)) a c q
-aimed_change x p a b c aim q same aims change w ready =
+aimed_change x p a c aim q aims change w ready =
     let k = aims w ready in
-    let s = state_over w a in
-    does_same pure_tree (at_spot x (λ spot. on_array_at spot p)) (p aim.label (pure_type aim.element) k.0.tree.parts) s (state_over w c) q (k.4 p)
-    (subst (λ (v : State). Does pure_tree (p aim.label (pure_type aim.element) k.0.tree.parts) v (state_over w c) q) (same w)
-    (change w (ready_same w a b (same w) ready) k.0 (ap (at aim.label) (same w) ∙ k.1) (k.2, k.3)))
+    does_same pure_tree (at_spot x (λ spot. on_array_at spot p)) (p aim.label (pure_type aim.element) k.0.tree.parts) (state_over w a) (state_over w c) q (k.4 p) (change w ready k.0 k.1 (k.2, k.3))
 
 -- the same of what only reads the array
-pub aimed_read : (x : r.Receiver) (p : PureType → Row → Action Tree) (a b c : RunState) (aim : ArrayAim) (q : Result code.Tree Stop) → ((w : List Account) → state_over w b ≡ state_over w a)
-    → ((w : List Account) → IsReady w a → ArrayAimed x (state_over w a) (Ok aim)) → ChangesArray aim.label (pure_type aim.element) aim.count (p (pure_type aim.element)) b c q
+pub aimed_read : (x : r.Receiver) (p : PureType → Row → Action Tree) (a c : RunState) (aim : ArrayAim) (q : Result code.Tree Stop)
+    → ((w : List Account) → IsReady w a → ArrayAimed x (state_over w a) (Ok aim)) → ChangesArray aim.label (pure_type aim.element) aim.count (p (pure_type aim.element)) a c q
     → FindsAndCarriesOut pure_tree (at_spot x (λ spot. on_array spot p)) a c q
-aimed_read x p a b c aim q same aims change w ready =
+aimed_read x p a c aim q aims change w ready =
     let k = aims w ready in
-    let s = state_over w a in
-    does_same pure_tree (at_spot x (λ spot. on_array spot p)) (p (pure_type aim.element) k.0.tree.parts) s (state_over w c) q (k.5 p)
-    (subst (λ (v : State). Does pure_tree (p (pure_type aim.element) k.0.tree.parts) v (state_over w c) q) (same w)
-    (change w (ready_same w a b (same w) ready) k.0 (ap (at aim.label) (same w) ∙ k.1) (k.2, k.3)))
+    does_same pure_tree (at_spot x (λ spot. on_array spot p)) (p (pure_type aim.element) k.0.tree.parts) (state_over w a) (state_over w c) q (k.5 p) (change w ready k.0 k.1 (k.2, k.3))
 
 -- ---- dictionaries
 
@@ -112,12 +97,6 @@ dictionary_aimed k x s spot (Err why) e h = λ p. stops_same (at_spot x (λ firs
 pub look_stops_dictionary : (k : PureValue) (x : r.Receiver) (s : State) (why : Stop) → Stops (r.look_at x s) why → DictionaryAimed k x s (Err why)
 look_stops_dictionary k x s why h = λ p. stops_on (r.look_at x s) (λ first. on_dictionary_at first p) why h
 
-pub settle_stops_dictionary : (k : PureValue) (x : r.Receiver) (s : State) (why : Stop) → Stops (found (r.look_at x) s) why → DictionaryAimed k x s (Err why)
-settle_stops_dictionary k x s why h = λ p. stops_so (r.look_at x) (λ first. on_dictionary_at first p) s why h
-
-pub dictionary_aimed_before : (k : PureValue) (x : r.Receiver) (s v : State) (a : Result DictionaryAim Stop) → v ≡ s → DictionaryAimed k x v a → DictionaryAimed k x s a
-dictionary_aimed_before k x s v a e h = subst (λ (q : State). DictionaryAimed k x q a) e h
-
 -- the dictionary that a spot is
 pub dictionary_aim_is : (k : PureValue) (spot : r.Spot) (l : ℕ) (x : Entries) (a : Result DictionaryAim Stop) → spot.label ≡ Some l → AreEntries spot.tree.optionals spot.tree.shape spot.tree.parts (Some x)
     → IfOk a (λ b. (b.label ≡ l) × (pure_type b.key ≡ pure_type x.key.now) × (pure_type b.value ≡ pure_type x.value.now) × (b.count ≡ count_places (pure_row x.parts.now)) × (b.position ≡ key_position k (map pure_value x.keys.now)))
@@ -134,13 +113,11 @@ dictionary_aim_is k spot l x (Ok b) e are known memory =
 dictionary_aim_is k spot l x (Err why) e are known memory = λ p s. subst (λ (w : Stop). Stops (on_dictionary_at spot p s) w) (sym memory) tt
 
 -- what is done with the node is done with the receiver
-pub aimed_dictionary_change : (k : PureValue) (x : r.Receiver) (p : ℕ → PureType → PureType → List PureValue → Row → Action Tree) (a b c : RunState) (aim : DictionaryAim) (q : Result code.Tree Stop)
-    → ((w : List Account) → state_over w b ≡ state_over w a) → ((w : List Account) → IsReady w a → DictionaryAimed k x (state_over w a) (Ok aim))
-    → Changes aim.label (IsDictionary (pure_type aim.key) (pure_type aim.value) aim.count k aim.position) (λ f. p aim.label (pure_type aim.key) (pure_type aim.value) (keys_in f.tree.shape) f.tree.parts) b c q
+pub aimed_dictionary_change : (k : PureValue) (x : r.Receiver) (p : ℕ → PureType → PureType → List PureValue → Row → Action Tree) (a c : RunState) (aim : DictionaryAim) (q : Result code.Tree Stop)
+    → ((w : List Account) → IsReady w a → DictionaryAimed k x (state_over w a) (Ok aim))
+    → Changes aim.label (IsDictionary (pure_type aim.key) (pure_type aim.value) aim.count k aim.position) (λ f. p aim.label (pure_type aim.key) (pure_type aim.value) (keys_in f.tree.shape) f.tree.parts) a c q
     → FindsAndCarriesOut pure_tree (at_spot x (λ spot. on_dictionary_at spot p)) a c q
-aimed_dictionary_change k x p a b c aim q same aims change w ready =
+aimed_dictionary_change k x p a c aim q aims change w ready =
     let d = aims w ready in
-    let s = state_over w a in
     let act = p aim.label (pure_type aim.key) (pure_type aim.value) (keys_in d.0.tree.shape) d.0.tree.parts in
-    does_same pure_tree (at_spot x (λ spot. on_dictionary_at spot p)) act s (state_over w c) q (d.3 p)
-    (subst (λ (v : State). Does pure_tree act v (state_over w c) q) (same w) (change w (ready_same w a b (same w) ready) d.0 (ap (at aim.label) (same w) ∙ d.1) d.2))
+    does_same pure_tree (at_spot x (λ spot. on_dictionary_at spot p)) act (state_over w a) (state_over w c) q (d.3 p) (change w ready d.0 d.1 d.2)

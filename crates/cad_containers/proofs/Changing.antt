@@ -23,7 +23,7 @@ use Rattle.cad_world.specs.Rows.{NodeShape, array, Row, stop, gap, node, Tree, S
 use Rattle.cad_world.specs.State.{State, Account, Outcome, ok, failed, limit, ill, Action, done, require, or_fail, with_some, give}
 use Rattle.cad_containers.specs.Code.Changes.{Changes, ChangesArray, IsArray, IsNoPlace, Voids, taken_as}
 use Rattle.cad_containers.specs.Code.Parts.{IsNegative}
-use Rattle.cad_containers.proofs.Spots.{ready_same}
+use Rattle.cad_receivers.proofs.Passing.{ready_same}
 
 -- ---- tests before a change
 

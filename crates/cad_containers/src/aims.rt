@@ -3,7 +3,7 @@ ghost use Rattle.std.specs.Prelude.{◌≡◌, List, IfErr, IfOk, map};
 ghost use Rattle.cad_containers.specs.Code.Changes.{ArrayAimed, IsArrayAim};
 ghost use Rattle.cad_containers.specs.Code.Dictionaries.{DictionaryAimed, IsDictionaryAim};
 ghost use Rattle.cad_outcomes.specs.declared.stop.Stop.TheVariants.{Memory};
-ghost use Rattle.cad_receivers.specs.Views.{receiver_of, spot_of};
+ghost use Rattle.cad_receivers.specs.Views.{settled_of, spot_of};
 ghost use Rattle.cad_rows.specs.Views.{pure_row};
 ghost use Rattle.cad_state.specs.Views.{IsReady, state_over};
 ghost use Rattle.cad_syntax.specs.Types.{pure_type};
@@ -15,7 +15,7 @@ ghost use Rattle.cad_world.specs.State.{Account};
 use crate::parts::{Elements, Entries, discard_type, elements_of, entries_of};
 use cad_operators::key_position;
 use cad_outcomes::Stop;
-use cad_receivers::{Receiver, Spot, look, settle_receiver};
+use cad_receivers::{Settled, Spot, look};
 use cad_rows::count_places;
 use cad_state::RunState;
 use cad_syntax::CadType;
@@ -67,23 +67,12 @@ fn array_aim_of(spot: Spot<'_>) -> Result<ArrayAim, Stop>
     }
 }
 
-/// What is known of the array that a receiver is now, which was settled.
-fn settled_array(state: &RunState, receiver: &Receiver) -> Result<ArrayAim, Stop>
-    ensures { (accounts : List Account) → IsReady accounts state.now → ArrayAimed (receiver_of receiver.now) (state_over accounts state.now) result }
+/// What is known of the array that a receiver is now.
+pub(crate) fn aim_at_array(state: &RunState, receiver: Settled<'_>) -> Result<ArrayAim, Stop>
+    ensures { (accounts : List Account) → IsReady accounts state.now → ArrayAimed (settled_of receiver.entry) (state_over accounts state.now) result }
 {
     match look(state, receiver) {
         Ok(spot) => array_aim_of(spot),
-        Err(stop) => Err(stop),
-    }
-}
-
-/// What is known of the array that a receiver is now.
-pub(crate) fn aim_at_array(state: &mut RunState, receiver: &Receiver) -> Result<ArrayAim, Stop>
-    ensures same { (accounts : List Account) → state_over accounts state.new ≡ state_over accounts state.old }
-    ensures aim { (accounts : List Account) → IsReady accounts state.old → ArrayAimed (receiver_of receiver.now) (state_over accounts state.old) result }
-{
-    match settle_receiver(state, receiver) {
-        Ok(()) => settled_array(state, receiver),
         Err(stop) => Err(stop),
     }
 }
@@ -167,32 +156,17 @@ fn dictionary_aim_of(alloc: Global, spot: Spot<'_>, key: &Value) -> Result<Dicti
     }
 }
 
-/// What is known of the dictionary that a receiver is now, which was settled.
-fn settled_dictionary(
+/// What is known of the dictionary that a receiver is now, and where a key stands in it.
+pub(crate) fn aim_at_dictionary(
     state: &RunState,
-    receiver: &Receiver,
+    receiver: Settled<'_>,
     key: &Value,
 ) -> Result<DictionaryAim, Stop>
-    ensures { (accounts : List Account) → IsReady accounts state.now → DictionaryAimed (pure_value key.now) (receiver_of receiver.now) (state_over accounts state.now) result }
+    ensures { (accounts : List Account) → IsReady accounts state.now → DictionaryAimed (pure_value key.now) (settled_of receiver.entry) (state_over accounts state.now) result }
 {
     let alloc = *state.making.allocator();
     match look(state, receiver) {
         Ok(spot) => dictionary_aim_of(alloc, spot, key),
-        Err(stop) => Err(stop),
-    }
-}
-
-/// What is known of the dictionary that a receiver is now, and where a key stands in it.
-pub(crate) fn aim_at_dictionary(
-    state: &mut RunState,
-    receiver: &Receiver,
-    key: &Value,
-) -> Result<DictionaryAim, Stop>
-    ensures same { (accounts : List Account) → state_over accounts state.new ≡ state_over accounts state.old }
-    ensures aim { (accounts : List Account) → IsReady accounts state.old → DictionaryAimed (pure_value key.now) (receiver_of receiver.now) (state_over accounts state.old) result }
-{
-    match settle_receiver(state, receiver) {
-        Ok(()) => settled_dictionary(state, receiver, key),
         Err(stop) => Err(stop),
     }
 }

@@ -7,7 +7,7 @@ ghost use Rattle.cad_evaluation.specs.Builtins.{on_array_at};
 ghost use Rattle.cad_evaluation.specs.Containers as spec;
 ghost use Rattle.cad_evaluation.specs.Numbers.{integer_in as integer_of_tree};
 ghost use Rattle.cad_num.specs.Numbers.{value_of};
-ghost use Rattle.cad_receivers.specs.Views.{at_spot, receiver_of};
+ghost use Rattle.cad_receivers.specs.Views.{at_spot, settled_of};
 ghost use Rattle.cad_rows.specs.Views.{pure_row, pure_tree};
 ghost use Rattle.cad_state.specs.Views.{FindsAndCarriesOut};
 ghost use Rattle.cad_syntax.specs.Types.{PureType, pure_type};
@@ -24,7 +24,7 @@ use cad_casts::{check_row, check_type};
 use cad_nodes::{add_in, cut_in, join_in, wedge_in};
 use cad_operators::{integer_in, plain_tree};
 use cad_outcomes::{RunError, Stop};
-use cad_receivers::Receiver;
+use cad_receivers::Settled;
 use cad_rows::{Place, Tree, count_places, discard_row, discard_tree};
 use cad_state::RunState;
 use cad_syntax::{CadType, Num};
@@ -361,10 +361,10 @@ fn change_at(
 pub(crate) fn change_array(
     state: &mut RunState,
     member: Builtin,
-    receiver: &Receiver,
+    receiver: Settled<'_>,
     arguments: Vec<Place>,
 ) -> Result<Tree, Stop>
-    ensures { FindsAndCarriesOut pure_tree (at_spot (receiver_of receiver.now) (λ spot. on_array_at spot (array_change member (pure_row arguments.items)))) state.old state.new result }
+    ensures { FindsAndCarriesOut pure_tree (at_spot (settled_of receiver.entry) (λ spot. on_array_at spot (array_change member (pure_row arguments.items)))) state.old state.new result }
 {
     match aim_at_array(state, receiver) {
         Ok(aim) => change_at(state, member, aim, arguments),

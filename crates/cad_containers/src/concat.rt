@@ -4,7 +4,7 @@ ghost use Rattle.cad_containers.specs.Code.Changes.{Changes, IsArray};
 ghost use Rattle.cad_evaluation.specs.Arguments.{with_argument};
 ghost use Rattle.cad_evaluation.specs.Builtins.{on_array};
 ghost use Rattle.cad_evaluation.specs.Containers as spec;
-ghost use Rattle.cad_receivers.specs.Views.{at_spot, receiver_of};
+ghost use Rattle.cad_receivers.specs.Views.{at_spot, settled_of};
 ghost use Rattle.cad_rows.specs.Views.{pure_row, pure_tree};
 ghost use Rattle.cad_state.specs.Views.{FindsAndCarriesOut};
 ghost use Rattle.cad_syntax.specs.Types.{pure_type};
@@ -16,7 +16,7 @@ use crate::parts::{array_parts, discard_type, has_room_for, parts_of, take_argum
 use cad_casts::check_row;
 use cad_nodes::find;
 use cad_outcomes::{RunError, Stop};
-use cad_receivers::Receiver;
+use cad_receivers::Settled;
 use cad_rows::{Place, Tree, count_places, discard_row, discard_tree};
 use cad_state::RunState;
 use cad_syntax::CadType;
@@ -135,10 +135,10 @@ fn concat_arguments(
 /// `concat`, over its arguments, of the array that a receiver is now.
 pub(crate) fn concat_array(
     state: &mut RunState,
-    receiver: &Receiver,
+    receiver: Settled<'_>,
     arguments: Vec<Place>,
 ) -> Result<Tree, Stop>
-    ensures { FindsAndCarriesOut pure_tree (at_spot (receiver_of receiver.now) (λ spot. on_array spot (λ type parts. with_argument (pure_row arguments.items) (spec.array_concat type parts)))) state.old state.new result }
+    ensures { FindsAndCarriesOut pure_tree (at_spot (settled_of receiver.entry) (λ spot. on_array spot (λ type parts. with_argument (pure_row arguments.items) (spec.array_concat type parts)))) state.old state.new result }
 {
     match aim_at_array(state, receiver) {
         Ok(aim) => concat_arguments(state, aim, arguments),

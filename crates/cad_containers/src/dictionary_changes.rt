@@ -6,7 +6,7 @@ ghost use Rattle.cad_containers.specs.Code.Members.{dictionary_change};
 ghost use Rattle.cad_evaluation.specs.Arguments.{argument};
 ghost use Rattle.cad_evaluation.specs.Builtins.{on_dictionary_at};
 ghost use Rattle.cad_evaluation.specs.Containers as spec;
-ghost use Rattle.cad_receivers.specs.Views.{at_spot, receiver_of};
+ghost use Rattle.cad_receivers.specs.Views.{at_spot, settled_of};
 ghost use Rattle.cad_rows.specs.Views.{pure_row, pure_tree};
 ghost use Rattle.cad_state.specs.Views.{FindsAndCarriesOut};
 ghost use Rattle.cad_syntax.specs.Types.{PureType, pure_type};
@@ -23,7 +23,7 @@ use cad_casts::check_type;
 use cad_nodes::{add_key, drop_key, exchange_in};
 use cad_operators::nil_tree;
 use cad_outcomes::{RunError, Stop};
-use cad_receivers::Receiver;
+use cad_receivers::Settled;
 use cad_rows::{Place, Tree, discard_row, discard_tree};
 use cad_state::{RunState, discard_value};
 use cad_types::Builtin;
@@ -222,11 +222,11 @@ fn change(
 fn change_under(
     state: &mut RunState,
     member: Builtin,
-    receiver: &Receiver,
+    receiver: Settled<'_>,
     key: Value,
     arguments: Vec<Place>,
 ) -> Result<Tree, Stop>
-    ensures { option_map value_of (argument 0 (pure_row arguments.items)) ≡ Some (pure_value key) → FindsAndCarriesOut pure_tree (at_spot (receiver_of receiver.now) (λ spot. on_dictionary_at spot (dictionary_change member (pure_row arguments.items)))) state.old state.new result }
+    ensures { option_map value_of (argument 0 (pure_row arguments.items)) ≡ Some (pure_value key) → FindsAndCarriesOut pure_tree (at_spot (settled_of receiver.entry) (λ spot. on_dictionary_at spot (dictionary_change member (pure_row arguments.items)))) state.old state.new result }
 {
     match aim_at_dictionary(state, receiver, &key) {
         Ok(aim) => {
@@ -246,10 +246,10 @@ fn change_under(
 pub(crate) fn change_dictionary(
     state: &mut RunState,
     member: Builtin,
-    receiver: &Receiver,
+    receiver: Settled<'_>,
     arguments: Vec<Place>,
 ) -> Result<Tree, Stop>
-    ensures { FindsAndCarriesOut pure_tree (at_spot (receiver_of receiver.now) (λ spot. on_dictionary_at spot (dictionary_change member (pure_row arguments.items)))) state.old state.new result }
+    ensures { FindsAndCarriesOut pure_tree (at_spot (settled_of receiver.entry) (λ spot. on_dictionary_at spot (dictionary_change member (pure_row arguments.items)))) state.old state.new result }
 {
     let alloc = *state.making.allocator();
     match key_argument(alloc, arguments.as_slice()) {

@@ -1,7 +1,7 @@
 // The built-in members of arrays and dictionaries.
 ghost use Rattle.cad_containers.specs.Code.Members.{IsKind};
 ghost use Rattle.cad_evaluation.specs.Builtins.{plain_member};
-ghost use Rattle.cad_receivers.specs.Views.{at_spot, receiver_of};
+ghost use Rattle.cad_receivers.specs.Views.{at_spot, settled_of};
 ghost use Rattle.cad_rows.specs.Views.{pure_row, pure_tree};
 ghost use Rattle.cad_state.specs.Views.{FindsAndCarriesOut};
 
@@ -10,7 +10,7 @@ use crate::concat::concat_array;
 use crate::dictionary_changes::change_dictionary;
 use crate::reads::{read_in_array, read_in_dictionary};
 use cad_outcomes::Stop;
-use cad_receivers::Receiver;
+use cad_receivers::Settled;
 use cad_rows::{Place, Tree, discard_row};
 use cad_state::RunState;
 use cad_types::Builtin;
@@ -56,17 +56,17 @@ fn kind_of(member: Builtin) -> Kind
     }
 }
 
-/// A built-in member of arrays or dictionaries on what the receiver is now. ReferenceInvalid where that is gone, or where a swap
-/// has taken out what leaves it; IndexOutOfBounds and SliceOutOfBounds where there is no such place; TooLarge where there would
+/// A built-in member of arrays or dictionaries on what the receiver is now, which was settled. ReferenceInvalid where that is gone,
+/// or where a swap has taken out what leaves it; IndexOutOfBounds and SliceOutOfBounds where there is no such place; TooLarge where there would
 /// be over 65,536 elements; ElementType where a value isn't of the container's own type; IllTyped where the receiver is no such
 /// container, the arguments don't fit, or a resource would be copied. Memory of all other members.
 pub fn container_member(
     state: &mut RunState,
     member: Builtin,
-    receiver: &Receiver,
+    receiver: Settled<'_>,
     arguments: Vec<Place>,
 ) -> Result<Tree, Stop>
-    ensures { FindsAndCarriesOut pure_tree (at_spot (receiver_of receiver.now) (λ spot. plain_member member spot (pure_row arguments.items))) state.old state.new result }
+    ensures { FindsAndCarriesOut pure_tree (at_spot (settled_of receiver.entry) (λ spot. plain_member member spot (pure_row arguments.items))) state.old state.new result }
 {
     match kind_of(member) {
         Kind::ArrayChange => change_array(state, member, receiver, arguments),

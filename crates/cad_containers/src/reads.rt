@@ -3,7 +3,7 @@ ghost use Rattle.std.specs.Prelude.{map};
 ghost use Rattle.cad_containers.specs.Code.Members.{array_read, dictionary_read};
 ghost use Rattle.cad_evaluation.specs.Builtins.{on_array, on_dictionary};
 ghost use Rattle.cad_outcomes.specs.Outcomes.{Gives};
-ghost use Rattle.cad_receivers.specs.Views.{at_spot, receiver_of, spot_of};
+ghost use Rattle.cad_receivers.specs.Views.{at_spot, settled_of, spot_of};
 ghost use Rattle.cad_rows.specs.Views.{pure_row, pure_tree};
 ghost use Rattle.cad_state.specs.Views.{FindsAndCarriesOut};
 
@@ -11,7 +11,7 @@ use crate::arrays::read_array;
 use crate::dictionaries::read_dictionary;
 use crate::parts::{elements_of, entries_of};
 use cad_outcomes::Stop;
-use cad_receivers::{Receiver, Spot, look, settle_receiver};
+use cad_receivers::{Settled, Spot, look};
 use cad_rows::{Place, Tree, discard_row};
 use cad_state::RunState;
 use cad_types::Builtin;
@@ -32,14 +32,14 @@ fn read_elements(
     }
 }
 
-/// What is read of the array that a receiver is now, which was settled.
-fn read_settled_array(
+/// What is read of the array that a receiver is now, over these arguments.
+fn look_in_array(
     state: &RunState,
     member: Builtin,
-    receiver: &Receiver,
+    receiver: Settled<'_>,
     arguments: &[Place],
 ) -> Result<Tree, Stop>
-    ensures { FindsAndCarriesOut pure_tree (at_spot (receiver_of receiver.now) (λ spot. on_array spot (array_read member (pure_row arguments.now)))) state.now state.now result }
+    ensures { FindsAndCarriesOut pure_tree (at_spot (settled_of receiver.entry) (λ spot. on_array spot (array_read member (pure_row arguments.now)))) state.now state.now result }
 {
     let alloc = *state.making.allocator();
     match look(state, receiver) {
@@ -50,24 +50,16 @@ fn read_settled_array(
 
 /// What is read of the array that a receiver is now.
 pub(crate) fn read_in_array(
-    state: &mut RunState,
+    state: &RunState,
     member: Builtin,
-    receiver: &Receiver,
+    receiver: Settled<'_>,
     arguments: Vec<Place>,
 ) -> Result<Tree, Stop>
-    ensures { FindsAndCarriesOut pure_tree (at_spot (receiver_of receiver.now) (λ spot. on_array spot (array_read member (pure_row arguments.items)))) state.old state.new result }
+    ensures { FindsAndCarriesOut pure_tree (at_spot (settled_of receiver.entry) (λ spot. on_array spot (array_read member (pure_row arguments.items)))) state.now state.now result }
 {
-    match settle_receiver(state, receiver) {
-        Ok(()) => {
-            let result = read_settled_array(state, member, receiver, arguments.as_slice());
-            discard_row(arguments);
-            result
-        }
-        Err(stop) => {
-            discard_row(arguments);
-            Err(stop)
-        }
-    }
+    let result = look_in_array(state, member, receiver, arguments.as_slice());
+    discard_row(arguments);
+    result
 }
 
 /// What is read of a dictionary.
@@ -85,14 +77,14 @@ fn read_entries(
     }
 }
 
-/// What is read of the dictionary that a receiver is now, which was settled.
-fn read_settled_dictionary(
+/// What is read of the dictionary that a receiver is now, over these arguments.
+fn look_in_dictionary(
     state: &RunState,
     member: Builtin,
-    receiver: &Receiver,
+    receiver: Settled<'_>,
     arguments: &[Place],
 ) -> Result<Tree, Stop>
-    ensures { FindsAndCarriesOut pure_tree (at_spot (receiver_of receiver.now) (λ spot. on_dictionary spot (dictionary_read member (pure_row arguments.now)))) state.now state.now result }
+    ensures { FindsAndCarriesOut pure_tree (at_spot (settled_of receiver.entry) (λ spot. on_dictionary spot (dictionary_read member (pure_row arguments.now)))) state.now state.now result }
 {
     let alloc = *state.making.allocator();
     match look(state, receiver) {
@@ -103,22 +95,14 @@ fn read_settled_dictionary(
 
 /// What is read of the dictionary that a receiver is now.
 pub(crate) fn read_in_dictionary(
-    state: &mut RunState,
+    state: &RunState,
     member: Builtin,
-    receiver: &Receiver,
+    receiver: Settled<'_>,
     arguments: Vec<Place>,
 ) -> Result<Tree, Stop>
-    ensures { FindsAndCarriesOut pure_tree (at_spot (receiver_of receiver.now) (λ spot. on_dictionary spot (dictionary_read member (pure_row arguments.items)))) state.old state.new result }
+    ensures { FindsAndCarriesOut pure_tree (at_spot (settled_of receiver.entry) (λ spot. on_dictionary spot (dictionary_read member (pure_row arguments.items)))) state.now state.now result }
 {
-    match settle_receiver(state, receiver) {
-        Ok(()) => {
-            let result = read_settled_dictionary(state, member, receiver, arguments.as_slice());
-            discard_row(arguments);
-            result
-        }
-        Err(stop) => {
-            discard_row(arguments);
-            Err(stop)
-        }
-    }
+    let result = look_in_dictionary(state, member, receiver, arguments.as_slice());
+    discard_row(arguments);
+    result
 }

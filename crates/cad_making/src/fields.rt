@@ -25,7 +25,7 @@ fn push_field(names: &mut Names, member: &Member) -> Result<(), AllocError>
 
 /// The names of the fields among members, in order.
 #[tactic(auto, using(crate::proofs::Names::one_more))]
-fn names_of_fields(alloc: Global, members: &[Member]) -> Result<Names, AllocError>
+pub fn names_of_fields(alloc: Global, members: &[Member]) -> Result<Names, AllocError>
     ensures { IfOk result (λ names. names ≡ making.field_names (map member_of members.now)) }
 {
     let mut names = Names::new(alloc);

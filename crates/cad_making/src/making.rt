@@ -91,7 +91,7 @@ pub(crate) fn push_first(row: &mut Vec<Place>, place: Place) -> Result<(), Alloc
 }
 
 /// The place of a composite with this label, whose fields are still empty.
-fn unset_place(
+pub fn unset_place(
     alloc: Global,
     id: &TypeId,
     identity: u64,

@@ -42,17 +42,16 @@ count_is n (failed e) w f s h = refl
 count_is n limit w f s h = refl
 count_is n ill w f s h = refl
 
-pub searched : {A : Type 0} (look : Action A) (w : A → ℕ) (f : A → Action Tree) (n : ℕ) (s t v u : State) (made : Code) (r : Result Code Stop) → v ≡ s
-    → (look >>= (λ a. give (w a))) s ≡ ok n v → (look >>= f) v ≡ ok (pure_tree made) t → Does pure_tree (paid n (pure_tree made)) t u r
+pub searched : {A : Type 0} (look : Action A) (w : A → ℕ) (f : A → Action Tree) (n : ℕ) (s t u : State) (made : Code) (r : Result Code Stop)
+    → (look >>= (λ a. give (w a))) s ≡ ok n s → (look >>= f) s ≡ ok (pure_tree made) t → Does pure_tree (paid n (pure_tree made)) t u r
     → Does pure_tree (look >>= (λ a. paid_for (w a) (f a))) s u r
-searched look w f n s t v u made r same told first second =
-    does_from pure_tree (look >>= (λ a. paid_for (w a) (f a))) (look >>= (λ a. paid_for n (f a))) s s u r (count_is n (look s) w f v told)
-    (paid_behind look f n s t u made r (ap (look >>= f) (sym same) ∙ first) second)
+searched look w f n s t u made r told first second =
+    does_from pure_tree (look >>= (λ a. paid_for (w a) (f a))) (look >>= (λ a. paid_for n (f a))) s s u r (count_is n (look s) w f s told)
+    (paid_behind look f n s t u made r first second)
 
-pub search_stops : {A : Type 0} (look : Action A) (w : A → ℕ) (f : A → Action Tree) (n : ℕ) (s v : State) (stop : Stop) → v ≡ s
-    → (look >>= (λ a. give (w a))) s ≡ ok n v → Stops ((look >>= f) v) stop → Stops ((look >>= (λ a. paid_for (w a) (f a))) s) stop
-search_stops look w f n s v stop same told h =
-    stops_same _ _ stop (count_is n (look s) w f v told) (paid_stops look f n s stop (stops_same _ _ stop (ap (look >>= f) (sym same)) h))
+pub search_stops : {A : Type 0} (look : Action A) (w : A → ℕ) (f : A → Action Tree) (n : ℕ) (s : State) (stop : Stop)
+    → (look >>= (λ a. give (w a))) s ≡ ok n s → Stops ((look >>= f) s) stop → Stops ((look >>= (λ a. paid_for (w a) (f a))) s) stop
+search_stops look w f n s stop told h = stops_same _ _ stop (count_is n (look s) w f s told) (paid_stops look f n s stop h)
 
 pub count_stops : {A : Type 0} (look : Action A) (w : A → ℕ) (f : A → Action Tree) (s : State) (stop : Stop) → Stops ((look >>= (λ a. give (w a))) s) stop → Stops ((look >>= (λ a. paid_for (w a) (f a))) s) stop
 count_stops look w f s stop h = stops_untold (look s) w (λ a. paid_for (w a) (f a)) stop h

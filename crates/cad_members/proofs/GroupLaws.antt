@@ -3,7 +3,7 @@ use Rattle.std.proofs.Common.{◌≡◌, ◌-◌, ℕ, zero, suc, List, refl, ap
 use Rattle.cad_evaluation.specs.Builtins.{by_array, function, member, paid_for}
 use Rattle.cad_evaluation.specs.Callees.{Calls, Front}
 use Rattle.cad_members.specs.Code.Groups.{group, called}
-use Rattle.cad_members.specs.Code.Members.{by_group, by_called, call_member, spot_member}
+use Rattle.cad_members.specs.Code.Members.{by_group, by_called, call_member, read_by, spot_member}
 use Rattle.cad_members.specs.declared.groups.Called.{Called}
 use Rattle.cad_members.specs.declared.groups.Called.TheVariants as c
 use Rattle.cad_members.specs.declared.groups.Group.{Group}
@@ -198,20 +198,41 @@ function_by_call m.Log types r s = refl
 function_by_call m.GetAccount types r s = refl
 function_by_call m.MetaType types r s = refl
 
-pub paid_group : (front : Front) (calls : Calls) (b : Builtin) (types : List PureType) (spot : Spot) (r : Row) (x : Group) (s : State)
-    → ¬ (x ≡ g.Later) → ¬ (x ≡ g.Identity) → ¬ (x ≡ g.Search) → ¬ (x ≡ g.Container) → by_group front calls b types spot r x s ≡ paid_for 0 (spot_member x spot r) s
-paid_group front calls b types spot r g.Later s later identity search container = absurd (later refl)
-paid_group front calls b types spot r g.Identity s later identity search container = absurd (identity refl)
-paid_group front calls b types spot r g.Search s later identity search container = absurd (search refl)
-paid_group front calls b types spot r g.Container s later identity search container = absurd (container refl)
-paid_group front calls b types spot r (g.Text m) s later identity search container = refl
-paid_group front calls b types spot r g.Character s later identity search container = refl
-paid_group front calls b types spot r (g.Number m) s later identity search container = refl
-paid_group front calls b types spot r (g.Address m) s later identity search container = refl
-paid_group front calls b types spot r g.Identifier s later identity search container = refl
-paid_group front calls b types spot r g.OwnType s later identity search container = refl
-paid_group front calls b types spot r g.Instance s later identity search container = refl
-paid_group front calls b types spot r g.RawValue s later identity search container = refl
+pub read_group : (front : Front) (calls : Calls) (b : Builtin) (types : List PureType) (spot : Spot) (r : Row) (x : Group) (s : State)
+    → ¬ (x ≡ g.Service) → ¬ (x ≡ g.Search) → ¬ (x ≡ g.Container) → by_group front calls b types spot r x s ≡ read_by spot r x s
+read_group front calls b types spot r g.Nothing s service search container = refl
+read_group front calls b types spot r g.Service s service search container = absurd (service refl)
+read_group front calls b types spot r g.Identity s service search container = refl
+read_group front calls b types spot r g.Owner s service search container = refl
+read_group front calls b types spot r g.Account s service search container = refl
+read_group front calls b types spot r g.Search s service search container = absurd (search refl)
+read_group front calls b types spot r g.Container s service search container = absurd (container refl)
+read_group front calls b types spot r (g.Text m) s service search container = refl
+read_group front calls b types spot r g.Character s service search container = refl
+read_group front calls b types spot r (g.Number m) s service search container = refl
+read_group front calls b types spot r (g.Address m) s service search container = refl
+read_group front calls b types spot r g.Identifier s service search container = refl
+read_group front calls b types spot r g.OwnType s service search container = refl
+read_group front calls b types spot r g.Instance s service search container = refl
+read_group front calls b types spot r g.RawValue s service search container = refl
+
+pub paid_group : (spot : Spot) (r : Row) (x : Group) (s : State)
+    → ¬ (x ≡ g.Identity) → ¬ (x ≡ g.Owner) → ¬ (x ≡ g.Account) → read_by spot r x s ≡ paid_for 0 (spot_member x spot r) s
+paid_group spot r g.Nothing s identity owner account = refl
+paid_group spot r g.Service s identity owner account = refl
+paid_group spot r g.Identity s identity owner account = absurd (identity refl)
+paid_group spot r g.Owner s identity owner account = absurd (owner refl)
+paid_group spot r g.Account s identity owner account = absurd (account refl)
+paid_group spot r g.Search s identity owner account = refl
+paid_group spot r g.Container s identity owner account = refl
+paid_group spot r (g.Text m) s identity owner account = refl
+paid_group spot r g.Character s identity owner account = refl
+paid_group spot r (g.Number m) s identity owner account = refl
+paid_group spot r (g.Address m) s identity owner account = refl
+paid_group spot r g.Identifier s identity owner account = refl
+paid_group spot r g.OwnType s identity owner account = refl
+paid_group spot r g.Instance s identity owner account = refl
+paid_group spot r g.RawValue s identity owner account = refl
 
 pub paid_call : (types : List PureType) (r : Row) (x : Called) (s : State) → ¬ (x ≡ c.Panic) → ¬ (x ≡ c.Assert) → ¬ (x ≡ c.Log) → ¬ (x ≡ c.Account) → by_called types r x s ≡ paid_for 0 (call_member x types r) s
 paid_call types r c.Panic s panic assert log account = absurd (panic refl)

@@ -1,15 +1,14 @@
 -- What is done with what a receiver is now.
-use Rattle.std.proofs.Common.{◌≡◌, Bool, true, false, List, refl, sym, ap, ◌∙◌, subst}
+use Rattle.std.proofs.Common.{◌≡◌, Bool, true, false, refl, sym, ap, ◌∙◌}
 use Rattle.std.proofs.lemmas.Bool.{false≢true}
 use Rattle.std.specs.Prelude.{Result, Ok, Err}
 use Rattle.cad_outcomes.proofs.Steps.{stops_on, stops_same, then}
 use Rattle.cad_outcomes.specs.Outcomes.{Does, Stops}
 use Rattle.cad_outcomes.specs.declared.stop.Stop.{Stop}
 use Rattle.cad_outcomes.specs.declared.stop.Stop.TheVariants.{Failed, Limit, IllTyped, Memory}
-use Rattle.cad_state.specs.Views.{state_over, IsReady, FindsAndCarriesOut}
+use Rattle.cad_state.specs.Views.{state_over, FindsAndCarriesOut}
 use Rattle.cad_state.specs.declared.state.RunState.{RunState}
-use Rattle.cad_world.specs.Marks.{AreGivenOnce}
-use Rattle.cad_world.specs.State.{State, Account, Outcome, ok, failed, limit, ill, bind, Action, ◌>>=◌, ◌>>◌, done, give}
+use Rattle.cad_world.specs.State.{State, Outcome, ok, failed, limit, ill, bind, Action, ◌>>=◌, give}
 
 -- what comes to the same as another action in another state
 pub does_from : {A B : Type 0} (view : B → A) (p q : Action A) (s t u : State) (r : Result B Stop) → p s ≡ q t → Does view q t u r → Does view p s u r
@@ -35,16 +34,6 @@ stops_so {A = A} B r Limit h = ap (λ (o : Outcome A). fails {B = B} o) h
 stops_so {A = A} B r IllTyped h = ap (λ (o : Outcome A). fails {B = B} o) h
 stops_so B r Memory h = tt
 
--- what stops before anything is done with it stops whatever is done with it
-pub stops_early : {A B : Type 0} (r : Outcome A) (f : A → Action B) (stop : Stop) → Stops (bind r (λ _. done)) stop → Stops (bind r (λ a. f a)) stop
-stops_early (ok a s) f (Failed e) h = absurd (false≢true (sym (ap is_given h)))
-stops_early (ok a s) f Limit h = absurd (false≢true (sym (ap is_given h)))
-stops_early (ok a s) f IllTyped h = absurd (false≢true (sym (ap is_given h)))
-stops_early (ok a s) f Memory h = tt
-stops_early {A = A} (failed e) f stop h = stops_on (failed e) f stop (stops_so {A = Unit {0}} A (failed e) stop h)
-stops_early {A = A} limit f stop h = stops_on limit f stop (stops_so {A = Unit {0}} A limit stop h)
-stops_early {A = A} ill f stop h = stops_on ill f stop (stops_so {A = Unit {0}} A ill stop h)
-
 -- what stops before something of it is told
 pub stops_untold : {A B C : Type 0} (r : Outcome A) (w : A → C) (f : A → Action B) (stop : Stop) → Stops (bind r (λ a. give (w a))) stop → Stops (bind r (λ a. f a)) stop
 stops_untold (ok a s) w f (Failed e) h = absurd (false≢true (sym (ap is_given h)))
@@ -54,21 +43,6 @@ stops_untold (ok a s) w f Memory h = tt
 stops_untold {A = A} {C = C} (failed e) w f stop h = stops_on (failed e) f stop (stops_so {A = C} A (failed e) stop h)
 stops_untold {A = A} {C = C} limit w f stop h = stops_on limit f stop (stops_so {A = C} A limit stop h)
 stops_untold {A = A} {C = C} ill w f stop h = stops_on ill f stop (stops_so {A = C} A ill stop h)
-
--- ---- in a state that was settled
-
-pub settled_ready : (w : List Account) (x y : RunState) → state_over w y ≡ state_over w x → IsReady w x → IsReady w y
-settled_ready w x y e ready = record { unnamed = ready.unnamed; once = subst AreGivenOnce (sym e) ready.once }
-
--- what is carried out where the receiver was settled
-pub settled_then : {A B : Type 0} (view : B → A) (p : Action A) (x y z : RunState) (r : Result B Stop) → ((w : List Account) → state_over w y ≡ state_over w x)
-    → FindsAndCarriesOut view p y z r → FindsAndCarriesOut view p x z r
-settled_then view p x y z r same h w ready =
-    does_from view p p (state_over w x) (state_over w y) (state_over w z) r (ap p (sym (same w))) (h w (settled_ready w x y (same w) ready))
-
-pub settled_stops : {A B C : Type 0} (view : B → C) (look : Action A) (f : A → Action C) (x y z : RunState) (stop : Stop)
-    → ((w : List Account) → IsReady w x → Stops ((look >> done) (state_over w x)) stop) → FindsAndCarriesOut view (look >>= f) x z (Err stop)
-settled_stops view look f x y z stop h w ready = stops_early (look (state_over w x)) f stop (h w ready)
 
 -- what is done with what was looked at
 pub looked_then : {A B C D : Type 0} (seen : B → A) (view : D → C) (look : Action A) (f : A → Action C) (b : B) (x z : RunState) (r : Result D Stop)

@@ -17,8 +17,11 @@ use Rattle.cad_world.specs.State.{State, Action, ok, ill, guard, give}
 
 -- no part is asked
 pub leaf_same : (group : Group) (t : Tree) (r : Row) (s : State) → leaf_member group t r s ≡ leaf_member group (leaf_of t) r s
-leaf_same g.Later t r s = refl
+leaf_same g.Nothing t r s = refl
+leaf_same g.Service t r s = refl
 leaf_same g.Identity t r s = refl
+leaf_same g.Owner t r s = refl
+leaf_same g.Account t r s = refl
 leaf_same g.Search t r s = refl
 leaf_same g.Container t r s = refl
 leaf_same (g.Text m) t r s = refl
@@ -33,8 +36,11 @@ leaf_same g.Instance t r s = refl
 leaf_same g.RawValue t r s = refl
 
 pub leaf_group : (group : Group) (spot : Spot) (r : Row) (s : State) → ¬ (group ≡ g.OwnType) → ¬ (group ≡ g.Instance) → ¬ (group ≡ g.RawValue) → spot_member group spot r s ≡ leaf_member group spot.tree r s
-leaf_group g.Later spot r s x y z = refl
+leaf_group g.Nothing spot r s x y z = refl
+leaf_group g.Service spot r s x y z = refl
 leaf_group g.Identity spot r s x y z = refl
+leaf_group g.Owner spot r s x y z = refl
+leaf_group g.Account spot r s x y z = refl
 leaf_group g.Search spot r s x y z = refl
 leaf_group g.Container spot r s x y z = refl
 leaf_group (g.Text m) spot r s x y z = refl

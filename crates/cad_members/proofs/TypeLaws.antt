@@ -1,12 +1,12 @@
 -- What is told of the type of a receiver, by a copy of it without its parts.
-use Rattle.std.proofs.Common.{◌≡◌, ℕ, Bool, true, false, Option, Some, None, option_map, List, refl, sym, ap, ◌∙◌}
-use Rattle.std.proofs.lemmas.Bool.{false≢true}
+use Rattle.std.proofs.Common.{◌≡◌, ℕ, Option, Some, None, refl, ap, ◌∙◌}
 use Rattle.std.specs.Prelude.{Result, Ok, Err}
 use Rattle.cad_evaluation.specs.Arguments.{argument, with_argument}
-use Rattle.cad_evaluation.specs.Casts.{instance_told, spot_type, type_in_value, with_spot_type, with_type}
+use Rattle.cad_evaluation.specs.Casts.{instance_told, spot_type, target_in, type_in_value, with_spot_type, with_type}
 use Rattle.cad_evaluation.specs.Texts.{in_tree}
 use Rattle.cad_members.proofs.Looks.{does_from, stops_untold}
-use Rattle.cad_members.specs.Code.Members.{instance_by, instance_of, is_met, leaf_of, met_so, told_by, unless_met}
+use Rattle.cad_members.specs.Code.Members.{PureTold, instance_by, instance_of, met_so, named, told_by, told_if, told_of, with_told}
+use Rattle.cad_members.specs.declared.types.Told.{Told}
 use Rattle.cad_outcomes.proofs.Steps.{stops_on, stops_same}
 use Rattle.cad_outcomes.specs.Outcomes.{Does, Stops}
 use Rattle.cad_outcomes.specs.declared.stop.Stop.{Stop}
@@ -19,7 +19,7 @@ use Rattle.cad_syntax.specs.declared.types.Authorization.{Authorization}
 use Rattle.cad_world.specs.OwnTypes.{own_type}
 use Rattle.cad_world.specs.Receivers.{Spot}
 use Rattle.cad_world.specs.Rows.{Row, Tree}
-use Rattle.cad_world.specs.State.{State, Account, Outcome, ok, failed, limit, ill, bind, Action, ◌>>=◌, give, or_fail, with_some}
+use Rattle.cad_world.specs.State.{State, Outcome, ok, failed, limit, ill, bind, Action, ◌>>=◌, give, or_fail, with_some}
 
 -- ---- with the type of a value
 
@@ -38,64 +38,50 @@ typed_given t f own s u v r first second =
 pub typed_stops : (t : Tree) (f : PureType → Action Tree) (s : State) (why : Stop) → Stops (with_type t (λ own. give own) s) why → Stops (with_type t f s) why
 typed_stops t f s why h = stops_same _ _ why (typed_then t f s) (stops_on (with_type t (λ own. give own) s) f why h)
 
--- ---- what is no account, part of one or controller has the type of the node
+-- ---- what is told of a receiver tells its type
 
-type_so : (s : State) (l : Option ℕ) (a : Option Authorization) (t : Tree) → met_so l a ≡ false → spot_type s l a t ≡ own_type s t
-type_so s (Some l) a t e = refl
-type_so s None None t e = refl
-type_so s None (Some a) t e = absurd (false≢true (sym e))
+named_same : (o : Option PureType) (f : PureType → Action Tree) (s : State) → or_fail 113 o f s ≡ with_told (named o) f s
+named_same None f s = refl
+named_same (Some type) f s = refl
 
-pub told_so : (f : PureType → Action Tree) (spot : Spot) (s : State) → is_met spot ≡ false → with_spot_type spot f s ≡ with_type (leaf_of spot.tree) f s
-told_so f spot s e = ap (λ (o : Option PureType). or_fail 113 o f s) (type_so s spot.label spot.rights spot.tree e)
+type_so : (f : PureType → Action Tree) (l : Option ℕ) (a : Option Authorization) (t : Tree) (s : State) → or_fail 113 (spot_type s l a t) f s ≡ with_told (told_if (met_so l a) t) f s
+type_so f (Some l) a t s = refl
+type_so f None None t s = refl
+type_so f None (Some a) t s = named_same (target_in t.shape) f s
 
-pub instance_so : (r : Row) (spot : Spot) (s : State) → is_met spot ≡ false → with_argument r (instance_told spot) s ≡ instance_by r (leaf_of spot.tree) s
-instance_so r spot s e = go (argument 0 r)
+pub told_so : (f : PureType → Action Tree) (spot : Spot) (s : State) → with_spot_type spot f s ≡ with_told (told_by spot) f s
+told_so f spot s = type_so f spot.label spot.rights spot.tree s
+
+pub instance_so : (r : Row) (spot : Spot) (s : State) → with_argument r (instance_told spot) s ≡ instance_by r (told_by spot) s
+instance_so r spot s = go (argument 0 r)
   where
-    wanted_so : (o : Option PureType) → with_some o (λ type. with_spot_type spot (instance_of type)) s ≡ with_some o (λ type. with_type (leaf_of spot.tree) (instance_of type)) s
+    wanted_so : (o : Option PureType) → with_some o (λ type. with_spot_type spot (instance_of type)) s ≡ with_some o (λ type. with_told (told_by spot) (instance_of type)) s
     wanted_so None = refl
-    wanted_so (Some type) = told_so (instance_of type) spot s e
+    wanted_so (Some type) = told_so (instance_of type) spot s
 
-    go : (o : Option Tree) → with_some o (instance_told spot) s ≡ with_some o (λ given. with_some (in_tree type_in_value given) (λ type. with_type (leaf_of spot.tree) (instance_of type))) s
+    go : (o : Option Tree) → with_some o (instance_told spot) s ≡ with_some o (λ given. with_some (in_tree type_in_value given) (λ type. with_told (told_by spot) (instance_of type))) s
     go None = refl
     go (Some given) = wanted_so (in_tree type_in_value given)
 
--- ---- what was copied
+-- ---- what was told first
 
-abbrev tree_or : Tree → Outcome (Option Tree) → Tree
-tree_or t (ok (Some u) s) = u
-tree_or t o = t
+first_told : (f : Spot → Action Tree) (g : PureTold → Action Tree) (same : (spot : Spot) (s : State) → f spot s ≡ g (told_by spot) s)
+    (o : Outcome Spot) → bind o (λ spot. f spot) ≡ bind (bind o (λ spot. give (told_by spot))) (λ t. g t)
+first_told f g same (ok spot s) = same spot s
+first_told f g same (failed n) = refl
+first_told f g same limit = refl
+first_told f g same ill = refl
 
-abbrev state_or : State → Outcome (Option Tree) → State
-state_or s (ok o u) = u
-state_or s o = s
-
-abbrev holds : Outcome (Option Tree) → Bool
-holds (ok (Some u) s) = true
-holds o = false
-
-copied_so : (f : Spot → Action Tree) (g : Tree → Action Tree) (same : (spot : Spot) (s : State) → is_met spot ≡ false → f spot s ≡ g (leaf_of spot.tree) s)
-    (o : Outcome Spot) (t : Tree) (s : State) → bind o (λ spot. give (told_by spot)) ≡ ok (Some t) s → bind o (λ spot. f spot) ≡ g t s
-copied_so f g same (failed n) t s e = absurd (false≢true (ap holds e))
-copied_so f g same limit t s e = absurd (false≢true (ap holds e))
-copied_so f g same ill t s e = absurd (false≢true (ap holds e))
-copied_so f g same (ok spot u) t s e = here (is_met spot) refl e
-  where
-    here : (b : Bool) → is_met spot ≡ b → ok (unless_met b (leaf_of spot.tree)) u ≡ ok (Some t) s → f spot u ≡ g t s
-    here true m q = absurd (false≢true (ap holds q))
-    here false m q = same spot u m ∙ (ap (λ (x : Tree). g x u) (ap (tree_or t) q) ∙ ap (g t) (ap (state_or u) q))
-
--- the receiver was copied; the copy tells what is left
-pub told_then : (look : Action Spot) (f : Spot → Action Tree) (g : Tree → Action Tree) → ((spot : Spot) (s : State) → is_met spot ≡ false → f spot s ≡ g (leaf_of spot.tree) s)
-    → (o : Option Code) (t : Code) (x z : RunState) (r : Result Code Stop) → o ≡ Some t
-    → FindsAndCarriesOut (option_map pure_tree) (look >>= (λ spot. give (told_by spot))) x x (Ok o) → FindsAndCarriesOut pure_tree (g (pure_tree t)) x z r
+-- what was told of the receiver tells what is left
+pub told_then : (look : Action Spot) (f : Spot → Action Tree) (g : PureTold → Action Tree) → ((spot : Spot) (s : State) → f spot s ≡ g (told_by spot) s)
+    → (t : Told) (x z : RunState) (r : Result Code Stop)
+    → FindsAndCarriesOut told_of (look >>= (λ spot. give (told_by spot))) x x (Ok t) → FindsAndCarriesOut pure_tree (g (told_of t)) x z r
     → FindsAndCarriesOut pure_tree (look >>= f) x z r
-told_then look f g same o t x z r e first second w ready =
-    let there : bind (look (state_over w x)) (λ spot. give (told_by spot)) ≡ ok (Some (pure_tree t)) (state_over w x) =
-    first w ready ∙ ap (λ (p : Option Code). ok (option_map pure_tree p) (state_over w x)) e in
-    does_from pure_tree (look >>= f) (g (pure_tree t)) (state_over w x) (state_over w x) (state_over w z) r
-    (copied_so f g same (look (state_over w x)) (pure_tree t) (state_over w x) there) (second w ready)
+told_then look f g same t x z r first second w ready =
+    does_from pure_tree (look >>= f) (g (told_of t)) (state_over w x) (state_over w x) (state_over w z) r
+    (first_told f g same (look (state_over w x)) ∙ ap (λ (o : Outcome PureTold). bind o (λ u. g u)) (first w ready)) (second w ready)
 
 -- it couldn't be looked at
 pub told_stops : (look : Action Spot) (f : Spot → Action Tree) (x z : RunState) (stop : Stop)
-    → FindsAndCarriesOut (option_map pure_tree) (look >>= (λ spot. give (told_by spot))) x x (Err stop) → FindsAndCarriesOut pure_tree (look >>= f) x z (Err stop)
+    → FindsAndCarriesOut {B = Told} told_of (look >>= (λ spot. give (told_by spot))) x x (Err stop) → FindsAndCarriesOut pure_tree (look >>= f) x z (Err stop)
 told_stops look f x z stop first w ready = stops_untold (look (state_over w x)) told_by f stop (first w ready)

@@ -1,6 +1,5 @@
 // Built-in functions, and members of types.
 ghost use Rattle.std.specs.Prelude.{◌≡◌, map, option_map};
-ghost use Rattle.cad_evaluation.specs.Accounts as accounts;
 ghost use Rattle.cad_evaluation.specs.Arguments.{with_argument};
 ghost use Rattle.cad_evaluation.specs.Builtins as spec;
 ghost use Rattle.cad_evaluation.specs.Containers as containers;
@@ -12,12 +11,12 @@ ghost use Rattle.cad_rows.specs.Views.{pure_row, pure_tree};
 ghost use Rattle.cad_state.specs.Views.{CarriesOut};
 ghost use Rattle.cad_syntax.specs.Types.{pure_type};
 ghost use Rattle.cad_types.specs.declared.builtin.Builtin.TheVariants as builtins;
-ghost use Rattle.cad_values.specs.Values.{pure_value};
 ghost use Rattle.cad_world.specs.State.{give};
 
 use crate::arguments::argument;
 use crate::charges::pay;
 use crate::groups::{Called, called_of};
+use crate::homes::any_account;
 use cad_making::case_from;
 use cad_operators::{
     address_in, converted, greatest, least, number_read, plain_tree, text_encoded, text_from_bytes,
@@ -26,9 +25,9 @@ use cad_operators::{
 use cad_outcomes::{RunError, Stop};
 use cad_rows::{Place, Tree, discard_row};
 use cad_state::RunState;
-use cad_syntax::{Address, Authorization, Basic, CadType, Kind, TypeId};
+use cad_syntax::{CadType, Kind, TypeId};
 use cad_types::Builtin;
-use cad_values::{Reference, Target, Value};
+use cad_values::Value;
 use std::alloc::Global;
 
 /// The digits of the bytes that the argument is.
@@ -167,20 +166,6 @@ fn asserted(alloc: Global, row: &[Place]) -> Result<Tree, Stop>
         },
         None => Err(Stop::IllTyped),
     }
-}
-
-/// A reference without rights to the account with an address.
-fn any_account(alloc: Global, address: Address) -> Tree
-    ensures { pure_tree result ≡ accounts.any_account address }
-{
-    plain_tree(
-        alloc,
-        Value::Reference(Reference {
-            authorization: Authorization::Unauthorized,
-            target: CadType::Basic(Basic::Account),
-            to: Target::Account(address),
-        }),
-    )
 }
 
 /// A reference without rights to the account with the address that the argument is.

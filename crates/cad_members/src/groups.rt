@@ -38,10 +38,16 @@ pub(crate) enum AddressMember {
 /// A built-in member of a value, by what it is used on.
 #[derive(Clone, Copy, Debug, PartialEq, Eq)]
 pub(crate) enum Group {
-    /// What wants accounts, and what is no member of a value.
-    Later,
+    /// No member of a value.
+    Nothing,
+    /// A member of accounts, storage, capabilities or controllers.
+    Service,
     /// `uuid` of a resource.
     Identity,
+    /// `owner` of a resource.
+    Owner,
+    /// `account` of a contract.
+    Account,
     /// An array in which an element is searched.
     Search,
     /// An array or a dictionary.
@@ -107,6 +113,71 @@ fn is_container(builtin: Builtin) -> bool
     )
 }
 
+/// Whether a built-in member is one of accounts, their storage or their contracts.
+fn is_of_account(builtin: Builtin) -> bool
+    ensures { result ≡ spec.is_of_account builtin }
+{
+    matches!(
+        builtin,
+        Builtin::AccountAddress
+            | Builtin::AccountStorage
+            | Builtin::AccountContracts
+            | Builtin::AccountCapabilities
+            | Builtin::StorageSave
+            | Builtin::StorageLoad
+            | Builtin::StorageCopy
+            | Builtin::StorageBorrow
+            | Builtin::StorageCheck
+            | Builtin::StorageType
+            | Builtin::ContractsAdd
+            | Builtin::ContractsUpdate
+    )
+}
+
+/// Whether a built-in member is one of capabilities.
+fn is_of_capability(builtin: Builtin) -> bool
+    ensures { result ≡ spec.is_of_capability builtin }
+{
+    matches!(
+        builtin,
+        Builtin::CapabilitiesGet
+            | Builtin::CapabilitiesBorrow
+            | Builtin::CapabilitiesExists
+            | Builtin::CapabilitiesPublish
+            | Builtin::CapabilitiesUnpublish
+            | Builtin::CapabilitiesStorage
+            | Builtin::StorageCapabilitiesIssue
+            | Builtin::StorageCapabilitiesGetController
+            | Builtin::CapabilityId
+            | Builtin::CapabilityAddress
+            | Builtin::CapabilityBorrow
+            | Builtin::CapabilityCheck
+    )
+}
+
+/// Whether a built-in member is one of controllers of capabilities.
+fn is_of_controller(builtin: Builtin) -> bool
+    ensures { result ≡ spec.is_of_controller builtin }
+{
+    matches!(
+        builtin,
+        Builtin::ControllerCapabilityId
+            | Builtin::ControllerBorrowType
+            | Builtin::ControllerTag
+            | Builtin::ControllerSetTag
+            | Builtin::ControllerTarget
+            | Builtin::ControllerRetarget
+            | Builtin::ControllerDelete
+    )
+}
+
+/// Whether a built-in member is one of accounts, storage, capabilities or controllers.
+fn is_service(builtin: Builtin) -> bool
+    ensures { result ≡ spec.is_service builtin }
+{
+    is_of_account(builtin) || is_of_capability(builtin) || is_of_controller(builtin)
+}
+
 /// What a built-in member of anything else is used on.
 fn leaf_group(builtin: Builtin) -> Group
     ensures { result ≡ spec.leaf_group builtin }
@@ -132,7 +203,9 @@ fn leaf_group(builtin: Builtin) -> Group
         Builtin::TypeIdentifier => Group::Identifier,
         Builtin::EnumRawValue => Group::RawValue,
         Builtin::ResourceUuid => Group::Identity,
-        _ => Group::Later,
+        Builtin::ResourceOwner => Group::Owner,
+        Builtin::ContractAccount => Group::Account,
+        _ => Group::Nothing,
     }
 }
 
@@ -142,6 +215,8 @@ pub(crate) fn group_of(builtin: Builtin) -> Group
 {
     if is_container(builtin) {
         Group::Container
+    } else if is_service(builtin) {
+        Group::Service
     } else {
         leaf_group(builtin)
     }

@@ -5,6 +5,7 @@ mod arguments;
 mod charges;
 mod functions;
 mod groups;
+mod homes;
 mod leaves;
 mod members;
 mod operators;
@@ -16,3 +17,7 @@ pub use functions::function;
 pub use members::member;
 pub use operators::{binary, compared, unary};
 pub use optionals::{coalesce, force, open, round, tell_nil, wrap};
+
+// What the crates above use of the ones below.
+pub use cad_containers::{Pair, array, dictionary, discard_pairs, elements};
+pub use cad_services::contracts_account;

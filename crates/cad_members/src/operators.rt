@@ -1,11 +1,12 @@
 // Operators on values in hand.
 ghost use Rattle.std.specs.Prelude.{◌≡◌, ◌+◌, ◌-◌, ◌&&◌, IfOk};
+ghost use Rattle.cad_evaluation.specs.Casts as casts;
 ghost use Rattle.cad_evaluation.specs.Operators as spec;
 ghost use Rattle.cad_evaluation.specs.Reading as reading;
 ghost use Rattle.cad_members.specs.Code.Operators as code;
 ghost use Rattle.cad_operators.specs.Answers as answers;
 ghost use Rattle.cad_outcomes.specs.Outcomes.{Gives, no_value};
-ghost use Rattle.cad_receivers.specs.Views.{spot_of};
+ghost use Rattle.cad_receivers.specs.Views.{at_spot, settled_of, spot_of};
 ghost use Rattle.cad_rows.specs.Views.{pure_shape, pure_tree};
 ghost use Rattle.cad_state.specs.Views.{CarriesOut, FindsAndCarriesOut};
 ghost use Rattle.cad_world.specs.State.{spend};
@@ -19,7 +20,7 @@ use cad_grammar::{BinaryOperator, UnaryOperator};
 use cad_operators::laws::answers_are_charged;
 use cad_operators::{denied, is_comparison, negated};
 use cad_outcomes::{RunError, Stop};
-use cad_receivers::{Spot, deref, settle_reference};
+use cad_receivers::{Settled, Spot, look, settle_reference};
 use cad_rows::{Shape, Tree, discard_tree, owns, tree_height};
 use cad_state::RunState;
 use std::alloc::{AllocError, Global};
@@ -40,11 +41,11 @@ fn copied_spot(alloc: Global, spot: Spot<'_>) -> Result<Tree, Stop>
     }
 }
 
-/// A copy of what a reference leads to, which has been settled.
-fn copied_here(state: &RunState, shape: &Shape) -> Result<Tree, Stop>
-    ensures { FindsAndCarriesOut pure_tree (code.dereferenced (pure_shape shape.now)) state.now state.now result }
+/// A copy of what a reference leads to that was settled.
+fn copied_here(state: &RunState, receiver: Settled<'_>) -> Result<Tree, Stop>
+    ensures { FindsAndCarriesOut pure_tree (at_spot (settled_of receiver.entry) casts.dereferenced) state.now state.now result }
 {
-    match deref(state, shape) {
+    match look(state, receiver) {
         Ok(spot) => copied_spot(*state.making.allocator(), spot),
         Err(stop) => Err(stop),
     }
@@ -55,7 +56,7 @@ fn referred(state: &mut RunState, shape: &Shape) -> Result<Tree, Stop>
     ensures { FindsAndCarriesOut pure_tree (code.dereferenced (pure_shape shape.now)) state.old state.new result }
 {
     match settle_reference(state, shape) {
-        Ok(()) => copied_here(state, shape),
+        Ok(settled) => copied_here(state, settled),
         Err(stop) => Err(stop),
     }
 }

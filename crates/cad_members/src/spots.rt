@@ -1,14 +1,13 @@
 // Members of what a receiver is now.
-ghost use Rattle.std.specs.Prelude.{◌≡◌, List, IfOk};
+ghost use Rattle.std.specs.Prelude.{◌≡◌, IfOk};
 ghost use Rattle.cad_evaluation.specs.Builtins as builtins;
 ghost use Rattle.cad_evaluation.specs.Reading as reading;
 ghost use Rattle.cad_members.specs.Code.Members as spec;
 ghost use Rattle.cad_outcomes.specs.Outcomes.{Gives};
-ghost use Rattle.cad_receivers.specs.Views.{at_spot, receiver_of, spot_of};
+ghost use Rattle.cad_receivers.specs.Views.{at_spot, settled_of, spot_of};
 ghost use Rattle.cad_rows.specs.Views.{pure_row, pure_tree};
-ghost use Rattle.cad_state.specs.Views.{FindsAndCarriesOut, state_over};
+ghost use Rattle.cad_state.specs.Views.{FindsAndCarriesOut};
 ghost use Rattle.cad_world.specs.Rows.{bare_tree};
-ghost use Rattle.cad_world.specs.State.{Account};
 
 use crate::arguments::argument;
 use crate::groups::Group;
@@ -16,7 +15,7 @@ use crate::leaves::leaf;
 use crate::types::{instance_at, type_at};
 use cad_access::composite_in;
 use cad_outcomes::Stop;
-use cad_receivers::{Receiver, Spot, look, settle_receiver};
+use cad_receivers::{Settled, Spot, look};
 use cad_rows::{
     Place, Tree, copy_row, copy_shape, copy_tree, discard_shape, discard_tree, owns, row_weight,
 };
@@ -103,14 +102,14 @@ fn spot_member(alloc: Global, group: Group, spot: Spot<'_>, row: &[Place]) -> Re
     }
 }
 
-/// A member of what a receiver is now, which has been settled, that tells nothing of its type.
+/// A member of what a receiver is now that was settled, that tells nothing of its type.
 fn member_here(
     state: &RunState,
     group: Group,
-    receiver: &Receiver,
+    receiver: Settled<'_>,
     row: &[Place],
 ) -> Result<Tree, Stop>
-    ensures { ¬ (group ≡ Group.OwnType) → ¬ (group ≡ Group.Instance) → FindsAndCarriesOut pure_tree (at_spot (receiver_of receiver.now) (λ spot. spec.spot_member group spot (pure_row row.now))) state.now state.now result }
+    ensures { ¬ (group ≡ Group.OwnType) → ¬ (group ≡ Group.Instance) → FindsAndCarriesOut pure_tree (at_spot (settled_of receiver.entry) (λ spot. spec.spot_member group spot (pure_row row.now))) state.now state.now result }
 {
     match look(state, receiver) {
         Ok(spot) => spot_member(*state.making.allocator(), group, spot, row),
@@ -118,44 +117,19 @@ fn member_here(
     }
 }
 
-/// A member of what a receiver is now, which has been settled. Nothing is changed.
-fn read_settled(
+/// A member of what a receiver is now that was settled, without its charge. Nothing is changed.
+pub(crate) fn read_member(
     state: &mut RunState,
     group: Group,
-    receiver: &Receiver,
+    receiver: Settled<'_>,
     row: &[Place],
 ) -> Result<Tree, Stop>
-    ensures { FindsAndCarriesOut pure_tree (at_spot (receiver_of receiver.now) (λ spot. spec.spot_member group spot (pure_row row.now))) state.old state.new result }
+    ensures { FindsAndCarriesOut pure_tree (at_spot (settled_of receiver.entry) (λ spot. spec.spot_member group spot (pure_row row.now))) state.old state.new result }
 {
     match group {
         Group::OwnType => type_at(state, receiver),
         Group::Instance => instance_at(state, receiver, row),
         _ => member_here(state, group, receiver, row),
-    }
-}
-
-/// A member of what a receiver is now, without its charge. Nothing is changed.
-pub(crate) fn read_member(
-    state: &mut RunState,
-    group: Group,
-    receiver: &Receiver,
-    row: &[Place],
-) -> Result<Tree, Stop>
-    ensures { FindsAndCarriesOut pure_tree (at_spot (receiver_of receiver.now) (λ spot. spec.spot_member group spot (pure_row row.now))) state.old state.new result }
-{
-    match settle_receiver(state, receiver) {
-        Ok(()) => read_settled(state, group, receiver, row),
-        Err(stop) => Err(stop),
-    }
-}
-
-/// How much a search through what a receiver is now costs beside its result. It has been settled.
-fn cost_here(state: &RunState, receiver: &Receiver) -> Result<u64, Stop>
-    ensures { FindsAndCarriesOut (λ n. n) (at_spot (receiver_of receiver.now) spec.search_cost) state.now state.now result }
-{
-    match look(state, receiver) {
-        Ok(spot) => cost_of(spot),
-        Err(stop) => Err(stop),
     }
 }
 
@@ -171,13 +145,12 @@ fn cost_of(spot: Spot<'_>) -> Result<u64, Stop>
     }
 }
 
-/// How much a search through what a receiver is now costs beside its result. Nothing is changed.
-pub(crate) fn search_cost(state: &mut RunState, receiver: &Receiver) -> Result<u64, Stop>
-    ensures action { FindsAndCarriesOut (λ n. n) (at_spot (receiver_of receiver.now) spec.search_cost) state.old state.new result }
-    ensures same { (accounts : List Account) → state_over accounts state.new ≡ state_over accounts state.old }
+/// How much a search through what a receiver is now that was settled costs beside its result.
+pub(crate) fn search_cost(state: &RunState, receiver: Settled<'_>) -> Result<u64, Stop>
+    ensures { FindsAndCarriesOut (λ n. n) (at_spot (settled_of receiver.entry) spec.search_cost) state.now state.now result }
 {
-    match settle_receiver(state, receiver) {
-        Ok(()) => cost_here(state, receiver),
+    match look(state, receiver) {
+        Ok(spot) => cost_of(spot),
         Err(stop) => Err(stop),
     }
 }

@@ -1,15 +1,19 @@
 -- One row of a state is written.
 use Rattle.std.proofs.Common.{◌≡◌, ℕ, zero, suc, ◌<◌, ◌≤◌, List, [], ◌∷◌, map, Some, None, refl, sym, ap, ◌∙◌, arith, length, get_or}
-use Rattle.std.specs.Prelude.{slice_set}
+use Rattle.std.specs.Prelude.{slice_get, slice_set, option_map}
+use Rattle.std.specs.declared.alloc.Global.{Global}
+use Rattle.std.specs.declared.vec.Vec.{Vec}
 use Rattle.cad_nodes.specs.Exchanges.{IsExchanged}
 use Rattle.cad_nodes.specs.declared.edit.OpenNode.{OpenNode}
 use Rattle.cad_rows.specs.Exchanges.{exchanged, shape_of, parts_of}
 use Rattle.cad_rows.specs.Views.{pure_row, pure_shape}
 use Rattle.cad_rows.specs.Ways.{node_at}
 use Rattle.cad_rows.specs.declared.tree.Place.{Place}
-use Rattle.cad_state.specs.Views.{state_over, frame_of, contract_of}
-use Rattle.cad_state.specs.Ways.{row_at, reached, at_index, with_row}
+use Rattle.cad_state.specs.Views.{state_over, account_of, accounts_with, held, frame_of, contract_of}
+use Rattle.cad_state.specs.Ways.{row_at, reached, at_index, in_stored, with_row}
 use Rattle.cad_state.specs.declared.hints.Root.{Root}
+use Rattle.cad_state.specs.declared.hints.Root.TheVariants as root
+use Rattle.cad_state.specs.declared.state.Account.{Account as AccountCode}
 use Rattle.cad_state.specs.declared.state.Call.{Call}
 use Rattle.cad_state.specs.declared.state.Contract as c
 use Rattle.cad_state.specs.declared.state.RunState.{RunState}
@@ -25,6 +29,17 @@ pub frames_kept : (h : Frame → Frame) (cs : List Call) (i : ℕ) → length cs
 frames_kept h [] i outside = refl
 frames_kept h (d ∷ cs) zero outside = absurd (omega (arith, outside))
 frames_kept h (d ∷ cs) (suc i) outside = ap (λ fs. frame_of d ∷ fs) (frames_kept h cs i (omega (arith, outside)))
+
+pub stored_written : (h : Account → Account) (cs : List AccountCode) (i : ℕ) (old new : AccountCode) → i < length cs → old ≡ get_or cs i old → account_of new ≡ h (account_of old)
+    → map account_of (slice_set cs i new) ≡ at_index i h (map account_of cs)
+stored_written h [] i old new inside is e = absurd (omega (arith, inside))
+stored_written h (d ∷ cs) zero old new inside is e = ap (λ f. f ∷ map account_of cs) (e ∙ ap (λ y. h (account_of y)) is)
+stored_written h (d ∷ cs) (suc i) old new inside is e = ap (λ fs. account_of d ∷ fs) (stored_written h cs i old new (omega (arith, inside)) is e)
+
+pub stored_kept : (h : Account → Account) (cs : List AccountCode) (i : ℕ) → length cs ≤ i → map account_of cs ≡ at_index i h (map account_of cs)
+stored_kept h [] i outside = refl
+stored_kept h (d ∷ cs) zero outside = absurd (omega (arith, outside))
+stored_kept h (d ∷ cs) (suc i) outside = ap (λ fs. account_of d ∷ fs) (stored_kept h cs i (omega (arith, outside)))
 
 pub values_written : (h : Contract → Contract) (cs : List c.Contract) (i : ℕ) (old new : c.Contract) → i < length cs → old ≡ get_or cs i old → contract_of new ≡ h (contract_of old)
     → map contract_of (slice_set cs i new) ≡ at_index i h (map contract_of cs)
@@ -56,3 +71,31 @@ missed at_root ds x a nowhere state = record {
   shape = ap (λ o. shape_of (pure_shape a.shape) (reached ds o)) (sym nowhere);
   parts = ap (λ o. parts_of (pure_row a.parts.items) (reached ds o)) (sym nowhere);
 }
+
+-- the same in what an account stores that the run has
+pub stored_swapped : (i : ℕ) (ds : List ℕ) (x : RunState) (old new : Vec AccountCode Global) (ps : List Place) (a b : OpenNode) → x.accounts ≡ Some old
+    → option_map (λ (y : AccountCode). y.stored.items) (slice_get old.items i) ≡ Some ps
+    → map account_of new.items ≡ at_index i (in_stored (exchanged ds (pure_shape a.shape) (pure_row a.parts.items))) (map account_of old.items)
+    → pure_shape b.shape ≡ shape_of (pure_shape a.shape) (node_at ds (pure_row ps)) → pure_row b.parts.items ≡ parts_of (pure_row a.parts.items) (node_at ds (pure_row ps))
+    → IsExchanged (root.Stored i) ds x (record x { accounts = Some new }) a b
+unfolding accounts_with
+stored_swapped i ds x old new ps a b is there written shape parts =
+    let g = exchanged ds (pure_shape a.shape) (pure_row a.parts.items) in
+    swapped (root.Stored i) ds x (record x { accounts = Some new }) ps a b
+    (ap (λ o. option_map (λ (y : AccountCode). y.stored.items) (slice_get (held o) i)) is ∙ there)
+    (λ w. ap (λ all. record (state_over w x) { accounts = all }) (written ∙ ap (accounts_with (at_index i (in_stored g)) w) (sym is)))
+    shape parts
+
+pub stored_missed : (i : ℕ) (ds : List ℕ) (x : RunState) (old : Vec AccountCode Global) (a : OpenNode) → x.accounts ≡ Some old
+    → option_map (λ (y : AccountCode). y.stored.items) (slice_get old.items i) ≡ None
+    → map account_of old.items ≡ at_index i (in_stored (exchanged ds (pure_shape a.shape) (pure_row a.parts.items))) (map account_of old.items)
+    → IsExchanged (root.Stored i) ds x (record x { accounts = Some old }) a a
+unfolding accounts_with
+stored_missed i ds x old a is nowhere kept =
+    let g = exchanged ds (pure_shape a.shape) (pure_row a.parts.items) in
+    let there : row_at (root.Stored i) x ≡ None = ap (λ o. option_map (λ (y : AccountCode). y.stored.items) (slice_get (held o) i)) is ∙ nowhere in
+    record {
+      state = λ w. ap (λ all. record (state_over w x) { accounts = all }) (kept ∙ ap (accounts_with (at_index i (in_stored g)) w) (sym is));
+      shape = ap (λ o. shape_of (pure_shape a.shape) (reached ds o)) (sym there);
+      parts = ap (λ o. parts_of (pure_row a.parts.items) (reached ds o)) (sym there);
+    }

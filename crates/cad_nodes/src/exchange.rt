@@ -2,7 +2,6 @@
 ghost use Rattle.std.specs.Prelude.{◌≡◌, List, IfOk, IfSome, IsTrue, option_map};
 ghost use Rattle.cad_nodes.specs.Edits.{changing};
 ghost use Rattle.cad_nodes.specs.Exchanges.{IsExchanged, ChangesAt};
-ghost use Rattle.cad_rows.specs.Ways.{pure_node};
 ghost use Rattle.cad_rows.specs.Views.{pure_tree};
 ghost use Rattle.cad_state.specs.Views.{state_over, IsReady};
 ghost use Rattle.cad_state.specs.Ways as ways;
@@ -11,9 +10,7 @@ ghost use Rattle.cad_world.specs.State.{Account, ok};
 
 use crate::edit::{Edit, OpenNode, discard_edit, discard_left, edit_node};
 use cad_rows::laws::a_node_with_the_label_is_the_node;
-use cad_rows::{
-    Node, Place, Shape, Tree, discard_row, discard_shape, holds_label, node_at, swap_node,
-};
+use cad_rows::{Shape, Tree, discard_row, discard_shape, holds_label, swap_node};
 use cad_state::{Root, RunState, Way};
 use cad_values::Value;
 use std::alloc::{AllocError, Global};
@@ -21,46 +18,11 @@ use std::mem::replace;
 
 // ---- where a way leads
 
-/// The places of a row.
-fn row_at(state: &RunState, root: Root) -> Option<&[Place]>
-    ensures { option_map (λ r. r.now) result ≡ ways.row_at root state.now }
-{
-    match root {
-        Root::Variables(i) => match state.calls.get(i) {
-            Some(call) => Some(call.variables.as_slice()),
-            None => None,
-        },
-        Root::Before(i) => match state.calls.get(i) {
-            Some(call) => Some(call.before.as_slice()),
-            None => None,
-        },
-        Root::Result(i) => match state.calls.get(i) {
-            Some(call) => Some(call.result.as_slice()),
-            None => None,
-        },
-        Root::Making => Some(state.making.as_slice()),
-        Root::Contract(i) => match state.contracts.get(i) {
-            Some(contract) => Some(contract.value.as_slice()),
-            None => None,
-        },
-    }
-}
-
-/// The node at the end of a way.
-fn reach<'a>(state: &'a RunState, way: &Way) -> Option<Node<'a>>
-    ensures { option_map pure_node result ≡ ways.reached way.now.down.items (ways.row_at way.now.root state.now) }
-{
-    match row_at(state, way.root) {
-        Some(row) => node_at(row, way.down.as_slice()),
-        None => None,
-    }
-}
-
 /// Whether a way leads to a node with a label.
 fn leads(state: &RunState, way: &Way, label: u64) -> bool
     ensures { result ≡ ways.is_there (ways.if_labelled label (ways.reached way.now.down.items (ways.row_at way.now.root state.now))) }
 {
-    match reach(state, way) {
+    match state.reach(way) {
         Some(node) => holds_label(node.labels, label),
         None => false,
     }
@@ -143,6 +105,18 @@ fn swap_in_result(state: &mut RunState, i: usize, down: &[usize], node: &mut Ope
     }
 }
 
+/// The same in what an account stores.
+#[tactic(auto, unfolding(cad_state::specs::Views::accounts_with))]
+fn swap_in_stored(state: &mut RunState, i: usize, down: &[usize], node: &mut OpenNode)
+    ensures { IsExchanged (root.Stored i) down.now state.old state.new node.old node.new }
+{
+    if let Some(all) = &mut state.accounts {
+        if i < all.len() {
+            swap_node(&mut all[i].stored, down, &mut node.shape, &mut node.parts);
+        }
+    }
+}
+
 /// The same in the value of a contract.
 fn swap_in_value(state: &mut RunState, i: usize, down: &[usize], node: &mut OpenNode)
     ensures { IsExchanged (root.Contract i) down.now state.old state.new node.old node.new }
@@ -174,6 +148,7 @@ fn swap_at(state: &mut RunState, way: &Way, node: &mut OpenNode)
         Root::Before(i) => swap_in_before(state, i, down, node),
         Root::Result(i) => swap_in_result(state, i, down, node),
         Root::Making => swap_in_making(state, down, node),
+        Root::Stored(i) => swap_in_stored(state, i, down, node),
         Root::Contract(i) => swap_in_value(state, i, down, node),
     }
 }

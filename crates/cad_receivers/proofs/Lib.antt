@@ -1,4 +1,7 @@
+pub mod CastLaws
 pub mod Handing
 pub mod Passing
+pub mod SettledLaws
 pub mod Settling
-pub mod Spots
+pub mod StoredLaws
+pub mod Targets

@@ -2,13 +2,18 @@
 use Rattle.std.proofs.Common.{◌≡◌, Bool, true, false, ◌&&◌, List, Option, Some, refl, sym, subst, ap, ◌∙◌}
 use Rattle.std.proofs.lemmas.Bool.{false≢true}
 use Rattle.std.specs.Prelude.{Result, Ok, Err}
+use Rattle.cad_labels.specs.Laws.{AnyOne}
 use Rattle.cad_outcomes.proofs.Steps.{stops_on, stops_same, then}
-use Rattle.cad_outcomes.specs.Outcomes.{Stops, Does, no_value}
+use Rattle.cad_outcomes.specs.Outcomes.{Stops, Does}
 use Rattle.cad_outcomes.specs.declared.stop.Stop.{Stop}
 use Rattle.cad_outcomes.specs.declared.stop.Stop.TheVariants.{Failed, Limit, IllTyped, Memory}
 use Rattle.cad_receivers.specs.Code.Readings.{Leaves, FindsAndLeaves}
-use Rattle.cad_receivers.specs.Views.{spot_of, found, at_spot}
+use Rattle.cad_receivers.proofs.SettledLaws.{settles_to_look, settled_keeps}
+use Rattle.cad_receivers.specs.Settled.{settled}
+use Rattle.cad_receivers.specs.Views.{settled_of, spot_of, at_spot}
+use Rattle.cad_receivers.specs.declared.receivers.Settled.{Settled}
 use Rattle.cad_receivers.specs.declared.receivers.Spot.{Spot}
+use Rattle.cad_state.proofs.Finding.{find_same, find_then, find_stopped}
 use Rattle.cad_state.specs.Views.{state_over, IsReady, FindsAndCarriesOut}
 use Rattle.cad_state.specs.declared.state.RunState.{RunState}
 use Rattle.cad_world.specs.Marks.{AreGivenOnce}
@@ -59,17 +64,13 @@ looked view receiver f spot x q first second w ready =
 
 -- ---- a receiver that was settled
 
-ready_same : (w : List Account) (x y : RunState) → state_over w y ≡ state_over w x → IsReady w x → IsReady w y
+pub ready_same : (w : List Account) (x y : RunState) → state_over w y ≡ state_over w x → IsReady w x → IsReady w y
 ready_same w x y e ready = record { unnamed = ready.unnamed; once = subst AreGivenOnce (sym e) ready.once }
 
 pub after_ready : {B C : Type 0} (view : C → B) (action : Action B) (x y z : RunState) (q : Result C Stop)
     → ((w : List Account) → IsReady w x → state_over w y ≡ state_over w x) → FindsAndCarriesOut view action y z q → FindsAndCarriesOut view action x z q
 after_ready view action x y z q same h w ready =
     subst (λ s. Does view action s (state_over w z) q) (same w ready) (h w (ready_same w x y (same w ready) ready))
-
-pub after_settle : {B C : Type 0} (view : C → B) (action : Action B) (x y z : RunState) (q : Result C Stop)
-    → ((w : List Account) → state_over w y ≡ state_over w x) → FindsAndCarriesOut view action y z q → FindsAndCarriesOut view action x z q
-after_settle view action x y z q same h = after_ready view action x y z q (λ w ready. same w) h
 
 -- the outcome of an action, and that it has one
 abbrev is_ok : {A : Type 0} → Outcome A → Bool
@@ -94,10 +95,24 @@ stops_before ill f Limit h = cc
 stops_before ill f IllTyped h = refl
 stops_before ill f Memory h = tt
 
-pub stops_then : {A B C : Type 0} (view : C → B) (p : Action A) (f : A → Action B) (x y z : RunState) (why : Stop)
-    → FindsAndCarriesOut {B = Unit {0}} no_value (found p) x y (Err why) → FindsAndCarriesOut {B = C} view (p >>= f) x z (Err why)
-stops_then view p f x y z why h w ready = stops_before (p (state_over w x)) f why (h w ready)
+bind_bind : {A B C : Type 0} (o : Outcome A) (p : A → Action B) (f : B → Action C) → bind (bind o p) f ≡ bind o (λ a. p a >>= f)
+bind_bind (ok a s) p f = refl
+bind_bind (failed e) p f = refl
+bind_bind limit p f = refl
+bind_bind ill p f = refl
 
-pub settle_stops : {B C : Type 0} (view : C → B) (receiver : r.Receiver) (f : r.Spot → Action B) (x y z : RunState) (why : Stop)
-    → FindsAndCarriesOut {B = Unit {0}} no_value (found (r.look_at receiver)) x y (Err why) → FindsAndCarriesOut {B = C} view (at_spot receiver f) x z (Err why)
-settle_stops view receiver f x y z why h = stops_then view (r.look_at receiver) f x y z why h
+at_settled : {B : Type 0} (receiver : r.Receiver) (f : r.Spot → Action B) (s : State) → at_spot receiver f s ≡ (settled receiver >>= (λ one. at_spot one f)) s
+at_settled receiver f s = ap (λ o. bind o f) (settles_to_look receiver s) ∙ bind_bind (settled receiver s) r.look_at f
+
+-- what is done with what the receiver is, to which another is settled, is done with what that is
+pub after_settled : {B C : Type 0} (view : C → B) (receiver : r.Receiver) (f : r.Spot → Action B) (one : Settled) (x y z : RunState) (q : Result C Stop)
+    → FindsAndCarriesOut settled_of (settled receiver) x y (Ok one) → FindsAndCarriesOut view (at_spot (settled_of one) f) y z q → FindsAndCarriesOut view (at_spot receiver f) x z q
+after_settled view receiver f one x y z q first second =
+    find_same view (at_spot receiver f) (settled receiver >>= (λ other. at_spot other f)) x z q (λ w ready. at_settled receiver f (state_over w x))
+    (find_then AnyOne (settled receiver) (settled_keeps receiver) settled_of view (λ other. at_spot other f) one x y z q first (λ _. second))
+
+pub settled_stops : {B C : Type 0} (view : C → B) (receiver : r.Receiver) (f : r.Spot → Action B) (x y z : RunState) (why : Stop)
+    → FindsAndCarriesOut {B = Settled} settled_of (settled receiver) x y (Err why) → FindsAndCarriesOut {B = C} view (at_spot receiver f) x z (Err why)
+settled_stops view receiver f x y z why h =
+    find_same view (at_spot receiver f) (settled receiver >>= (λ other. at_spot other f)) x z (Err why) (λ w ready. at_settled receiver f (state_over w x))
+    (find_stopped settled_of view (settled receiver) (λ other. at_spot other f) x y z why h)

@@ -12,7 +12,7 @@ use Rattle.cad_world.specs.Rows.{NodeShape, plain, link, array, dictionary, comp
 use Rattle.cad_world.specs.State.{State, Account, Outcome, ok, failed, limit, ill, bind, Action, done, or_fail}
 
 -- where there is a value, the state is this one
-abbrev Stays : {A : Type 0} → State → Outcome A → Type 0
+abbrev pub Stays : {A : Type 0} → State → Outcome A → Type 0
 Stays s (ok a v) = v ≡ s
 Stays s _ = Unit {0}
 
@@ -35,7 +35,7 @@ entry_stays key (link a l n) r s = tt
 entry_stays key (array t) r s = tt
 entry_stays key (composite id n names) r s = tt
 
-found_stays : {A : Type 0} (o : Option Found) (f : Found → Action A) (s : State) → ((x : Found) → Stays s (f x s)) → Stays s (or_fail 113 o f s)
+pub found_stays : {A : Type 0} (o : Option Found) (f : Found → Action A) (s : State) → ((x : Found) → Stays s (f x s)) → Stays s (or_fail 113 o f s)
 found_stays None f s h = tt
 found_stays (Some x) f s h = h x
 

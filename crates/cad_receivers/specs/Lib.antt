@@ -1,3 +1,4 @@
 pub mod Code
+pub mod Settled
 pub mod Uses
 pub mod Views

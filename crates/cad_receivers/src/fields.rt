@@ -11,11 +11,12 @@ ghost use Rattle.cad_world.specs.State.{State};
 ghost use Rattle.cad_evaluation.specs.Reading as spec;
 ghost use Rattle.cad_receivers.specs.Code.Readings.{Leaves, LeavesOver, FindsAndLeaves, linked, reading_of, read_as};
 ghost use Rattle.cad_receivers.specs.Code.Fields.{read_at, read_of_type, read_if_served, read_in_composite};
-ghost use Rattle.cad_receivers.specs.Views.{receiver_of, spot_of, at_spot};
+ghost use Rattle.cad_receivers.specs.Views.{at_spot, receiver_of, settled_of, spot_of};
 
-use crate::looks::{look, settle_receiver};
+use crate::looks::look;
 use crate::readings::{Reading, copy_of, lends, read_out};
-use crate::receivers::{Receiver, Spot};
+use crate::receivers::{Receiver, Settled, Spot};
+use crate::settle::settle_receiver;
 use crate::trees::optionals;
 use cad_access::{
     composite_in, composite_member, field_names, field_type, may_give, right_given, serves,
@@ -203,11 +204,11 @@ fn read_field(
 /// What is read of a field of a receiver that was settled.
 fn field_reading(
     state: &RunState,
-    receiver: &Receiver,
+    receiver: Settled<'_>,
     name: &Name,
     right: &Authorization,
 ) -> Result<Reading, Stop>
-    ensures { FindsAndLeaves reading_of (at_spot (receiver_of receiver.now) (spec.read_field name.now right.now)) state.now result }
+    ensures { FindsAndLeaves reading_of (at_spot (settled_of receiver.entry) (spec.read_field name.now right.now)) state.now result }
 {
     match look(state, receiver) {
         Ok(spot) => read_field(state, spot, name, right),
@@ -218,11 +219,11 @@ fn field_reading(
 /// A field of a receiver that was settled.
 fn get_settled(
     state: &mut RunState,
-    receiver: &Receiver,
+    receiver: Settled<'_>,
     name: &Name,
     right: &Authorization,
 ) -> Result<Tree, Stop>
-    ensures { FindsAndCarriesOut pure_tree (at_spot (receiver_of receiver.now) (spec.read_field name.now right.now)) state.old state.new result }
+    ensures { FindsAndCarriesOut pure_tree (at_spot (settled_of receiver.entry) (spec.read_field name.now right.now)) state.old state.new result }
 {
     match field_reading(state, receiver, name, right) {
         Ok(reading) => read_out(state, reading),
@@ -242,7 +243,7 @@ pub fn get(
     ensures { FindsAndCarriesOut pure_tree (at_spot (receiver_of receiver.now) (spec.read_field name.now right.now)) state.old state.new result }
 {
     match settle_receiver(state, receiver) {
-        Ok(()) => get_settled(state, receiver, name, right),
+        Ok(settled) => get_settled(state, settled, name, right),
         Err(stop) => Err(stop),
     }
 }

@@ -13,11 +13,12 @@ ghost use Rattle.cad_world.specs.Trees as trees;
 ghost use Rattle.cad_evaluation.specs.Reading as spec;
 ghost use Rattle.cad_receivers.specs.Code.Indices.{read_at_integer, read_at_index};
 ghost use Rattle.cad_receivers.specs.Code.Readings.{Leaves, FindsAndLeaves, linked, reading_of, read_as, read_inside, copied_inside};
-ghost use Rattle.cad_receivers.specs.Views.{receiver_of, spot_of, at_spot};
+ghost use Rattle.cad_receivers.specs.Views.{at_spot, receiver_of, settled_of, spot_of};
 
-use crate::looks::{look, settle_receiver};
+use crate::looks::look;
 use crate::readings::{Reading, copied, copy_of, lends, read_out};
-use crate::receivers::{Receiver, Spot};
+use crate::receivers::{Receiver, Settled, Spot};
+use crate::settle::settle_receiver;
 use crate::trees::{optionals, wrap};
 use cad_locations::Location;
 use cad_operators::{integer_in, key_position, nil_tree};
@@ -262,8 +263,8 @@ fn read_index(alloc: Global, spot: Spot<'_>, index: &Tree) -> Result<Reading, St
 }
 
 /// What is read at an index of a receiver that was settled.
-fn index_reading(state: &RunState, receiver: &Receiver, index: &Tree) -> Result<Reading, Stop>
-    ensures { FindsAndLeaves reading_of (at_spot (receiver_of receiver.now) (spec.read_index (pure_tree index.now))) state.now result }
+fn index_reading(state: &RunState, receiver: Settled<'_>, index: &Tree) -> Result<Reading, Stop>
+    ensures { FindsAndLeaves reading_of (at_spot (settled_of receiver.entry) (spec.read_index (pure_tree index.now))) state.now result }
 {
     match look(state, receiver) {
         Ok(spot) => read_index(*state.making.allocator(), spot, index),
@@ -272,8 +273,8 @@ fn index_reading(state: &RunState, receiver: &Receiver, index: &Tree) -> Result<
 }
 
 /// What stands at an index of a receiver that was settled.
-fn index_settled(state: &mut RunState, receiver: &Receiver, index: &Tree) -> Result<Tree, Stop>
-    ensures { FindsAndCarriesOut pure_tree (at_spot (receiver_of receiver.now) (spec.read_index (pure_tree index.now))) state.old state.new result }
+fn index_settled(state: &mut RunState, receiver: Settled<'_>, index: &Tree) -> Result<Tree, Stop>
+    ensures { FindsAndCarriesOut pure_tree (at_spot (settled_of receiver.entry) (spec.read_index (pure_tree index.now))) state.old state.new result }
 {
     match index_reading(state, receiver, index) {
         Ok(reading) => read_out(state, reading),
@@ -289,7 +290,7 @@ pub fn index(state: &mut RunState, receiver: &Receiver, index: &Tree) -> Result<
     ensures { FindsAndCarriesOut pure_tree (at_spot (receiver_of receiver.now) (spec.read_index (pure_tree index.now))) state.old state.new result }
 {
     match settle_receiver(state, receiver) {
-        Ok(()) => index_settled(state, receiver, index),
+        Ok(settled) => index_settled(state, settled, index),
         Err(stop) => Err(stop),
     }
 }

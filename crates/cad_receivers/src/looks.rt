@@ -1,61 +1,19 @@
-// What a receiver is now.
-ghost use Rattle.std.specs.Prelude.{◌≡◌, IsTrue, List, Some, option_map};
-ghost use Rattle.cad_outcomes.specs.Outcomes.{no_value};
-ghost use Rattle.cad_receivers.specs.Views.{receiver_of, spot_of, found};
+// What receivers are now.
+ghost use Rattle.std.specs.Prelude.{◌≡◌, IsTrue, Some, None, option_map};
+ghost use Rattle.cad_receivers.specs.Views.{settled_of, spot_of};
 ghost use Rattle.cad_rows.specs.Views.{pure_shape, pure_tree};
-ghost use Rattle.cad_state.specs.Views.{FindsAndCarriesOut, state_over};
+ghost use Rattle.cad_state.specs.Views.{FindsAndCarriesOut};
 ghost use Rattle.cad_values.specs.Values.{pure_value, nil};
-ghost use Rattle.cad_world.specs.Locations.{with_found};
-ghost use Rattle.cad_world.specs.Rows.{plain};
-ghost use Rattle.cad_world.specs.State.{Account, done};
 ghost use Rattle.cad_world.specs.Receivers as spec;
+ghost use Rattle.cad_world.specs.Rows.{plain, stop};
 
-use crate::receivers::{Receiver, Spot};
+use crate::receivers::{Settled, Spot};
+use cad_casts::is_controller;
 use cad_outcomes::{RunError, Stop};
 use cad_rows::{Shape, Tree};
 use cad_state::RunState;
 use cad_syntax::Authorization;
 use cad_values::{Reference, Target, Value};
-
-/// Finds the node with a label, so that its hint leads there; ReferenceInvalid where it is gone.
-fn settle_node(state: &mut RunState, label: u64) -> Result<(), Stop>
-    ensures action { FindsAndCarriesOut no_value (with_found label (λ f. done)) state.old state.new result }
-    ensures same { (accounts : List Account) → state_over accounts state.new ≡ state_over accounts state.old }
-{
-    match state.locate(label) {
-        Ok(true) => Ok(()),
-        Ok(false) => Err(Stop::Failed(RunError::ReferenceInvalid)),
-        Err(_) => Err(Stop::Memory),
-    }
-}
-
-/// Finds the node of a receiver, so that `look` finds it. ReferenceInvalid where it is gone, IllTyped where a receiver
-/// isn't a reference.
-pub fn settle_receiver(state: &mut RunState, receiver: &Receiver) -> Result<(), Stop>
-    ensures action { FindsAndCarriesOut no_value (found (spec.look_at (receiver_of receiver.now))) state.old state.new result }
-    ensures same { (accounts : List Account) → state_over accounts state.new ≡ state_over accounts state.old }
-{
-    match receiver {
-        Receiver::Standing { label, .. } => settle_node(state, *label),
-        Receiver::Through(shape) => settle_reference(state, shape),
-        Receiver::Absent(_) => Ok(()),
-    }
-}
-
-/// Finds the node to which a reference leads, so that `deref` finds it. ReferenceInvalid where it is gone, IllTyped of what is
-/// no reference.
-pub fn settle_reference(state: &mut RunState, shape: &Shape) -> Result<(), Stop>
-    ensures action { FindsAndCarriesOut no_value (found (spec.deref (pure_shape shape.now))) state.old state.new result }
-    ensures same { (accounts : List Account) → state_over accounts state.new ≡ state_over accounts state.old }
-{
-    match shape {
-        Shape::Link { label, .. } => settle_node(state, *label),
-        _ => match deref(state, shape) {
-            Ok(_) => Ok(()),
-            Err(stop) => Err(stop),
-        },
-    }
-}
 
 /// A node of this tree, seen in so many optionals.
 fn spot_of_tree<'a>(
@@ -90,37 +48,54 @@ fn spot_at<'a>(
     }
 }
 
-/// What a reference leads to that is no reference to a node: an account is the reference itself.
-fn spot_by<'a>(shape: &'a Shape, reference: &'a Reference) -> Result<Spot<'a>, Stop>
+/// A reference of this shape, which is what it leads to itself: it has no label.
+fn reference_spot<'a>(shape: &'a Shape, rights: &'a Authorization) -> Spot<'a>
+    ensures { spot_of result ≡ record { rights = Some rights.now; label = None; tree = record { optionals = 0; shape = pure_shape shape.now; parts = stop } } }
+{
+    Spot {
+        rights: Some(rights),
+        label: None,
+        optionals: 0,
+        shape,
+        parts: &[],
+    }
+}
+
+/// What a reference leads to that is no reference to a node: an account and a controller are the reference itself.
+/// ReferenceInvalid where there is no such controller. Memory of what leads to storage: it is settled to a node.
+fn spot_by<'a>(
+    state: &'a RunState,
+    shape: &'a Shape,
+    reference: &'a Reference,
+) -> Result<Spot<'a>, Stop>
     requires { pure_shape shape.now ≡ plain (pure_value (Value.Reference reference.now)) }
-    ensures { (state : RunState) → FindsAndCarriesOut spot_of (spec.deref (pure_shape shape.now)) state state result }
+    ensures { FindsAndCarriesOut spot_of (spec.deref (pure_shape shape.now)) state.now state.now result }
 {
     match &reference.to {
         Target::Node(_) => Err(Stop::IllTyped),
-        Target::Account(_) => Ok(Spot {
-            rights: Some(&reference.authorization),
-            label: None,
-            optionals: 0,
-            shape,
-            parts: &[],
-        }),
-        Target::Stored { .. } | Target::Controller { .. } => Err(Stop::Memory),
+        Target::Stored { .. } => Err(Stop::Memory),
+        Target::Account(_) => Ok(reference_spot(shape, &reference.authorization)),
+        Target::Controller { address, id } => match is_controller(state, *address, *id) {
+            Ok(true) => Ok(reference_spot(shape, &reference.authorization)),
+            Ok(false) => Err(Stop::Failed(RunError::ReferenceInvalid)),
+            Err(_) => Err(Stop::Memory),
+        },
     }
 }
 
 /// What a value leads to.
-fn plain_spot<'a>(shape: &'a Shape, value: &'a Value) -> Result<Spot<'a>, Stop>
+fn plain_spot<'a>(state: &'a RunState, shape: &'a Shape, value: &'a Value) -> Result<Spot<'a>, Stop>
     requires { pure_shape shape.now ≡ plain (pure_value value.now) }
-    ensures { (state : RunState) → FindsAndCarriesOut spot_of (spec.deref (pure_shape shape.now)) state state result }
+    ensures { FindsAndCarriesOut spot_of (spec.deref (pure_shape shape.now)) state.now state.now result }
 {
     match value {
-        Value::Reference(reference) => spot_by(shape, reference),
+        Value::Reference(reference) => spot_by(state, shape, reference),
         _ => Err(Stop::IllTyped),
     }
 }
 
 /// What a reference leads to. It has to be settled.
-pub fn deref<'a>(state: &'a RunState, shape: &'a Shape) -> Result<Spot<'a>, Stop>
+fn deref<'a>(state: &'a RunState, shape: &'a Shape) -> Result<Spot<'a>, Stop>
     ensures { FindsAndCarriesOut spot_of (spec.deref (pure_shape shape.now)) state.now state.now result }
 {
     match shape {
@@ -129,18 +104,8 @@ pub fn deref<'a>(state: &'a RunState, shape: &'a Shape) -> Result<Spot<'a>, Stop
             label,
             sees,
         } => spot_at(state, Some(authorization), *label, *sees),
-        Shape::Plain(value) => plain_spot(shape, value),
+        Shape::Plain(value) => plain_spot(state, shape, value),
         _ => Err(Stop::IllTyped),
-    }
-}
-
-/// The rights with which a receiver is met.
-fn lent_rights(rights: &Option<Authorization>) -> Option<&Authorization>
-    ensures { option_map (λ own. own.now) result ≡ rights.now }
-{
-    match rights {
-        Some(own) => Some(own),
-        None => None,
     }
 }
 
@@ -178,17 +143,17 @@ fn nil_spot<'a>(nil: &'a Shape) -> Result<Spot<'a>, Stop>
     }
 }
 
-/// What a receiver is now. It has to be settled.
-pub fn look<'a>(state: &'a RunState, receiver: &'a Receiver) -> Result<Spot<'a>, Stop>
-    ensures { FindsAndCarriesOut spot_of (spec.look_at (receiver_of receiver.now)) state.now state.now result }
+/// What a receiver is now that was settled. Memory where its node has moved since.
+pub fn look<'a>(state: &'a RunState, receiver: Settled<'a>) -> Result<Spot<'a>, Stop>
+    ensures { FindsAndCarriesOut spot_of (spec.look_at (settled_of receiver.entry)) state.now state.now result }
 {
     match receiver {
-        Receiver::Standing {
+        Settled::Standing {
             rights,
             label,
             sees,
-        } => spot_at(state, lent_rights(rights), *label, *sees),
-        Receiver::Through(shape) => deref(state, shape),
-        Receiver::Absent(nil) => nil_spot(nil),
+        } => spot_at(state, rights, label, sees),
+        Settled::Through(shape) => deref(state, shape),
+        Settled::Absent(nil) => nil_spot(nil),
     }
 }

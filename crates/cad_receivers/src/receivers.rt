@@ -16,6 +16,21 @@ pub enum Receiver {
     Absent(Shape),
 }
 
+/// A receiver that was settled: what it is now is seen without a change of the state. What led to storage is a node by its label.
+#[derive(Clone, Copy)]
+pub enum Settled<'a> {
+    /// A node by its label, met with these rights, and how many of its optionals are seen.
+    Standing {
+        rights: Option<&'a Authorization>,
+        label: u64,
+        sees: u64,
+    },
+    /// What a reference leads to.
+    Through(&'a Shape),
+    /// Nil, with its shape.
+    Absent(&'a Shape),
+}
+
 /// What a receiver is now. An account, a part of it and a controller are the reference itself, and have no label.
 #[derive(Clone, Copy)]
 pub struct Spot<'a> {

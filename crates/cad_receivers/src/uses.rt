@@ -13,10 +13,11 @@ ghost use Rattle.cad_evaluation.specs.Reading.{composite_id, identity_in, read_u
 ghost use Rattle.cad_evaluation.specs.Uses as spec;
 ghost use Rattle.cad_receivers.specs.Code.Calls.{callable_if_served, callable_in_composite};
 ghost use Rattle.cad_receivers.specs.Uses.{aimed};
-ghost use Rattle.cad_receivers.specs.Views.{receiver_of, spot_of, at_spot};
+ghost use Rattle.cad_receivers.specs.Views.{at_spot, receiver_of, settled_of, spot_of};
 
-use crate::looks::{look, settle_receiver};
-use crate::receivers::{Receiver, Spot, discard_rights};
+use crate::looks::look;
+use crate::receivers::{Receiver, Settled, Spot, discard_rights};
+use crate::settle::settle_receiver;
 use cad_access::{composite_in, composite_member, has_right, serves};
 use cad_builtins::needed;
 use cad_declarations::{Member, MemberKind};
@@ -77,8 +78,8 @@ fn check_spot(state: &RunState, spot: Spot<'_>, name: &Name) -> Result<(), Stop>
 }
 
 /// The same of a receiver that was settled.
-fn check_settled(state: &RunState, receiver: &Receiver, name: &Name) -> Result<(), Stop>
-    ensures { FindsAndCarriesOut no_value (at_spot (receiver_of receiver.now) (spec.callable name.now)) state.now state.now result }
+fn check_settled(state: &RunState, receiver: Settled<'_>, name: &Name) -> Result<(), Stop>
+    ensures { FindsAndCarriesOut no_value (at_spot (settled_of receiver.entry) (spec.callable name.now)) state.now state.now result }
 {
     match look(state, receiver) {
         Ok(spot) => check_spot(state, spot, name),
@@ -92,7 +93,7 @@ pub fn check_callable(state: &mut RunState, receiver: &Receiver, name: &Name) ->
     ensures { FindsAndCarriesOut no_value (at_spot (receiver_of receiver.now) (spec.callable name.now)) state.old state.new result }
 {
     match settle_receiver(state, receiver) {
-        Ok(()) => check_settled(state, receiver, name),
+        Ok(settled) => check_settled(state, settled, name),
         Err(stop) => Err(stop),
     }
 }
@@ -123,8 +124,12 @@ fn check_rights(alloc: Global, spot: Spot<'_>, member: Builtin) -> Result<(), St
 }
 
 /// The same of a receiver that was settled.
-fn check_rights_settled(state: &RunState, receiver: &Receiver, member: Builtin) -> Result<(), Stop>
-    ensures { FindsAndCarriesOut no_value (at_spot (receiver_of receiver.now) (λ first. guard (may_use member first) done)) state.now state.now result }
+fn check_rights_settled(
+    state: &RunState,
+    receiver: Settled<'_>,
+    member: Builtin,
+) -> Result<(), Stop>
+    ensures { FindsAndCarriesOut no_value (at_spot (settled_of receiver.entry) (λ first. guard (may_use member first) done)) state.now state.now result }
 {
     match look(state, receiver) {
         Ok(spot) => check_rights(*state.making.allocator(), spot, member),
@@ -138,7 +143,7 @@ pub fn check_use(state: &mut RunState, receiver: &Receiver, member: Builtin) -> 
     ensures { FindsAndCarriesOut no_value (at_spot (receiver_of receiver.now) (λ first. guard (may_use member first) done)) state.old state.new result }
 {
     match settle_receiver(state, receiver) {
-        Ok(()) => check_rights_settled(state, receiver, member),
+        Ok(settled) => check_rights_settled(state, settled, member),
         Err(stop) => Err(stop),
     }
 }
@@ -167,8 +172,8 @@ fn aim_spot(spot: Spot<'_>) -> Result<(TypeId, u64), Stop>
 }
 
 /// The same of a receiver that was settled.
-fn aim_settled(state: &RunState, receiver: &Receiver) -> Result<(TypeId, u64), Stop>
-    ensures { FindsAndCarriesOut aimed (at_spot (receiver_of receiver.now) (λ spot. with_some (composite_id spot.tree) (λ id. with_some spot.label (λ l. give (id, l))))) state.now state.now result }
+fn aim_settled(state: &RunState, receiver: Settled<'_>) -> Result<(TypeId, u64), Stop>
+    ensures { FindsAndCarriesOut aimed (at_spot (settled_of receiver.entry) (λ spot. with_some (composite_id spot.tree) (λ id. with_some spot.label (λ l. give (id, l))))) state.now state.now result }
 {
     match look(state, receiver) {
         Ok(spot) => aim_spot(spot),
@@ -181,7 +186,7 @@ pub fn aim(state: &mut RunState, receiver: &Receiver) -> Result<(TypeId, u64), S
     ensures { FindsAndCarriesOut aimed (at_spot (receiver_of receiver.now) (λ spot. with_some (composite_id spot.tree) (λ id. with_some spot.label (λ l. give (id, l))))) state.old state.new result }
 {
     match settle_receiver(state, receiver) {
-        Ok(()) => aim_settled(state, receiver),
+        Ok(settled) => aim_settled(state, settled),
         Err(stop) => Err(stop),
     }
 }
@@ -227,23 +232,12 @@ fn uuid_of_spot(alloc: Global, spot: Spot<'_>) -> Result<Tree, Stop>
     }
 }
 
-/// The same of a receiver that was settled.
-fn uuid_settled(state: &RunState, receiver: &Receiver) -> Result<Tree, Stop>
-    ensures { FindsAndCarriesOut pure_tree (at_spot (receiver_of receiver.now) read_uuid) state.now state.now result }
+/// The identity of the resource that a receiver is now, which was settled, as its `uuid`: IllTyped where it is no composite.
+pub fn uuid(state: &RunState, receiver: Settled<'_>) -> Result<Tree, Stop>
+    ensures { FindsAndCarriesOut pure_tree (at_spot (settled_of receiver.entry) read_uuid) state.now state.now result }
 {
     match look(state, receiver) {
         Ok(spot) => uuid_of_spot(*state.making.allocator(), spot),
-        Err(stop) => Err(stop),
-    }
-}
-
-/// The identity of the resource that a receiver is now, as its `uuid`: IllTyped where it is no composite. ReferenceInvalid where
-/// the receiver is gone.
-pub fn uuid(state: &mut RunState, receiver: &Receiver) -> Result<Tree, Stop>
-    ensures { FindsAndCarriesOut pure_tree (at_spot (receiver_of receiver.now) read_uuid) state.old state.new result }
-{
-    match settle_receiver(state, receiver) {
-        Ok(()) => uuid_settled(state, receiver),
         Err(stop) => Err(stop),
     }
 }

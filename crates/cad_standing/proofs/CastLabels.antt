@@ -1,5 +1,5 @@
 -- A place that is cast: labels are kept apart, and the value in hand has none.
-use Rattle.std.proofs.Common.{ℕ, zero, suc, Option, Some, None}
+use Rattle.std.proofs.Common.{zero, suc, Option, Some, None}
 use Rattle.cad_labels.specs.Laws.{HasNone, Keeps, AnyOne}
 use Rattle.cad_labels.proofs.Accounts.{type_keeps}
 use Rattle.cad_labels.proofs.Forms.{keeps_choose, keeps_give, keeps_guard, keeps_stuck}

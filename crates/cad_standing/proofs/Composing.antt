@@ -1,10 +1,9 @@
 -- Actions one behind the other, where the first leaves the state as it is.
-use Rattle.std.proofs.Common.{◌≡◌, List, Option, Some, None, Result, Ok, Err, option_map, refl, ap, subst, ◌∙◌}
+use Rattle.std.proofs.Common.{◌≡◌, Option, Some, None, Result, Ok, Err, option_map, refl, ap, subst, ◌∙◌}
 use Rattle.cad_outcomes.specs.declared.stop.Stop.{Stop}
 use Rattle.cad_outcomes.specs.Outcomes.{Does, Gives}
 use Rattle.cad_outcomes.proofs.Steps.{then, stops_on, stops_same, does_same}
-use Rattle.cad_receivers.proofs.Passing.{after_settle}
-use Rattle.cad_world.specs.State.{State, Account, Outcome, ok, failed, limit, ill, bind, Action, ◌>>=◌}
+use Rattle.cad_world.specs.State.{State, Outcome, ok, failed, limit, ill, bind, Action, ◌>>=◌}
 use Rattle.cad_state.proofs.Finding.{find_same}
 use Rattle.cad_state.specs.Views.{state_over, FindsAndCarriesOut}
 use Rattle.cad_state.specs.declared.state.RunState.{RunState}
@@ -57,14 +56,6 @@ pub plan_read_twice : {A B C D E : Type 0} (view : B → A) (follow : D → Acti
 plan_read_twice view follow p f g b x (Ok d) first plan = λ w ready. ap (λ (o : Outcome _). bind (bind o f) g) (first w ready) ∙ plan (state_over w x)
 plan_read_twice view follow p f g b x (Err stop) first plan = λ w ready.
     stops_same (bind (bind (p (state_over w x)) f) g) ((f (view b) >>= g) (state_over w x)) stop (ap (λ (o : Outcome _). bind (bind o f) g) (first w ready)) (plan (state_over w x))
-
--- ---- what was found
-
--- what was found is looked at
-pub looked : {A B C D : Type 0} (view : B → A) (out : D → C) (p : Action A) (f : A → Action C) (b : B) (x y : RunState) (r : Result D Stop)
-    → ((w : List Account) → state_over w y ≡ state_over w x) → FindsAndCarriesOut view p y y (Ok b) → FindsAndCarriesOut out (f (view b)) y y r
-    → FindsAndCarriesOut out (p >>= f) x y r
-looked view out p f b x y r same second third = after_settle out (p >>= f) x y y r same (here_then view out p f b y y r second third)
 
 -- ---- where a value is lent
 

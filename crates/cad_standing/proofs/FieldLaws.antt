@@ -15,7 +15,7 @@ use Rattle.cad_world.specs.Locations.{Location, variable, contract, stored, rece
 use Rattle.cad_world.specs.Receivers.{Spot}
 use Rattle.cad_world.specs.Rows.{Tree}
 use Rattle.cad_world.specs.State.{State, Account, ok, ill, bind, Action, ◌>>=◌, give, guard, with_some}
-use Rattle.cad_receivers.proofs.Passing.{after_settle}
+use Rattle.cad_receivers.proofs.Passing.{after_ready}
 use Rattle.cad_state.proofs.Finding.{find_same, find_stopped, find_then}
 use Rattle.cad_state.specs.Views.{state_over, FindsAndCarriesOut}
 use Rattle.cad_state.specs.declared.state.RunState.{RunState}
@@ -124,7 +124,7 @@ pub named_follows : {D : Type 0} (out : D → Standing) (writes : Bool) (n : Nam
     → FindsAndCarriesOut out (field_in writes n rights id l i) c c r → FindsAndCarriesOut out (field_named writes n rights x id i) a c r
 named_follows out writes n rights x id i l a b c r first same second =
     find_then AnyOne (name x) (naming_keeps x) (λ k. k) out (λ k. field_in writes n rights id k i) l a b c r first
-    (λ _. after_settle out (field_in writes n rights id l i) b c c r same second)
+    (λ _. after_ready out (field_in writes n rights id l i) b c c r (λ w ready. same w) second)
 
 pub unnamed : {D : Type 0} (out : D → Standing) (writes : Bool) (n : Name) (rights : Option Authorization) (x : Location) (id : TypeId) (i : ℕ) (a b : RunState) (stop : Stop)
     → FindsAndCarriesOut {B = ℕ} (λ k. k) (name x) a b (Err stop) → FindsAndCarriesOut out (field_named writes n rights x id i) a b (Err stop)

@@ -3,7 +3,7 @@ ghost use Rattle.std.specs.Prelude.{◌≡◌, List, option_map};
 ghost use Rattle.cad_evaluation.specs.Standing as spec;
 ghost use Rattle.cad_locations.specs.Views.{location_of};
 ghost use Rattle.cad_outcomes.specs.Outcomes.{Gives};
-ghost use Rattle.cad_receivers.specs.Views.{receiver_of, spot_of};
+ghost use Rattle.cad_receivers.specs.Views.{at_spot, receiver_of, settled_of, spot_of};
 ghost use Rattle.cad_rows.specs.Views.{pure_shape, pure_tree};
 ghost use Rattle.cad_standing.specs.Actions.{and_then};
 ghost use Rattle.cad_standing.specs.Views.{standing_of};
@@ -20,7 +20,7 @@ use cad_builtins::may_replace_elements;
 use cad_locations::Location;
 use cad_operators::integer_in;
 use cad_outcomes::Stop;
-use cad_receivers::{Receiver, Spot, look, settle_receiver};
+use cad_receivers::{Receiver, Settled, Spot, look, settle_receiver};
 use cad_rows::{Shape, Tree};
 use cad_state::RunState;
 use cad_syntax::Authorization;
@@ -102,6 +102,21 @@ fn element_of_spot(
     }
 }
 
+/// The place of an element of what a receiver is now that was settled.
+fn element_of_receiver(
+    state: &RunState,
+    base: Settled<'_>,
+    index: &Tree,
+    writes: bool,
+) -> Result<Standing, Stop>
+    ensures { FindsAndCarriesOut standing_of (at_spot (settled_of base.entry) (spec.element_of writes (pure_tree index.now))) state.now state.now result }
+{
+    match look(state, base) {
+        Ok(spot) => element_of_spot(memory(state), spot, index, writes),
+        Err(stop) => Err(stop),
+    }
+}
+
 /// The place of an element of what the base is now, or of the value under a key, told whether it is written. ReferenceInvalid
 /// and DereferenceFailed where a reference leads to nothing, IllTyped of what has no elements, of what is no index of them, and
 /// where it is written through a reference that may not replace elements.
@@ -114,10 +129,7 @@ pub fn element_of(
     ensures { FindsAndCarriesOut standing_of (and_then (look_at (receiver_of base.now)) (spec.element_of writes (pure_tree index.now))) state.old state.new result }
 {
     match settle_receiver(state, base) {
-        Ok(()) => match look(state, base) {
-            Ok(spot) => element_of_spot(memory(state), spot, index, writes),
-            Err(_) => Err(Stop::Memory),
-        },
+        Ok(settled) => element_of_receiver(state, settled, index, writes),
         Err(stop) => Err(stop),
     }
 }

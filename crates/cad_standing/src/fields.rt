@@ -4,7 +4,7 @@ ghost use Rattle.cad_declarations.specs.Views.{member_of};
 ghost use Rattle.cad_evaluation.specs.Access as access;
 ghost use Rattle.cad_evaluation.specs.Standing as spec;
 ghost use Rattle.cad_locations.specs.Views.{location_of};
-ghost use Rattle.cad_receivers.specs.Views.{spot_of};
+ghost use Rattle.cad_receivers.specs.Views.{at_spot, settled_of, spot_of};
 ghost use Rattle.cad_rows.specs.Views.{pure_shape, pure_tree};
 ghost use Rattle.cad_standing.specs.Code.Plans as plan;
 ghost use Rattle.cad_standing.specs.Code.Plans.{Plans, PlansAnywhere};
@@ -25,7 +25,7 @@ use cad_access::{composite_in, field_names, made_label, may_write, own_member, s
 use cad_declarations::Member;
 use cad_locations::{Location, discard_location, name, read, settle};
 use cad_outcomes::Stop;
-use cad_receivers::{Spot, deref, position_of, settle_reference};
+use cad_receivers::{Settled, Spot, look, position_of, settle_reference};
 use cad_rows::{Shape, Tree, discard_tree, holds_label};
 use cad_state::RunState;
 use cad_syntax::{Authorization, Name, TypeId};
@@ -119,6 +119,21 @@ fn field_of_spot(
     }
 }
 
+/// The place of a field of what a reference leads to that was settled.
+fn field_of_receiver(
+    state: &RunState,
+    receiver: Settled<'_>,
+    writes: bool,
+    field: &Name,
+) -> Result<Standing, Stop>
+    ensures { FindsAndCarriesOut standing_of (at_spot (settled_of receiver.entry) (spec.field_of writes field.now)) state.now state.now result }
+{
+    match look(state, receiver) {
+        Ok(spot) => field_of_spot(state, spot, writes, field),
+        Err(stop) => Err(stop),
+    }
+}
+
 /// The place of a field of what a reference of this shape leads to.
 fn field_target(
     state: &mut RunState,
@@ -129,10 +144,7 @@ fn field_target(
     ensures { FindsAndCarriesOut standing_of (and_then (receivers.deref (pure_shape shape.now)) (spec.field_of writes field.now)) state.old state.new result }
 {
     match settle_reference(state, shape) {
-        Ok(()) => match deref(state, shape) {
-            Ok(spot) => field_of_spot(state, spot, writes, field),
-            Err(_) => Err(Stop::Memory),
-        },
+        Ok(settled) => field_of_receiver(state, settled, writes, field),
         Err(stop) => Err(stop),
     }
 }

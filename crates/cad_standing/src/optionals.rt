@@ -5,6 +5,7 @@ ghost use Rattle.cad_evaluation.specs.Standing as spec;
 ghost use Rattle.cad_evaluation.specs.Uses.{nil_of, nil_told, turned_if};
 ghost use Rattle.cad_locations.specs.Views.{location_of};
 ghost use Rattle.cad_outcomes.specs.Outcomes.{Gives};
+ghost use Rattle.cad_receivers.specs.Views.{at_spot, settled_of};
 ghost use Rattle.cad_rows.specs.Views.{pure_shape, pure_tree};
 ghost use Rattle.cad_standing.specs.Code.Plans.{content_if, nil_there as told_nil};
 ghost use Rattle.cad_standing.specs.Actions.{and_then};
@@ -19,7 +20,7 @@ use crate::standing::{Standing, discard_rights};
 use cad_locations::{Location, discard_location, read, settle};
 use cad_operators::bool_tree;
 use cad_outcomes::{RunError, Stop};
-use cad_receivers::{deref, settle_reference};
+use cad_receivers::{Settled, look, settle_reference};
 use cad_rows::{Shape, Tree, discard_tree};
 use cad_state::RunState;
 use cad_syntax::Authorization;
@@ -154,15 +155,22 @@ pub fn content_of(state: &mut RunState, place: Standing, forces: bool) -> Result
     }
 }
 
+/// Whether the optional to which a reference leads that was settled is nil.
+fn nil_of_receiver(state: &RunState, receiver: Settled<'_>) -> Result<bool, Stop>
+    ensures { FindsAndCarriesOut (λ b. b) (at_spot (settled_of receiver.entry) (λ spot. nil_of (changing.content_of spot.tree))) state.now state.now result }
+{
+    match look(state, receiver) {
+        Ok(spot) => nil_of_lent(spot.optionals, spot.shape),
+        Err(stop) => Err(stop),
+    }
+}
+
 /// Whether the optional to which a reference of this shape leads is nil.
 fn nil_target(state: &mut RunState, shape: &Shape) -> Result<bool, Stop>
     ensures { FindsAndCarriesOut (λ b. b) (and_then (receivers.deref (pure_shape shape.now)) (λ spot. nil_of (changing.content_of spot.tree))) state.old state.new result }
 {
     match settle_reference(state, shape) {
-        Ok(()) => match deref(state, shape) {
-            Ok(spot) => nil_of_lent(spot.optionals, spot.shape),
-            Err(_) => Err(Stop::Memory),
-        },
+        Ok(settled) => nil_of_receiver(state, settled),
         Err(stop) => Err(stop),
     }
 }

@@ -4,6 +4,7 @@ ghost use Rattle.cad_evaluation.specs.Reading.{copied};
 ghost use Rattle.cad_evaluation.specs.Standing as spec;
 ghost use Rattle.cad_locations.specs.Views.{location_of};
 ghost use Rattle.cad_outcomes.specs.Outcomes.{Gives};
+ghost use Rattle.cad_receivers.specs.Views.{at_spot, settled_of};
 ghost use Rattle.cad_rows.specs.Views.{pure_shape, pure_tree};
 ghost use Rattle.cad_standing.specs.Actions.{and_then};
 ghost use Rattle.cad_standing.specs.Views.{standing_of};
@@ -18,7 +19,7 @@ use crate::standing::{Standing, discard_rights};
 use cad_locations::{Location, discard_location, read, settle};
 use cad_operators::nil_tree;
 use cad_outcomes::Stop;
-use cad_receivers::{deref, settle_reference};
+use cad_receivers::{Settled, look, settle_reference};
 use cad_rows::{Shape, Tree, discard_tree};
 use cad_state::RunState;
 
@@ -72,15 +73,22 @@ fn copy_settled(state: &RunState, location: &Location, inside: u64) -> Result<Tr
     }
 }
 
+/// A copy of the value to which a reference leads that was settled.
+fn copy_receiver(state: &RunState, receiver: Settled<'_>) -> Result<Tree, Stop>
+    ensures { FindsAndCarriesOut pure_tree (at_spot (settled_of receiver.entry) (λ spot. copied spot.tree)) state.now state.now result }
+{
+    match look(state, receiver) {
+        Ok(spot) => copy_lent(memory(state), spot.optionals, spot.shape, spot.parts),
+        Err(stop) => Err(stop),
+    }
+}
+
 /// A copy of the value to which a reference of this shape leads.
 fn copy_target(state: &mut RunState, shape: &Shape) -> Result<Tree, Stop>
     ensures { FindsAndCarriesOut pure_tree (and_then (receivers.deref (pure_shape shape.now)) (λ spot. copied spot.tree)) state.old state.new result }
 {
     match settle_reference(state, shape) {
-        Ok(()) => match deref(state, shape) {
-            Ok(spot) => copy_lent(memory(state), spot.optionals, spot.shape, spot.parts),
-            Err(_) => Err(Stop::Memory),
-        },
+        Ok(settled) => copy_receiver(state, settled),
         Err(stop) => Err(stop),
     }
 }

@@ -1,6 +1,8 @@
 -- The node with a label is changed where a way leads to it: so the state is changed as the definition changes it by the label.
 use Rattle.std.proofs.Common.{◌≡◌, ℕ, zero, suc, ◌+◌, ◌≤◌, List, [], ◌∷◌, map, reverse, Option, Some, None, refl, sym, ap, ◌∙◌, true, true≢false, arith, option_map}
 use Rattle.std.specs.Prelude.{slice_get}
+use Rattle.std.specs.declared.alloc.Global.{Global}
+use Rattle.std.specs.declared.vec.Vec.{Vec}
 use Rattle.std.proofs.lemmas.Option.{slice_get-map}
 use mathlib.Core.List.{reverse_aux}
 use Rattle.cad_world.specs.Labels.{on_frame, on_account, on_contract, with_node}
@@ -9,9 +11,10 @@ use Rattle.cad_world.specs.State.{Account, Contract, Frame}
 use Rattle.cad_labels.proofs.Marks.{mark, marks_mark}
 use Rattle.cad_labels.proofs.States.{frame_rows, account_rows, contract_rows, total, whole}
 use Rattle.cad_rows.specs.Views.{pure_row}
-use Rattle.cad_state.specs.Views.{state_over, frame_of, contract_of, IsReady}
-use Rattle.cad_state.specs.Ways.{is_there, at_index, in_variables, in_before, in_result, in_value, with_row}
+use Rattle.cad_state.specs.Views.{state_over, account_of, accounts_with, held, frame_of, contract_of, IsReady}
+use Rattle.cad_state.specs.Ways.{is_there, at_index, in_variables, in_before, in_result, in_stored, in_value, with_row}
 use Rattle.cad_state.specs.declared.hints.Root.TheVariants as root
+use Rattle.cad_state.specs.declared.state.Account.{Account as AccountCode}
 use Rattle.cad_state.specs.declared.state.Call.{Call}
 use Rattle.cad_state.specs.declared.state.Contract.{Contract as ContractCode}
 use Rattle.cad_state.specs.declared.state.RunState.{RunState}
@@ -75,6 +78,40 @@ frames_one p sh k h (g ∷ fs) (suc i) f e d one most =
     head_of x [] = x
     head_of x (y ∷ ys) = y
 
+account_marked : (q : ℕ) (gs : List Account) (n : ℕ) (x : Account) → slice_get gs n ≡ Some x → mark q x.stored ≤ total q (account_rows gs)
+account_marked q [] n x r = absurd (true≢false (ap is_there (sym r)))
+account_marked q (y ∷ gs) zero x r = omega (arith, ap (λ (z : Account). mark q z.stored) (ap (or_else x) r))
+account_marked q (y ∷ gs) (suc n) x r = omega (arith, account_marked q gs n x r)
+
+accounts_one : (p : ℕ) (sh : NodeShape) (k : Row) (h : Account → Account) (all : List Account) (i : ℕ) (c : Account) → slice_get all i ≡ Some c → on_account (changed p sh k) c ≡ h c → 1 ≤ mark p c.stored → total p (account_rows all) ≤ 1
+    → map (on_account (changed p sh k)) all ≡ at_index i h all
+accounts_one p sh k h [] i c e d one most = refl
+accounts_one p sh k h (b ∷ all) zero c e d one most =
+    let same : b ≡ c = ap (or_else c) e in
+    let rest : map (on_account (changed p sh k)) all ≡ all = accounts_same p sh k all (omega (arith, most, one, ap (λ (x : Account). mark p x.stored) same)) in
+    let here : on_account (changed p sh k) b ≡ h b = ap (on_account (changed p sh k)) same ∙ d ∙ ap h (sym same) in
+    λ i. here i ∷ rest i
+accounts_one p sh k h (b ∷ all) (suc i) c e d one most =
+    let inner : mark p c.stored ≤ total p (account_rows all) = account_marked p all i c e in
+    let v : changed p sh k b.stored ≡ b.stored = unchanged p sh k b.stored (omega (arith, most, one, inner)) in
+    let rest : map (on_account (changed p sh k)) all ≡ at_index i h all = accounts_one p sh k h all i c e d one (omega (arith, most)) in
+    λ j. record b { stored = v j } ∷ rest j
+
+-- in those that the run has
+held_marked : (q : ℕ) (w : List Account) (o : Option (Vec AccountCode Global)) (i : ℕ) (c : AccountCode) → slice_get (held o) i ≡ Some c
+    → mark q (pure_row c.stored.items) ≤ total q (account_rows (accounts_with (λ all. all) w o))
+unfolding accounts_with
+held_marked q w None i c e = absurd (true≢false (ap is_there (sym e)))
+held_marked q w (Some all) i c e = account_marked q (map account_of all.items) i (account_of c) (slice_get-map account_of all.items i ∙ ap (option_map account_of) e)
+
+held_one : (p : ℕ) (sh : NodeShape) (k : Row) (h : Account → Account) (w : List Account) (o : Option (Vec AccountCode Global)) (i : ℕ) (c : AccountCode) → slice_get (held o) i ≡ Some c
+    → on_account (changed p sh k) (account_of c) ≡ h (account_of c) → 1 ≤ mark p (pure_row c.stored.items) → total p (account_rows (accounts_with (λ all. all) w o)) ≤ 1
+    → map (on_account (changed p sh k)) (accounts_with (λ all. all) w o) ≡ accounts_with (at_index i h) w o
+unfolding accounts_with
+held_one p sh k h w None i c e d one most = absurd (true≢false (ap is_there (sym e)))
+held_one p sh k h w (Some all) i c e d one most =
+    accounts_one p sh k h (map account_of all.items) i (account_of c) (slice_get-map account_of all.items i ∙ ap (option_map account_of) e) d one most
+
 contract_marked : (q : ℕ) (gs : List Contract) (n : ℕ) (x : Contract) → slice_get gs n ≡ Some x → mark q x.value ≤ total q (contract_rows gs)
 contract_marked q [] n x r = absurd (true≢false (ap is_there (sym r)))
 contract_marked q (y ∷ gs) zero x r = omega (arith, ap (λ (z : Contract). mark q z.value) (ap (or_else x) r))
@@ -121,7 +158,7 @@ call_changed w x p sh k h i f ready e d one =
     let least : total p (frame_rows (f ∷ [])) ≤ total p (frame_rows (reverse (map frame_of x.calls.items))) = frame_marked p (map frame_of x.calls.items) i f e in
     let a = frames_changed p sh k h (map frame_of x.calls.items) i f e (d (omega (arith, all, least))) one (omega (arith, all)) in
     let b : changed p sh k (pure_row x.making.items) ≡ pure_row x.making.items = unchanged p sh k (pure_row x.making.items) (omega (arith, all, least, one)) in
-    let c : map (on_account (changed p sh k)) w ≡ w = accounts_same p sh k w (omega (arith, all, least, one)) in
+    let c : map (on_account (changed p sh k)) (state_over w x).accounts ≡ (state_over w x).accounts = accounts_same p sh k (state_over w x).accounts (omega (arith, all, least, one)) in
     let v : map (on_contract (changed p sh k)) (map contract_of x.contracts.items) ≡ map contract_of x.contracts.items = contracts_same p sh k (map contract_of x.contracts.items) (omega (arith, all, least, one)) in
     λ j. record (state_over w x) { frames = a j; making = sym b j; accounts = sym c j; contracts = sym v j }
 
@@ -180,9 +217,24 @@ making_changed only w x p sh k ds f ready e d =
     let one : 1 ≤ mark p (pure_row x.making.items) = marked_by_way only p ds (pure_row x.making.items) f e d most in
     let a : map (on_frame (changed p sh k)) (reverse (map frame_of x.calls.items)) ≡ reverse (map frame_of x.calls.items) = frames_same p sh k (reverse (map frame_of x.calls.items)) (omega (arith, all, one)) in
     let b : exchanged ds sh k (pure_row x.making.items) ≡ changed p sh k (pure_row x.making.items) = by_way only p ds sh k (pure_row x.making.items) f e d most in
-    let c : map (on_account (changed p sh k)) w ≡ w = accounts_same p sh k w (omega (arith, all, one)) in
+    let c : map (on_account (changed p sh k)) (state_over w x).accounts ≡ (state_over w x).accounts = accounts_same p sh k (state_over w x).accounts (omega (arith, all, one)) in
     let v : map (on_contract (changed p sh k)) (map contract_of x.contracts.items) ≡ map contract_of x.contracts.items = contracts_same p sh k (map contract_of x.contracts.items) (omega (arith, all, one)) in
     λ j. record (state_over w x) { frames = sym a j; making = b j; accounts = sym c j; contracts = sym v j }
+
+pub stored_changed : IsTheNode → (w : List Account) (x : RunState) (p : ℕ) (sh : NodeShape) (k : Row) (ds : List ℕ) (i : ℕ) (c : AccountCode) (f : Found) → IsReady w x → slice_get (held x.accounts) i ≡ Some c
+    → node_at ds (pure_row c.stored.items) ≡ Some f → is_one_of p f.labels ≡ true → with_row (root.Stored i) (exchanged ds sh k) w x ≡ with_node p sh k (state_over w x)
+stored_changed only w x p sh k ds i c f ready q e d =
+    let all : whole p (state_over w x) ≤ 1 = once_whole p (state_over w x) ready.once in
+    let most : mark p (pure_row c.stored.items) ≤ 1 = row_mark w x (root.Stored i) p c.stored.items ready (ap (option_map (λ y. y.stored.items)) q) in
+    let one : 1 ≤ mark p (pure_row c.stored.items) = marked_by_way only p ds (pure_row c.stored.items) f e d most in
+    let inner : mark p (pure_row c.stored.items) ≤ total p (account_rows (state_over w x).accounts) = held_marked p w x.accounts i c q in
+    let by : exchanged ds sh k (pure_row c.stored.items) ≡ changed p sh k (pure_row c.stored.items) = by_way only p ds sh k (pure_row c.stored.items) f e d most in
+    let a : map (on_frame (changed p sh k)) (reverse (map frame_of x.calls.items)) ≡ reverse (map frame_of x.calls.items) = frames_same p sh k (reverse (map frame_of x.calls.items)) (omega (arith, all, one, inner)) in
+    let b : changed p sh k (pure_row x.making.items) ≡ pure_row x.making.items = unchanged p sh k (pure_row x.making.items) (omega (arith, all, one, inner)) in
+    let u : map (on_account (changed p sh k)) (state_over w x).accounts ≡ accounts_with (at_index i (in_stored (exchanged ds sh k))) w x.accounts =
+    held_one p sh k (in_stored (exchanged ds sh k)) w x.accounts i c q (λ j. record (account_of c) { stored = sym by j }) one (omega (arith, all)) in
+    let v : map (on_contract (changed p sh k)) (map contract_of x.contracts.items) ≡ map contract_of x.contracts.items = contracts_same p sh k (map contract_of x.contracts.items) (omega (arith, all, one, inner)) in
+    λ j. record (state_over w x) { frames = sym a j; making = sym b j; accounts = sym u j; contracts = sym v j }
 
 pub value_changed : IsTheNode → (w : List Account) (x : RunState) (p : ℕ) (sh : NodeShape) (k : Row) (ds : List ℕ) (i : ℕ) (c : ContractCode) (f : Found) → IsReady w x → slice_get x.contracts.items i ≡ Some c
     → node_at ds (pure_row c.value.items) ≡ Some f → is_one_of p f.labels ≡ true → with_row (root.Contract i) (exchanged ds sh k) w x ≡ with_node p sh k (state_over w x)
@@ -195,7 +247,7 @@ value_changed only w x p sh k ds i c f ready q e d =
     let by : exchanged ds sh k (pure_row c.value.items) ≡ changed p sh k (pure_row c.value.items) = by_way only p ds sh k (pure_row c.value.items) f e d most in
     let a : map (on_frame (changed p sh k)) (reverse (map frame_of x.calls.items)) ≡ reverse (map frame_of x.calls.items) = frames_same p sh k (reverse (map frame_of x.calls.items)) (omega (arith, all, one, inner)) in
     let b : changed p sh k (pure_row x.making.items) ≡ pure_row x.making.items = unchanged p sh k (pure_row x.making.items) (omega (arith, all, one, inner)) in
-    let u : map (on_account (changed p sh k)) w ≡ w = accounts_same p sh k w (omega (arith, all, one, inner)) in
+    let u : map (on_account (changed p sh k)) (state_over w x).accounts ≡ (state_over w x).accounts = accounts_same p sh k (state_over w x).accounts (omega (arith, all, one, inner)) in
     let v : map (on_contract (changed p sh k)) (map contract_of x.contracts.items) ≡ at_index i (in_value (exchanged ds sh k)) (map contract_of x.contracts.items) =
     contracts_one p sh k (in_value (exchanged ds sh k)) (map contract_of x.contracts.items) i (contract_of c) there (λ j. record (contract_of c) { value = sym by j }) one (omega (arith, all)) in
     λ j. record (state_over w x) { frames = sym a j; making = sym b j; accounts = sym u j; contracts = sym v j }

@@ -5,7 +5,7 @@ use Rattle.cad_world.specs.State as s
 use Rattle.cad_rows.specs.Views.{pure_row}
 use Rattle.cad_rows.specs.Ways.{node_at}
 use Rattle.cad_rows.specs.declared.tree.Place.{Place}
-use Rattle.cad_state.specs.Views.{state_over, frame_of, contract_of}
+use Rattle.cad_state.specs.Views.{state_over, accounts_with, held, frame_of, contract_of}
 use Rattle.cad_state.specs.declared.hints.Root.{Root}
 use Rattle.cad_state.specs.declared.hints.Root.TheVariants as root
 use Rattle.cad_state.specs.declared.hints.Way.{Way}
@@ -23,6 +23,7 @@ row_at (root.Variables i) x = option_map (λ c. c.variables.items) (slice_get x.
 row_at (root.Before i) x = option_map (λ c. c.before.items) (slice_get x.calls.items i)
 row_at (root.Result i) x = option_map (λ c. c.result.items) (slice_get x.calls.items i)
 row_at root.Making x = Some x.making.items
+row_at (root.Stored i) x = option_map (λ a. a.stored.items) (slice_get (held x.accounts) i)
 row_at (root.Contract i) x = option_map (λ c. c.value.items) (slice_get x.contracts.items i)
 
 -- the node at the end of a way from a row that may not be there
@@ -44,6 +45,9 @@ in_before g f = record f { before = g f.before }
 abbrev pub in_result : (Row → Row) → s.Frame → s.Frame
 in_result g f = record f { result = g f.result }
 
+abbrev pub in_stored : (Row → Row) → s.Account → s.Account
+in_stored g a = record a { stored = g a.stored }
+
 abbrev pub in_value : (Row → Row) → s.Contract → s.Contract
 in_value g c = record c { value = g c.value }
 
@@ -53,6 +57,7 @@ with_row (root.Variables i) g w x = record (state_over w x) { frames = reverse (
 with_row (root.Before i) g w x = record (state_over w x) { frames = reverse (at_index i (in_before g) (map frame_of x.calls.items)) }
 with_row (root.Result i) g w x = record (state_over w x) { frames = reverse (at_index i (in_result g) (map frame_of x.calls.items)) }
 with_row root.Making g w x = record (state_over w x) { making = g (pure_row x.making.items) }
+with_row (root.Stored i) g w x = record (state_over w x) { accounts = accounts_with (at_index i (in_stored g)) w x.accounts }
 with_row (root.Contract i) g w x = record (state_over w x) { contracts = at_index i (in_value g) (map contract_of x.contracts.items) }
 
 -- ---- by a label

@@ -1,5 +1,5 @@
 // The state of a run and its parts are let go.
-use crate::state::{Call, Contract, RunState};
+use crate::state::{Account, Call, Contract, RunState};
 use cad_declarations::Checked;
 use cad_discards::discard_checked;
 use cad_rows::{Place, Shape, discard_row, discard_shape};
@@ -50,10 +50,34 @@ pub fn discard_call(call: Call) {
 }
 
 /// Lets calls go.
-fn discard_calls(calls: Vec<Call>) {
+pub fn discard_calls(calls: Vec<Call>) {
     let mut left = calls;
     while let Some(call) = left.pop() {
         discard_call(call);
+    }
+    left.destroy_empty()
+}
+
+/// Lets an account go.
+pub fn discard_account(account: Account) {
+    let Account {
+        identifiers,
+        stored,
+        published,
+        controllers,
+        next_controller: _,
+    } = account;
+    drop(identifiers);
+    discard_row(stored);
+    drop(published);
+    drop(controllers)
+}
+
+/// Lets accounts go.
+pub fn discard_accounts(accounts: Vec<Account>) {
+    let mut left = accounts;
+    while let Some(account) = left.pop() {
+        discard_account(account);
     }
     left.destroy_empty()
 }
@@ -74,7 +98,7 @@ pub fn discard_contract(contract: Contract) {
 }
 
 /// Lets contracts go.
-fn discard_contracts(contracts: Vec<Contract>) {
+pub fn discard_contracts(contracts: Vec<Contract>) {
     let mut left = contracts;
     while let Some(contract) = left.pop() {
         discard_contract(contract);
@@ -87,6 +111,7 @@ pub fn discard_state(state: RunState) {
     let RunState {
         calls,
         making,
+        accounts,
         contracts,
         checked,
         events,
@@ -101,6 +126,10 @@ pub fn discard_state(state: RunState) {
     } = state;
     discard_calls(calls);
     discard_row(making);
+    match accounts {
+        Some(all) => discard_accounts(all),
+        None => {}
+    }
     discard_contracts(contracts);
     discard_shared(checked);
     discard_values(events);

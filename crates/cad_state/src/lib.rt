@@ -9,7 +9,8 @@ mod units;
 mod variables;
 
 pub use discard::{
-    discard_call, discard_contract, discard_shared, discard_state, discard_value, discard_values,
+    discard_account, discard_accounts, discard_call, discard_calls, discard_contract,
+    discard_contracts, discard_shared, discard_state, discard_value, discard_values,
 };
 pub use hints::{Hints, Root, Way};
-pub use state::{Call, Contract, RunState};
+pub use state::{Account, Call, Contract, Controller, Publication, RunState};

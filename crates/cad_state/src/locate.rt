@@ -1,10 +1,11 @@
 // Nodes of the state, found by their labels: the hint is tried first, then all rows.
-ghost use Rattle.std.specs.Prelude.{◌≡◌, ◌<◌, List, Some, None, IfOk, IfSome, MatchOption, map, reverse, option_map, vec_len};
+ghost use Rattle.std.specs.Prelude.{◌≡◌, ◌<◌, List, Some, None, IfOk, IfSome, MatchOption, length, map, reverse, option_map, vec_len};
 ghost use Rattle.cad_world.specs.Labels as spec;
 ghost use Rattle.cad_world.specs.State.{Account};
 ghost use Rattle.cad_rows.specs.Ways.{pure_node};
-ghost use Rattle.cad_state.specs.Views.{state_over, frame_of, contract_of, IsReady};
+ghost use Rattle.cad_state.specs.Views.{state_over, account_of, held, frame_of, contract_of, IsReady};
 ghost use Rattle.cad_state.specs.Ways as ways;
+ghost use Rattle.cad_state.specs.declared.hints.Root.TheVariants as root;
 
 use crate::hints::{Root, Way, hint_index};
 use crate::state::RunState;
@@ -13,6 +14,29 @@ use cad_rows::{Node, Place, holds_label, node_at, way_to};
 use std::alloc::AllocError;
 
 impl RunState {
+    /// How many accounts the run has.
+    fn account_count(&self) -> usize
+        ensures { result ≡ length (held self.now.accounts) }
+    {
+        match &self.accounts {
+            Some(all) => all.len(),
+            None => 0,
+        }
+    }
+
+    /// What the account with this number stores, the first 0.
+    fn stored_row(&self, i: usize) -> Option<&[Place]>
+        ensures { option_map (λ r. r.now) result ≡ ways.row_at (root.Stored i) self.now }
+    {
+        match &self.accounts {
+            Some(all) => match all.get(i) {
+                Some(account) => Some(account.stored.as_slice()),
+                None => None,
+            },
+            None => None,
+        }
+    }
+
     /// The places of a row.
     fn row(&self, root: Root) -> Option<&[Place]>
         ensures { option_map (λ r. r.now) result ≡ ways.row_at root self.now }
@@ -31,6 +55,7 @@ impl RunState {
                 None => None,
             },
             Root::Making => Some(self.making.as_slice()),
+            Root::Stored(i) => self.stored_row(i),
             Root::Contract(i) => match self.contracts.get(i) {
                 Some(contract) => Some(contract.value.as_slice()),
                 None => None,
@@ -39,7 +64,7 @@ impl RunState {
     }
 
     /// The node at the end of a way.
-    fn reach(&self, way: &Way) -> Option<Node<'_>>
+    pub fn reach(&self, way: &Way) -> Option<Node<'_>>
         ensures { option_map pure_node result ≡ ways.reached way.now.down.items (ways.row_at way.now.root self.now) }
     {
         match self.row(way.root) {
@@ -118,6 +143,19 @@ impl RunState {
         Ok(None)
     }
 
+    /// The way to the node with a label in what the accounts store.
+    #[tactic(auto, using(crate::proofs::Standing::accounts_turn, crate::proofs::Standing::accounts_end))]
+    fn way_in_accounts(&self, label: u64) -> Result<Option<Way>, AllocError>
+        ensures { IfOk result (λ o. MatchOption o (spec.found_in_accounts label (map account_of (held self.now.accounts)) ≡ None) (ways.Stands label self.now)) }
+    {
+        for i in 0..self.account_count() {
+            if let Some(way) = self.way_in_row(Root::Stored(i), label)? {
+                return Ok(Some(way));
+            }
+        }
+        Ok(None)
+    }
+
     /// The way to the node with a label in the values of all contracts.
     #[tactic(auto, using(crate::proofs::Standing::contracts_turn, crate::proofs::Standing::contracts_end))]
     fn way_in_contracts(&self, label: u64) -> Result<Option<Way>, AllocError>
@@ -140,6 +178,9 @@ impl RunState {
             return Ok(Some(way));
         }
         if let Some(way) = self.way_in_row(Root::Making, label)? {
+            return Ok(Some(way));
+        }
+        if let Some(way) = self.way_in_accounts(label)? {
             return Ok(Some(way));
         }
         match self.way_in_contracts(label)? {

@@ -2,7 +2,7 @@
 use crate::hints::Hints;
 use cad_declarations::Checked;
 use cad_rows::Place;
-use cad_syntax::{Bytes, Numbers, TypeId, TypeIds};
+use cad_syntax::{Bytes, CadType, Name, Numbers, TypeId, TypeIds};
 use cad_values::Value;
 use std::rc::Rc;
 
@@ -33,12 +33,48 @@ pub struct Contract {
     pub is_running: bool,
 }
 
-/// The state of a run, but for the accounts.
+/// The capability that is published under an identifier.
+#[derive(Debug, Drop)]
+pub struct Publication {
+    pub identifier: Name,
+    /// Its number in this account.
+    pub number: u64,
+    /// The type that it lends.
+    pub lent: CadType,
+}
+
+/// The controller of a capability.
+#[derive(Debug, Drop)]
+pub struct Controller {
+    pub number: u64,
+    /// The type that may be borrowed.
+    pub borrow: CadType,
+    pub tag: Bytes,
+    /// The identifier in storage.
+    pub target: Name,
+}
+
+/// An account where a program runs.
+pub struct Account {
+    /// The identifiers in storage in their order.
+    pub identifiers: Vec<Name>,
+    /// The values under them, one in each place.
+    pub stored: Vec<Place>,
+    /// In the order of identifiers.
+    pub published: Vec<Publication>,
+    /// In the order of numbers.
+    pub controllers: Vec<Controller>,
+    pub next_controller: u64,
+}
+
+/// The state of a run.
 pub struct RunState {
     /// The newest last.
     pub calls: Vec<Call>,
     /// What initializers make, the newest first; fields that aren't set are empty places.
     pub making: Vec<Place>,
+    /// By their addresses, from 1 on. None where the run doesn't have them: it leaves them as they are.
+    pub accounts: Option<Vec<Account>>,
     /// Those that were added stand last.
     pub contracts: Vec<Contract>,
     /// What runs.

@@ -34,6 +34,6 @@ cast_if kind type t false = refused kind
 abbrev pub cast_from : CastKind → PureType → PureType → Tree → Action Tree
 cast_from kind own type t = judged kind own type >>= cast_if kind type t
 
--- a cast of what isn't stored
+-- a cast by the own type
 abbrev pub own_cast : CastKind → PureType → Tree → Action Tree
 own_cast kind type t = with_type t (λ own. give own) >>= (λ own. cast_from kind own type t)

@@ -1,5 +1,5 @@
 -- What built-in members are used on, and what they do there.
-use Rattle.std.specs.Prelude.{Bool, true, false, if◌then◌else◌}
+use Rattle.std.specs.Prelude.{Bool, true, false, ◌||◌, if◌then◌else◌}
 use Rattle.cad_members.specs.declared.groups.AddressMember.TheVariants as a
 use Rattle.cad_members.specs.declared.groups.Called.{Called}
 use Rattle.cad_members.specs.declared.groups.Called.TheVariants as c
@@ -31,6 +31,52 @@ is_container m.DictionaryInsert = true
 is_container m.DictionaryRemove = true
 is_container _ = false
 
+-- a member of accounts, their storage or their contracts
+abbrev pub is_of_account : Builtin → Bool
+is_of_account m.AccountAddress = true
+is_of_account m.AccountStorage = true
+is_of_account m.AccountContracts = true
+is_of_account m.AccountCapabilities = true
+is_of_account m.StorageSave = true
+is_of_account m.StorageLoad = true
+is_of_account m.StorageCopy = true
+is_of_account m.StorageBorrow = true
+is_of_account m.StorageCheck = true
+is_of_account m.StorageType = true
+is_of_account m.ContractsAdd = true
+is_of_account m.ContractsUpdate = true
+is_of_account _ = false
+
+-- of capabilities
+abbrev pub is_of_capability : Builtin → Bool
+is_of_capability m.CapabilitiesGet = true
+is_of_capability m.CapabilitiesBorrow = true
+is_of_capability m.CapabilitiesExists = true
+is_of_capability m.CapabilitiesPublish = true
+is_of_capability m.CapabilitiesUnpublish = true
+is_of_capability m.CapabilitiesStorage = true
+is_of_capability m.StorageCapabilitiesIssue = true
+is_of_capability m.StorageCapabilitiesGetController = true
+is_of_capability m.CapabilityId = true
+is_of_capability m.CapabilityAddress = true
+is_of_capability m.CapabilityBorrow = true
+is_of_capability m.CapabilityCheck = true
+is_of_capability _ = false
+
+-- of controllers of capabilities
+abbrev pub is_of_controller : Builtin → Bool
+is_of_controller m.ControllerCapabilityId = true
+is_of_controller m.ControllerBorrowType = true
+is_of_controller m.ControllerTag = true
+is_of_controller m.ControllerSetTag = true
+is_of_controller m.ControllerTarget = true
+is_of_controller m.ControllerRetarget = true
+is_of_controller m.ControllerDelete = true
+is_of_controller _ = false
+
+abbrev pub is_service : Builtin → Bool
+is_service b = is_of_account b || is_of_capability b || is_of_controller b
+
 abbrev pub leaf_group : Builtin → Group
 leaf_group m.ArrayContains = g.Search
 leaf_group m.ArrayFirstIndex = g.Search
@@ -53,11 +99,12 @@ leaf_group m.IsInstance = g.Instance
 leaf_group m.TypeIdentifier = g.Identifier
 leaf_group m.EnumRawValue = g.RawValue
 leaf_group m.ResourceUuid = g.Identity
-leaf_group _ = g.Later
+leaf_group m.ResourceOwner = g.Owner
+leaf_group m.ContractAccount = g.Account
+leaf_group _ = g.Nothing
 
--- a member of a value; what wants accounts, and what is no such member, comes later
 abbrev pub group : Builtin → Group
-group b = if is_container b then g.Container else leaf_group b
+group b = if is_container b then g.Container else if is_service b then g.Service else leaf_group b
 
 -- a function, or a member of a type
 abbrev pub called : Builtin → Called

@@ -1,13 +1,15 @@
 -- Built-in members and functions by their groups.
-use Rattle.std.specs.Prelude.{ℕ, ◌+◌, ◌-◌, List, [], ◌∷◌, Option, Some, None, Bool, true, false}
+use Rattle.std.specs.Prelude.{ℕ, ◌+◌, ◌-◌, List, [], ◌∷◌, Option, Some, None, option_map, Bool, true, false}
+use Rattle.cad_evaluation.specs.Accounts.{any_account}
 use Rattle.cad_evaluation.specs.Arguments.{with_argument, with_arguments}
-use Rattle.cad_evaluation.specs.Builtins.{account_got, asserted, member, paid_for, plain_member, raw_value, type_member}
+use Rattle.cad_evaluation.specs.Builtins.{account_got, asserted, home, paid_for, plain_member, raw_value, read_account, read_owner, type_member}
 use Rattle.cad_evaluation.specs.Callees.{Calls, Front}
-use Rattle.cad_evaluation.specs.Casts.{instance_told, type_in_value, type_told, type_tree, with_type}
+use Rattle.cad_evaluation.specs.Casts.{instance_told, target_in, type_in_value, type_told, type_tree, with_type}
 use Rattle.cad_evaluation.specs.Containers.{void_tree}
 use Rattle.cad_evaluation.specs.Making.{case_from}
 use Rattle.cad_evaluation.specs.Numbers.{bool_tree, converted, greatest_tree, least_tree, on_numbers, saturating}
 use Rattle.cad_evaluation.specs.Reading.{read_uuid}
+use Rattle.cad_evaluation.specs.Services.{service}
 use Rattle.cad_evaluation.specs.Texts as texts
 use Rattle.cad_evaluation.specs.TypeTexts.{identifier}
 use Rattle.cad_members.specs.declared.groups.AddressMember.{AddressMember}
@@ -20,13 +22,20 @@ use Rattle.cad_members.specs.declared.groups.NumberMember.{NumberMember}
 use Rattle.cad_members.specs.declared.groups.NumberMember.TheVariants as n
 use Rattle.cad_members.specs.declared.groups.TextMember.{TextMember}
 use Rattle.cad_members.specs.declared.groups.TextMember.TheVariants as t
-use Rattle.cad_syntax.specs.Types.{PureType, declared}
+use Rattle.cad_members.specs.declared.types.Told.{Told}
+use Rattle.cad_members.specs.declared.types.Told.TheVariants as told
+use Rattle.cad_rows.specs.Views.{pure_tree}
+use Rattle.cad_syntax.specs.Types.{PureType, basic, declared, pure_type}
 use Rattle.cad_syntax.specs.declared.types.Authorization.{Authorization}
+use Rattle.cad_syntax.specs.declared.types.Authorization.TheVariants.{Unauthorized}
+use Rattle.cad_syntax.specs.declared.types.Basic.TheVariants as b
 use Rattle.cad_syntax.specs.declared.address.Address.{Address}
 use Rattle.cad_syntax.specs.declared.type_id.TypeId.{TypeId}
 use Rattle.cad_types.specs.Below.{below}
 use Rattle.cad_types.specs.declared.builtin.Builtin.{Builtin}
 use Rattle.cad_types.specs.declared.builtin.Builtin.TheVariants as m
+use Rattle.cad_values.specs.Values.{PureValue, reference}
+use Rattle.cad_values.specs.declared.value.Target.TheVariants as to
 use Rattle.cad_world.specs.Declared.{declarations}
 use Rattle.cad_world.specs.Receivers.{Spot}
 use Rattle.cad_world.specs.Rows.{Row, stop, Tree}
@@ -80,13 +89,35 @@ is_met spot = met_so spot.label spot.rights
 abbrev pub leaf_of : Tree → Tree
 leaf_of t = record { optionals = t.optionals; shape = t.shape; parts = stop }
 
-abbrev pub unless_met : Bool → Tree → Option Tree
-unless_met true t = None
-unless_met false t = Some t
+-- what the type of a receiver is told by
+pub data PureTold : Type 0 where
+  -- a copy of it without its parts
+  by_copy : Tree → PureTold
+  -- the type that a reference names
+  by_name : PureType → PureTold
+  by_nothing : PureTold
 
--- what its type is told by, where it is no account, no part of one and no controller
-abbrev pub told_by : Spot → Option Tree
-told_by spot = unless_met (is_met spot) (leaf_of spot.tree)
+abbrev pub told_of : Told → PureTold
+told_of (told.Copy t) = by_copy (pure_tree t)
+told_of (told.Named type) = by_name (pure_type type)
+told_of told.Nothing = by_nothing
+
+abbrev pub named : Option PureType → PureTold
+named (Some type) = by_name type
+named None = by_nothing
+
+abbrev pub told_if : Bool → Tree → PureTold
+told_if true t = named (target_in t.shape)
+told_if false t = by_copy (leaf_of t)
+
+abbrev pub told_by : Spot → PureTold
+told_by spot = told_if (is_met spot) spot.tree
+
+-- with the type that is told, 113 where there is none
+abbrev pub with_told : PureTold → (PureType → Action Tree) → Action Tree
+with_told (by_copy t) f = with_type t f
+with_told (by_name type) f = f type
+with_told by_nothing f = fail 113
 
 -- whether what is of the second type is of the first
 abbrev pub instance_of : PureType → PureType → Action Tree
@@ -96,9 +127,9 @@ instance_of wanted own = λ s. give (bool_tree (below (declarations s) own wante
 abbrev pub type_of : Tree → Action Tree
 type_of t = with_type t (λ own. give (type_tree own))
 
--- whether a value is of the type that the argument is
-abbrev pub instance_by : Row → Tree → Action Tree
-instance_by r t = with_argument r (λ given. with_some (texts.in_tree type_in_value given) (λ type. with_type t (instance_of type)))
+-- whether what is told is of the type that the argument is
+abbrev pub instance_by : Row → PureTold → Action Tree
+instance_by r t = with_argument r (λ given. with_some (texts.in_tree type_in_value given) (λ type. with_told t (instance_of type)))
 
 -- what a search through it costs beside its result
 abbrev pub search_cost : Spot → Action ℕ
@@ -111,12 +142,26 @@ spot_member g.Instance spot r = with_argument r (instance_told spot)
 spot_member g.RawValue spot r = raw_value spot
 spot_member x spot r = leaf_member x spot.tree r
 
+-- with the charge, of what changes nothing
+abbrev pub read_by : Spot → Row → Group → Action Tree
+read_by spot r g.Identity = read_uuid spot
+read_by spot r g.Owner = read_owner spot
+read_by spot r g.Account = read_account spot
+read_by spot r x = paid_for 0 (spot_member x spot r)
+
 abbrev pub by_group : Front → Calls → Builtin → List PureType → Spot → Row → Group → Action Tree
-by_group front calls b types spot r g.Later = member front calls b types spot r
-by_group front calls b types spot r g.Identity = read_uuid spot
+by_group front calls b types spot r g.Service = service front calls b types spot r
 by_group front calls b types spot r g.Search = paid_for (row_weight spot.tree.parts) (plain_member b spot r)
 by_group front calls b types spot r g.Container = paid_for 0 (plain_member b spot r)
-by_group front calls b types spot r x = paid_for 0 (spot_member x spot r)
+by_group front calls b types spot r x = read_by spot r x
+
+-- ---- accounts
+
+abbrev pub any_account_value : Address → PureValue
+any_account_value a = reference Unauthorized (basic b.Account) (to.Account a)
+
+abbrev pub owner_of : ℕ → Action Tree
+owner_of l = λ s. give (texts.optional_tree (option_map any_account (home s l))) s
 
 -- ---- functions
 

@@ -10,6 +10,6 @@ use Rattle.cad_casts.proofs.own_types.settle_type.Goals as goal
 
 pub returns-in-Some : goal.returns-in-Some
 returns-in-Some c =
-    find_same no_value (settled (pure_shape c.args.shape.now)) (with_found c.in-Some.label (λ f. done)) c.args.state.now c.find.new.state c.find.result
+    find_same no_value (settled (pure_shape c.args.shape.now)) (with_found c.in-Some.label (λ f. done)) c.args.state.now c.find_node.new.state c.find_node.result
     (λ w ready. settled_some (pure_shape c.args.shape.now) c.in-Some.label (state_over w c.args.state.now) c.in-Some.ensures)
-    c.find.ensures
+    c.find_node.ensures

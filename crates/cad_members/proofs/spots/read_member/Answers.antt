@@ -1,13 +1,20 @@
-use Rattle.cad_members.proofs.Looks.{settled_stops, settled_then}
+use Rattle.std.proofs.Common.{subst, sym}
 use Rattle.cad_members.specs.Code.Members.{spot_member}
-use Rattle.cad_receivers.specs.Views.{receiver_of}
+use Rattle.cad_members.specs.declared.groups.Group.{Group}
+use Rattle.cad_receivers.specs.Views.{at_spot, settled_of}
 use Rattle.cad_rows.specs.Views.{pure_row, pure_tree}
-use Rattle.cad_world.specs.Receivers.{look_at}
-use Rattle.cad_world.specs.State.{◌>>=◌}
+use Rattle.cad_state.specs.Views.{FindsAndCarriesOut}
 use Rattle.cad_members.proofs.spots.read_member.Goals as goal
 
-pub returns-in-Ok : goal.returns-in-Ok
-returns-in-Ok c = settled_then pure_tree ((look_at (receiver_of c.args.receiver.now)) >>= (λ spot. spot_member c.args.group spot (pure_row c.args.row.now))) c.args.state.now c.settle_receiver.new.state c.read_settled.new.state c.read_settled.result c.settle_receiver.ensures.same c.read_settled.ensures
+pub returns-in-OwnType : goal.returns-in-OwnType
+returns-in-OwnType c =
+    subst (λ (k : Group). FindsAndCarriesOut pure_tree (at_spot (settled_of c.args.receiver) (λ spot. spot_member k spot (pure_row c.args.row.now))) c.args.state.now c.type_at.new.state c.type_at.result)
+    (sym c.in-OwnType.is) c.type_at.ensures
 
-pub returns-in-Err : goal.returns-in-Err
-returns-in-Err c = settled_stops pure_tree (look_at (receiver_of c.args.receiver.now)) (λ spot. spot_member c.args.group spot (pure_row c.args.row.now)) c.args.state.now c.settle_receiver.new.state c.settle_receiver.new.state c.in-Err.stop c.in-Err.ensures.action
+pub returns-in-Instance : goal.returns-in-Instance
+returns-in-Instance c =
+    subst (λ (k : Group). FindsAndCarriesOut pure_tree (at_spot (settled_of c.args.receiver) (λ spot. spot_member k spot (pure_row c.args.row.now))) c.args.state.now c.instance_at.new.state c.instance_at.result)
+    (sym c.in-Instance.is) c.instance_at.ensures
+
+pub returns-in_default : goal.returns-in_default
+returns-in_default c = c.member_here.ensures c.in_default.not-OwnType c.in_default.not-Instance

@@ -1,7 +1,7 @@
 use Rattle.cad_receivers.proofs.looks.look.Goals as goal
 
 pub returns-in-Standing : goal.returns-in-Standing
-returns-in-Standing c = rw (c.in-Standing.is, ← c.lent_rights.ensures) c.spot_at.ensures
+returns-in-Standing c = rw c.in-Standing.is c.spot_at.ensures
 
 pub returns-in-Through : goal.returns-in-Through
 returns-in-Through c = rw c.in-Through.is c.deref.ensures

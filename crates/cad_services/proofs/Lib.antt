@@ -1,0 +1,4 @@
+pub mod AccountLaws
+pub mod ControllerLaws
+pub mod GroupLaws
+pub mod Telling

@@ -1,0 +1,4 @@
+pub mod ArgumentLaws
+pub mod Steps
+pub mod StorageLaws
+pub mod TypeLaws

@@ -1,0 +1,23 @@
+use Rattle.cad_outcomes.specs.Outcomes.{no_value}
+use Rattle.cad_rows.specs.Views.{pure_tree}
+use Rattle.cad_state.specs.Views.{state_over}
+use Rattle.cad_storage.proofs.Steps.{ends, goes_on}
+use Rattle.cad_storage.proofs.StorageLaws.{paid_by_steps}
+use Rattle.cad_storage.specs.Code.{at_stored, of_full, paid_and_taken, slot_parts, taken}
+use Rattle.cad_world.specs.State.{spend}
+use Rattle.cad_storage.proofs.loads.pay_and_take.Goals as goal
+
+pub returns-in-Ok : goal.returns-in-Ok
+returns-in-Ok c = λ w.
+    let s = state_over w c.args.state.now in
+    let a = c.args.address in
+    let n = c.args.name.now in
+    goes_on no_value pure_tree (at_stored (of_full (paid_and_taken a n)) a n) (at_stored (λ slot. spend (slot_parts slot)) a n) (λ _. at_stored (of_full (taken a n)) a n) tt s (state_over w c.pay_stored.new.state) (state_over w c.take.new.state) c.take.result
+    (paid_by_steps (taken a n) a n s) (c.in-Ok.ensures w) (c.take.ensures w)
+
+pub returns-in-Err : goal.returns-in-Err
+returns-in-Err c = λ w.
+    let s = state_over w c.args.state.now in
+    let a = c.args.address in
+    let n = c.args.name.now in
+    ends (at_stored (of_full (paid_and_taken a n)) a n) (at_stored (λ slot. spend (slot_parts slot)) a n) (λ _. at_stored (of_full (taken a n)) a n) s c.in-Err.stop (paid_by_steps (taken a n) a n s) (c.in-Err.ensures w)
