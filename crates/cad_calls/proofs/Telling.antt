@@ -12,7 +12,7 @@ use Rattle.cad_evaluation.specs.Ending.{event_of}
 use Rattle.cad_evaluation.specs.Evaluation.{defaults, destroyed_body, destroying_nothing, event_made, looked, looking}
 use Rattle.cad_evaluation.specs.Terms.{eval, eval_arguments}
 use Rattle.cad_evaluation.specs.Uses.{before}
-use Rattle.cad_expressions.specs.Views.{items_row}
+use Rattle.cad_execution.specs.Passed.{items_row}
 use Rattle.cad_function_sources.specs.Sources.{bodies_in}
 use Rattle.cad_function_sources.specs.declared.sources.Source.{Source}
 use Rattle.cad_labels.specs.Laws.{AnyOne}

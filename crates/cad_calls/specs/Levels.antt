@@ -4,8 +4,8 @@ use Rattle.std.specs.Global.{Vec}
 use denote.Ref.{Bor, MutBor}
 use Rattle.cad_evaluation.specs.Callees.{Front}
 use Rattle.cad_evaluation.specs.Evaluation.{calls_to}
-use Rattle.cad_expressions.specs.Views.{callee_of}
-use Rattle.cad_expressions.specs.declared.callees.Callee.{Callee}
+use Rattle.cad_execution.specs.Passed.{callee_of}
+use Rattle.cad_execution.specs.Passed.{Callee}
 use Rattle.cad_label_runs.proofs.Evaluation.{calls_keep}
 use Rattle.cad_labels.specs.Laws.{CalleesKeep}
 use Rattle.cad_outcomes.specs.declared.stop.Stop.{Stop}

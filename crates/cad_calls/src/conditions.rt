@@ -9,8 +9,7 @@ ghost use Rattle.cad_rows.specs.Views.{pure_tree};
 ghost use Rattle.cad_state.specs.Views.{FindsAndCarriesOut};
 
 use cad_declarations::{Argument, Term, TypedBefore, TypedCondition};
-use cad_execution::emit_event;
-use cad_expressions::{Callees, eval};
+use cad_execution::{Callees, emit_event, eval};
 use cad_making::keep_before;
 use cad_operators::truth_in;
 use cad_outcomes::{RunError, Stop};
@@ -152,8 +151,8 @@ fn condition<C: Callees>(
     }
 }
 
-/// Conditions in their order.
-pub fn conditions<C: Callees>(
+/// Conditions in their order, each after a unit. Errors are those of what they evaluate, and 108 where one doesn't hold.
+pub fn test_conditions<C: Callees>(
     all: &[TypedCondition],
     callees: &C,
     state: &mut RunState,
@@ -181,7 +180,7 @@ fn keep_value<C: Callees>(value: &Term, callees: &C, state: &mut RunState) -> Re
     }
 }
 
-/// The values of `before` are kept, in their order.
+/// The values of `before` are kept, in their order. Errors are those of their evaluation.
 pub fn keep_values<C: Callees>(
     all: &[TypedBefore],
     callees: &C,

@@ -4,12 +4,12 @@ ghost use Rattle.cad_calls.specs.Code.Parts as parts;
 ghost use Rattle.cad_calls.specs.Pieces.{event_in};
 ghost use Rattle.cad_declarations.specs.Views.{destroyed_of};
 ghost use Rattle.cad_evaluation.specs.Evaluation.{destroying_nothing, event_made};
-ghost use Rattle.cad_expressions.specs.Views.{items_row};
+ghost use Rattle.cad_execution.specs.Passed.{items_row};
 ghost use Rattle.cad_rows.specs.Views.{pure_tree};
 ghost use Rattle.cad_state.specs.Views.{CarriesOut, FindsAndCarriesOut};
 
 use cad_declarations::DestroyedEvent;
-use cad_expressions::{Callees, Quiet, eval_arguments};
+use cad_execution::{Callees, Quiet, eval_arguments};
 use cad_function_sources::{Source, destroyed_event, discard_own, source_of};
 use cad_making::{event, look_in, look_out};
 use cad_outcomes::Stop;

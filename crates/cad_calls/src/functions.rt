@@ -17,8 +17,7 @@ ghost use Rattle.cad_world.specs.State.{with_some};
 
 use crate::pieces::{keep_before_all, move_into, postconditions, preconditions};
 use cad_declarations::TypedBlock;
-use cad_execution::{Flow, exec_block};
-use cad_expressions::Callees;
+use cad_execution::{Callees, Flow, exec_block};
 use cad_function_sources::Piece;
 use cad_making::{enter, leave, put_result, take_result};
 use cad_operators::plain_tree;
@@ -47,7 +46,7 @@ fn gives_void(piece: Piece<'_>) -> bool
 }
 
 /// What a function gives whose body ended so; IllTyped where it should have returned a value.
-fn value_of_flow(alloc: Global, void: bool, flow: Flow) -> Result<Tree, Stop>
+pub fn value_of_flow(alloc: Global, void: bool, flow: Flow) -> Result<Tree, Stop>
     ensures { (type : PureType) → void ≡ spec.is_void type → Gives pure_tree (spec.value_of_flow type (flow_of flow)) result }
 {
     match flow {

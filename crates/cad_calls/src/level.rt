@@ -4,9 +4,9 @@ ghost use Rattle.cad_access.specs.RunContracts.{run_of};
 ghost use Rattle.cad_calls.specs.Pieces.{initializer_in, maybe_piece, own_of};
 ghost use Rattle.cad_declarations.specs.Views.{member_body_of};
 ghost use Rattle.cad_evaluation.specs.Bodies as spec;
-ghost use Rattle.cad_evaluation.specs.Callees.{Front, function, initializer, method};
+ghost use Rattle.cad_evaluation.specs.Callees.{function, initializer, method};
 ghost use Rattle.cad_evaluation.specs.Evaluation as evaluation;
-ghost use Rattle.cad_expressions.specs.Views.{callee_of};
+ghost use Rattle.cad_execution.specs.Passed.{callee_of};
 ghost use Rattle.cad_function_sources.specs.Sources as view;
 ghost use Rattle.cad_labels.specs.Laws.{HasNoneInRow};
 ghost use Rattle.cad_rows.specs.Views.{pure_row, pure_tree};
@@ -18,15 +18,17 @@ use crate::functions::{Own, run};
 use crate::unlabelled::is_unnamed;
 use cad_access::function_in;
 use cad_declarations::{Checked, TypedMember};
-use cad_expressions::{Callee, Callees};
+use cad_discards::hold;
+use cad_execution::{Callee, Callees};
 use cad_function_sources::{
     Piece, Source, discard_own, discard_sources, initializer_piece, interface_sources, piece_of,
     pieces_of, source_of,
 };
+use cad_installations::{FrontEnd, Initializers, add};
 use cad_outcomes::Stop;
 use cad_rows::{Place, Tree, discard_row};
 use cad_state::{RunState, discard_shared};
-use cad_syntax::{Name, TypeId};
+use cad_syntax::{Address, Name, TypeId};
 
 /// A function as its own type declares it.
 fn own_piece<'s>(own: &'s Option<Source>, name: &Name) -> Option<Piece<'s>>
@@ -244,7 +246,7 @@ fn call_function<C: Callees>(
     requires { C.is_ready callees.now }
     ensures { HasNoneInRow (pure_row arguments.items) → FindsAndCarriesOut pure_tree (evaluation.called (C.front callees.now) (C.calls callees.now) turns (function name.now) (pure_row arguments.items)) state.old state.new result }
 {
-    match state.checked.clone() {
+    match hold(&state.checked) {
         Ok(checked) => {
             let result = run_function(&checked, name, arguments, turns, callees, state);
             discard_shared(checked);
@@ -283,12 +285,6 @@ pub fn call_at<C: Callees>(
     }
 }
 
-/// The front end by which contracts are added.
-pub trait FrontEnd {
-    /// What it answers.
-    ghost front: { Self → Front };
-}
-
 /// Calls that are nested at most so deep, with at most so many turns of each loop.
 #[derive(Clone, Copy, Drop)]
 pub struct Level<'e, E, F> {
@@ -319,7 +315,39 @@ impl<
         (self.run)(self.fuel, self.end, state, callee, arguments)
     }
 
+    fn add(
+        &self,
+        state: &mut RunState,
+        address: Address,
+        arguments: Vec<Place>,
+    ) -> Result<Tree, Stop> {
+        add(self.end, self, address, arguments, state)
+    }
+
     ghost keeps = { λ l. level_keeps (E.front l.end.now) l.fuel };
+}
+
+impl<
+    E: FrontEnd,
+    F: Fn(u64, &E, &mut RunState, Callee<'_>, Vec<Place>) -> Result<Tree, Stop>,
+> Initializers for Level<'_, E, F> {
+    ghost use Rattle.cad_calls.specs.Levels.{Nests};
+    ghost use Rattle.cad_evaluation.specs.Evaluation.{calls_to};
+
+    ghost calls = { λ l. calls_to (E.front l.end.now) l.fuel };
+
+    ghost is_ready = { λ l. Nests E.front l.end l.fuel (F.pre l.run) (F.post l.run) };
+
+    fn initialize(
+        &self,
+        state: &mut RunState,
+        of: &TypeId,
+        label: u64,
+        arguments: Vec<Place>,
+    ) -> Result<Tree, Stop> {
+        let initializer = Callee::Initializer { of, label };
+        (self.run)(self.fuel, self.end, state, initializer, arguments)
+    }
 }
 
 /// Calls, nested at most so deep: Limit beyond. Errors are those of what is called. No memory of arguments of which a node

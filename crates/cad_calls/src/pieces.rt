@@ -9,9 +9,9 @@ ghost use Rattle.cad_outcomes.specs.Outcomes.{no_value};
 ghost use Rattle.cad_state.specs.Views.{CarriesOut, FindsAndCarriesOut};
 ghost use Rattle.cad_syntax.specs.Types.{pure_type};
 
-use crate::conditions::{conditions, keep_values};
+use crate::conditions::{keep_values, test_conditions};
 use cad_declarations::{TypedFunction, Variable};
-use cad_expressions::Callees;
+use cad_execution::Callees;
 use cad_function_sources::Piece;
 use cad_making::{end_variables, move_to, pass_before, result_value};
 use cad_outcomes::Stop;
@@ -48,7 +48,7 @@ fn test_before<C: Callees>(
     requires { C.is_ready callees.now }
     ensures { FindsAndCarriesOut no_value (spec.all_tested (C.front callees.now) (C.calls callees.now) (function_of function.now).pre) state.old state.new result }
 {
-    conditions(function.pre.as_slice(), callees, state)
+    test_conditions(function.pre.as_slice(), callees, state)
 }
 
 /// The values of `before` of a function are kept.
@@ -79,7 +79,7 @@ fn test_plain<C: Callees>(
     requires { C.is_ready callees.now }
     ensures { FindsAndCarriesOut no_value (spec.all_tested (C.front callees.now) (C.calls callees.now) (function_of function.now).post) state.old state.new result }
 {
-    conditions(function.post.as_slice(), callees, state)
+    test_conditions(function.post.as_slice(), callees, state)
 }
 
 /// The preconditions of a declaration.

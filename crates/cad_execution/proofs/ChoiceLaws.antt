@@ -13,15 +13,15 @@ use Rattle.cad_execution.proofs.Steps.{Fails, FailsAnyhow, both, both_any, both_
 use Rattle.cad_execution.specs.Code.Parts as parts
 use Rattle.cad_expressions.specs.Views.{items_row}
 use Rattle.cad_labels.specs.Laws.{AnyOne, CalleesKeep}
-use Rattle.cad_members.specs.Optionals.{content_or_none}
+use Rattle.cad_expressions.specs.Passed.{content_or_none}
 use Rattle.cad_outcomes.specs.Outcomes.{Stops, Gives, no_value}
 use Rattle.cad_outcomes.specs.declared.stop.Stop.{Stop}
 use Rattle.cad_rows.specs.Views.{pure_tree}
 use Rattle.cad_rows.specs.declared.tree.Tree.{Tree}
 use Rattle.cad_rows.specs.declared.tree.Place.{Place}
-use Rattle.cad_standing.specs.CastPlaces.{cast_place}
-use Rattle.cad_standing.specs.Views.{standing_of}
-use Rattle.cad_standing.specs.declared.standing.Standing.{Standing}
+use Rattle.cad_expressions.specs.Passed.{cast_place}
+use Rattle.cad_expressions.specs.Passed.{standing_of}
+use Rattle.cad_expressions.specs.Passed.{Standing}
 use Rattle.cad_state.specs.Views.{state_over, CarriesOut, FindsAndCarriesOut}
 use Rattle.cad_state.specs.declared.state.RunState.{RunState}
 use Rattle.cad_world.specs.Locations.{variable}

@@ -28,8 +28,8 @@ use Rattle.cad_outcomes.specs.Outcomes.{no_value}
 use Rattle.cad_outcomes.specs.declared.stop.Stop.{Stop}
 use Rattle.cad_rows.specs.Views.{pure_tree}
 use Rattle.cad_rows.specs.declared.tree.Tree as held
-use Rattle.cad_standing.proofs.CastLaws.{casts_first}
-use Rattle.cad_standing.specs.CastPlaces.{cast_place, if_cast}
+use Rattle.cad_expressions.proofs.Passed.{casts_first}
+use Rattle.cad_expressions.specs.Passed.{cast_place, if_cast}
 use Rattle.cad_outcomes.proofs.Steps.{stops_same}
 use Rattle.cad_state.proofs.Finding.{find_then, find_same}
 use Rattle.cad_state.specs.Views.{state_over, CarriesOut, FindsAndCarriesOut}

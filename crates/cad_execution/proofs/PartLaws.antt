@@ -25,8 +25,8 @@ use Rattle.cad_rows.specs.Views.{pure_tree, pure_row}
 use Rattle.cad_rows.specs.declared.tree.Tree.{Tree}
 use Rattle.cad_rows.specs.declared.tree.Place.{Place}
 use Rattle.std.specs.Global.{Vec}
-use Rattle.cad_standing.specs.Views.{standing_of}
-use Rattle.cad_standing.specs.declared.standing.Standing.{Standing}
+use Rattle.cad_expressions.specs.Passed.{standing_of}
+use Rattle.cad_expressions.specs.Passed.{Standing}
 use Rattle.cad_state.specs.Views.{state_over, CarriesOut, FindsAndCarriesOut}
 use Rattle.cad_state.specs.declared.state.RunState.{RunState}
 use Rattle.cad_world.specs.Rows as rows

@@ -1,3 +1,4 @@
 pub mod Code
 pub mod Values
 pub mod Views
+pub mod Passed

@@ -11,14 +11,11 @@ ghost use Rattle.cad_syntax.specs.Types.{pure_type};
 
 use crate::leaves::{first_come, first_value, is_case, truth};
 use crate::places::first_place;
-use cad_containers::elements;
 use cad_declarations::{Argument, Place, Term};
-use cad_expressions::{Callees, eval};
-use cad_members::open;
+use cad_expressions::{Callees, cast_place, elements, eval, open};
 use cad_operators::nil_tree;
 use cad_outcomes::Stop;
 use cad_rows::Tree;
-use cad_standing::cast_place;
 use cad_state::RunState;
 use cad_syntax::CadType;
 

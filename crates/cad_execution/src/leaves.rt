@@ -9,15 +9,14 @@ ghost use Rattle.cad_execution.specs.Values as values;
 ghost use Rattle.cad_locations.specs.Views.{location_of};
 ghost use Rattle.cad_outcomes.specs.Outcomes.{Gives, no_value};
 ghost use Rattle.cad_rows.specs.Views.{pure_row, pure_tree};
-ghost use Rattle.cad_standing.specs.Views.{standing_of};
+ghost use Rattle.cad_expressions.specs.Passed.{standing_of};
 ghost use Rattle.cad_state.specs.Views.{CarriesOut, FindsAndCarriesOut};
 ghost use Rattle.cad_syntax.specs.Types.{pure_type};
 
 use cad_declarations::{Argument, Place, Term};
-use cad_expressions::{Callees, eval, eval_arguments};
+use cad_expressions::{Callees, compared, eval, eval_arguments};
 use cad_locations::Location;
 use cad_making::{emit, event};
-use cad_members::compared;
 use cad_operators::{same, truth_in};
 use cad_outcomes::Stop;
 use cad_rows::{Tree, discard_row, discard_tree};

@@ -12,3 +12,6 @@ mod statements;
 pub use flow::{Flow, discard_flow};
 pub use leaves::{come, emit_event, truth};
 pub use statements::exec_block;
+
+// What the crates above use of the ones below.
+pub use cad_expressions::{Callee, Callees, Quiet, eval, eval_arguments};

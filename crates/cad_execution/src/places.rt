@@ -3,14 +3,13 @@ ghost use Rattle.std.specs.Prelude.{Bool};
 ghost use Rattle.cad_declarations.specs.Views.{place_of};
 ghost use Rattle.cad_execution.specs.Code.Parts as parts;
 ghost use Rattle.cad_locations.specs.Views.{location_of};
-ghost use Rattle.cad_standing.specs.Views.{standing_of};
+ghost use Rattle.cad_expressions.specs.Passed.{standing_of};
 ghost use Rattle.cad_state.specs.Views.{FindsAndCarriesOut};
 
 use cad_declarations::Place;
-use cad_expressions::{Callees, eval_place};
+use cad_expressions::{Callees, Standing, eval_place, location};
 use cad_locations::Location;
 use cad_outcomes::Stop;
-use cad_standing::{Standing, location};
 use cad_state::RunState;
 
 /// What a place leads to, after the unit of its statement. Errors are those of the place.

@@ -20,7 +20,7 @@ use Rattle.cad_declarations.specs.declared.term.Place.{Place}
 use Rattle.cad_declarations.specs.declared.term.Place.TheVariants as place
 use Rattle.cad_declarations.specs.declared.term.Use.{Use}
 use Rattle.cad_declarations.specs.declared.term.Use.TheVariants as usage
-use Rattle.cad_containers.specs.declared.literals.Pair.{Pair}
+use Rattle.cad_members.specs.Passed.{Pair}
 use Rattle.cad_evaluation.specs.Builtins.{may_use}
 use Rattle.cad_evaluation.specs.Callees.{Calls, Front}
 use Rattle.cad_evaluation.specs.Casts.{cast}

@@ -1,3 +1,4 @@
+pub mod Adding
 pub mod Arms
 pub mod Calls
 pub mod Destroying
@@ -10,3 +11,4 @@ pub mod Seconds
 pub mod Standings
 pub mod Trees
 pub mod Turns
+pub mod Passed

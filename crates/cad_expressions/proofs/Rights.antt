@@ -1,5 +1,5 @@
 -- What is met through a receiver is met with the rights of the receiver, so whether it may be used is known before it is looked at.
-use Rattle.std.proofs.Common.{◌≡◌, ℕ, Bool, true, false, [], Option, Some, None, Result, Ok, Err, ap, refl, sym, ◌∙◌, subst}
+use Rattle.std.proofs.Common.{◌≡◌, ℕ, Bool, true, false, [], Option, Some, None, Result, ap, refl, sym, ◌∙◌, subst}
 use Rattle.std.specs.Option.{is_some}
 use Rattle.cad_syntax.specs.Types.{PureType}
 use Rattle.cad_syntax.specs.declared.types.Authorization.{Authorization}
@@ -14,9 +14,6 @@ use Rattle.cad_evaluation.specs.Access.{has_right}
 use Rattle.cad_evaluation.specs.Builtins.{member}
 use Rattle.cad_evaluation.specs.Callees.{Calls, Front}
 use Rattle.cad_outcomes.specs.declared.stop.Stop.{Stop}
-use Rattle.cad_outcomes.specs.declared.stop.Stop.TheVariants.{IllTyped}
-use Rattle.cad_outcomes.specs.Outcomes.{no_value}
-use Rattle.cad_receivers.specs.Views.{found}
 use Rattle.cad_rows.specs.Views.{pure_tree}
 use Rattle.cad_rows.specs.declared.tree.Tree as code
 use Rattle.cad_state.specs.Views.{state_over, FindsAndCarriesOut}
@@ -28,7 +25,7 @@ use Rattle.cad_world.specs.Locations.{Location, stored, name}
 use Rattle.cad_world.specs.OwnTypes.{own_type, controller_at}
 use Rattle.cad_world.specs.Receivers.{Receiver, standing, through, absent, Spot, spot_at, stored_spot, spot_by, plain_spot, deref, look_at}
 use Rattle.cad_world.specs.Rows.{NodeShape, plain, link, array, dictionary, composite, Row, stop, Tree, Slot, out, free, full, Found}
-use Rattle.cad_world.specs.State.{State, Outcome, ok, failed, limit, ill, bind, Action, ◌>>=◌, done, give, guard, require, or_fail, stuck}
+use Rattle.cad_world.specs.State.{State, Outcome, ok, failed, limit, ill, bind, Action, ◌>>=◌, give, guard, require, or_fail}
 use Rattle.cad_expressions.specs.Code.Rights.{rights_in_value, rights_in, rights_of, read_if, refused}
 use Rattle.cad_expressions.specs.Code.Steps.{member_read}
 
@@ -132,14 +129,3 @@ module _ (front : Front) (calls : Calls) (b : Builtin) (r : Receiver) where
       → FindsAndCarriesOut pure_tree (refused r) x z res → FindsAndCarriesOut pure_tree (member_read front calls b r) x z res
   unfolding read_if
   read_refused may x z res is told h = read_as may false x z res is told h
-
-no_spot : (o : Outcome Spot) (t : State) → bind o (λ spot. done) ≡ ok tt t → bind {B = Tree} o (λ spot. stuck) ≡ ill
-no_spot (ok spot s) t e = refl
-no_spot (failed n) t e = cc
-no_spot limit t e = cc
-no_spot ill t e = refl
-
--- what is there, and may not be used
-pub ill_there : (r : Receiver) (x y : RunState) → FindsAndCarriesOut {B = Unit {0}} no_value (found (look_at r)) x y (Ok tt)
-    → FindsAndCarriesOut {B = code.Tree} pure_tree (refused r) x y (Err IllTyped)
-ill_there r x y h w ready = no_spot (look_at r (state_over w x)) (state_over w y) (h w ready)

@@ -2,3 +2,4 @@ pub mod Code
 pub mod EventCalls
 pub mod Nests
 pub mod Views
+pub mod Passed

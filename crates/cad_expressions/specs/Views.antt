@@ -8,8 +8,8 @@ use Rattle.cad_world.specs.Rows.{Row}
 use Rattle.std.specs.declared.alloc.Global.{Global}
 use Rattle.std.specs.declared.vec.Vec.{Vec}
 use Rattle.std.specs.Prelude.{List, map}
-use Rattle.cad_containers.specs.Literals.{pure_pair}
-use Rattle.cad_containers.specs.declared.literals.Pair.{Pair}
+use Rattle.cad_members.specs.Passed.{pure_pair}
+use Rattle.cad_members.specs.Passed.{Pair}
 use Rattle.cad_evaluation.specs.Uses as uses
 use Rattle.cad_rows.specs.Views.{pure_tree}
 use Rattle.cad_rows.specs.declared.tree.Tree.{Tree}

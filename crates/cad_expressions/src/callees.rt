@@ -1,4 +1,5 @@
 // What is called: a parameter of evaluation.
+ghost use Rattle.cad_evaluation.specs.Adding as adding;
 ghost use Rattle.cad_evaluation.specs.Callees.{Calls, Front};
 ghost use Rattle.cad_expressions.specs.Views.{callee_of};
 ghost use Rattle.cad_labels.specs.Laws.{CalleesKeep};
@@ -8,7 +9,7 @@ ghost use Rattle.cad_state.specs.Views.{FindsAndCarriesOut};
 use cad_outcomes::Stop;
 use cad_rows::{Place, Tree, discard_row};
 use cad_state::RunState;
-use cad_syntax::{Name, TypeId};
+use cad_syntax::{Address, Name, TypeId};
 
 /// What is called.
 #[derive(Clone, Copy)]
@@ -54,6 +55,18 @@ pub trait Callees {
         requires { is_ready self.now }
         ensures { FindsAndCarriesOut pure_tree (calls self.now (callee_of callee.entry) (pure_row arguments.items)) state.old state.new result };
 
+    /// Adds a contract to the account of an address: of a name and a code, on further arguments. Errors are 118 where the name is
+    /// taken, 119 where the code is refused, 120 where it isn't one contract of that name, 125 and 113 of its arguments, and those
+    /// of its initializer.
+    fn add(
+        &self,
+        state: &mut RunState,
+        address: Address,
+        arguments: Vec<Place>,
+    ) -> Result<Tree, Stop>
+        requires { is_ready self.now }
+        ensures { FindsAndCarriesOut pure_tree (adding.add (front self.now) (calls self.now) (pure_row arguments.items) address) state.old state.new result };
+
     /// Results of calls over arguments without labels have none, and labels are kept apart.
     ghost keeps: { (it : Self) → CalleesKeep (calls it) };
 }
@@ -96,5 +109,14 @@ impl<C: Callees> Callees for Quiet<'_, C> {
                 self.inner.call(state, initializer, arguments)
             }
         }
+    }
+
+    fn add(
+        &self,
+        state: &mut RunState,
+        address: Address,
+        arguments: Vec<Place>,
+    ) -> Result<Tree, Stop> {
+        self.inner.add(state, address, arguments)
     }
 }

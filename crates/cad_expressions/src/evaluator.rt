@@ -1,5 +1,6 @@
 // What evaluates the parts of an expression: a parameter of its forms, so that each is proved by itself.
 ghost use Rattle.cad_declarations.specs.Views.{term_of};
+ghost use Rattle.cad_evaluation.specs.Adding as adding;
 ghost use Rattle.cad_evaluation.specs.Callees.{Calls, Front};
 ghost use Rattle.cad_expressions.specs.Code.Steps as steps;
 ghost use Rattle.cad_expressions.specs.Views.{callee_of};
@@ -12,6 +13,7 @@ use cad_declarations::Term;
 use cad_outcomes::Stop;
 use cad_rows::{Place, Tree};
 use cad_state::RunState;
+use cad_syntax::Address;
 
 /// What parts of expressions mean, over what calls mean and the front end by which contracts are added.
 pub(crate) trait Evaluator {
@@ -38,6 +40,16 @@ pub(crate) trait Evaluator {
     ) -> Result<Tree, Stop>
         requires { is_ready self.now }
         ensures { FindsAndCarriesOut pure_tree (calls self.now (callee_of callee.entry) (pure_row arguments.items)) state.old state.new result };
+
+    /// Adds a contract to the account of an address, as `Callees` does.
+    fn add(
+        &self,
+        state: &mut RunState,
+        address: Address,
+        arguments: Vec<Place>,
+    ) -> Result<Tree, Stop>
+        requires { is_ready self.now }
+        ensures { FindsAndCarriesOut pure_tree (adding.add (front self.now) (calls self.now) (pure_row arguments.items) address) state.old state.new result };
 
     /// Results of calls over arguments without labels have none, and labels are kept apart.
     ghost keeps: { (it : Self) → CalleesKeep (calls it) };

@@ -22,3 +22,7 @@ mod values;
 
 pub use callees::{Callee, Callees, Quiet};
 pub use expressions::{eval, eval_arguments, eval_place};
+
+// What the crates above use of the ones below.
+pub use cad_members::{compared, elements, open};
+pub use cad_standing::{Standing, cast_place, location};

@@ -54,7 +54,7 @@ pub(crate) fn evaluate_use<E: Evaluator>(
         } => {
             let ready = check_use(state, receiver, *own);
             let row = arguments_behind(arguments.as_slice(), evaluator, state, ready);
-            call_member(state, *own, types.as_slice(), receiver, row)
+            call_member(evaluator, state, *own, types.as_slice(), receiver, row)
         }
     }
 }

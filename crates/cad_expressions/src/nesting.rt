@@ -11,6 +11,7 @@ use cad_declarations::Term;
 use cad_outcomes::Stop;
 use cad_rows::{Place, Tree};
 use cad_state::RunState;
+use cad_syntax::Address;
 
 /// Evaluates parts that are nested at most so deep, over what calls mean.
 #[derive(Clone, Copy, Drop)]
@@ -41,6 +42,15 @@ impl<C: Callees, F: Fn(u64, &C, &mut RunState, &Term) -> Result<Tree, Stop>> Eva
         arguments: Vec<Place>,
     ) -> Result<Tree, Stop> {
         self.callees.call(state, callee, arguments)
+    }
+
+    fn add(
+        &self,
+        state: &mut RunState,
+        address: Address,
+        arguments: Vec<Place>,
+    ) -> Result<Tree, Stop> {
+        self.callees.add(state, address, arguments)
     }
 
     ghost keeps = { λ it. C.keeps it.callees.now };

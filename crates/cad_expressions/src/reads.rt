@@ -5,7 +5,7 @@ ghost use Rattle.cad_evaluation.specs.Access.{has_right as is_enough};
 ghost use Rattle.cad_evaluation.specs.Callees.{Calls, Front};
 ghost use Rattle.cad_expressions.specs.Code.Rights as spec;
 ghost use Rattle.cad_expressions.specs.Code.Steps as steps;
-ghost use Rattle.cad_receivers.specs.Views.{receiver_of};
+ghost use Rattle.cad_receivers.specs.Views.{receiver_of, settled_of};
 ghost use Rattle.cad_rows.specs.Views.{pure_shape, pure_tree};
 ghost use Rattle.cad_state.specs.Views.{FindsAndCarriesOut};
 ghost use Rattle.cad_values.specs.Values.{pure_value};
@@ -15,7 +15,7 @@ use cad_access::has_right;
 use cad_builtins::needed;
 use cad_members::member;
 use cad_outcomes::Stop;
-use cad_receivers::{Receiver, settle_receiver};
+use cad_receivers::{Receiver, Settled, look, settle_receiver};
 use cad_rows::{Shape, Tree, discard_shape};
 use cad_state::RunState;
 use cad_syntax::Authorization;
@@ -38,12 +38,22 @@ pub(crate) fn read_member(
     }
 }
 
+/// A receiver that may not be used, and was settled: IllTyped.
+fn refuse_settled(state: &RunState, receiver: Settled<'_>) -> Result<Tree, Stop>
+    ensures { FindsAndCarriesOut pure_tree (spec.refused (settled_of receiver.entry)) state.now state.now result }
+{
+    match look(state, receiver) {
+        Ok(_) => Err(Stop::IllTyped),
+        Err(stop) => Err(stop),
+    }
+}
+
 /// A receiver that may not be used: IllTyped, where it isn't gone.
 fn refuse(state: &mut RunState, receiver: &Receiver) -> Result<Tree, Stop>
     ensures { FindsAndCarriesOut pure_tree (spec.refused (receiver_of receiver.now)) state.old state.new result }
 {
     match settle_receiver(state, receiver) {
-        Ok(()) => Err(Stop::IllTyped),
+        Ok(settled) => refuse_settled(state, settled),
         Err(stop) => Err(stop),
     }
 }

@@ -1,25 +1,29 @@
 // Calls and built-in members, once their arguments have their values.
 ghost use Rattle.std.specs.Prelude.{map};
-ghost use Rattle.cad_evaluation.specs.Callees.{Calls, Front};
+ghost use Rattle.cad_evaluation.specs.Accounts.{account_in_value, on_account};
+ghost use Rattle.cad_evaluation.specs.Adding as adding;
+ghost use Rattle.cad_evaluation.specs.Builtins as members;
+ghost use Rattle.cad_evaluation.specs.Texts.{in_tree};
 ghost use Rattle.cad_expressions.specs.Code.Steps as steps;
 ghost use Rattle.cad_expressions.specs.Code.Steps.{GoesOn};
 ghost use Rattle.cad_expressions.specs.Views.{items_row};
 ghost use Rattle.cad_labels.specs.Laws.{HasNoneInRow};
 ghost use Rattle.cad_receivers.specs.Uses.{aimed};
-ghost use Rattle.cad_receivers.specs.Views.{receiver_of};
+ghost use Rattle.cad_receivers.specs.Views.{at_spot, receiver_of};
 ghost use Rattle.cad_rows.specs.Views.{pure_row, pure_tree};
 ghost use Rattle.cad_state.specs.Views.{CarriesOut, FindsAndCarriesOut};
 ghost use Rattle.cad_syntax.specs.Types.{pure_type};
+ghost use Rattle.cad_world.specs.State.{give, with_some};
 
 use crate::callees::Callee;
 use crate::evaluator::Evaluator;
 use cad_builtins::is_read;
-use cad_members::{function, member};
+use cad_members::{contracts_account, function, member};
 use cad_outcomes::Stop;
-use cad_receivers::{Receiver, aim};
+use cad_receivers::{Receiver, aim, settle_receiver};
 use cad_rows::{Place, Tree, discard_row};
 use cad_state::RunState;
-use cad_syntax::{CadType, Name, TypeId};
+use cad_syntax::{Address, Basic, CadType, Name, TypeId};
 use cad_types::Builtin;
 
 /// A function outside contracts is called.
@@ -149,33 +153,84 @@ fn invoke<E: Evaluator>(
 }
 
 /// A built-in member of a receiver is called.
-pub(crate) fn call_member(
+pub(crate) fn call_member<E: Evaluator>(
+    evaluator: &E,
     state: &mut RunState,
     builtin: Builtin,
     types: &[CadType],
     receiver: &Receiver,
     row: Result<Vec<Place>, Stop>,
 ) -> Result<Tree, Stop>
-    ensures { (front : Front) (calls : Calls) → GoesOn HasNoneInRow items_row pure_tree (steps.member_called front calls builtin (map pure_type types.now) (receiver_of receiver.now)) row state.old state.new result }
+    requires { E.is_ready evaluator.now }
+    ensures { GoesOn HasNoneInRow items_row pure_tree (steps.member_called (E.front evaluator.now) (E.calls evaluator.now) builtin (map pure_type types.now) (receiver_of receiver.now)) row state.old state.new result }
 {
     match row {
-        Ok(found) => call_member_with(state, builtin, types, receiver, found),
+        Ok(found) => call_member_with(evaluator, state, builtin, types, receiver, found),
         Err(stop) => Err(stop),
     }
 }
 
-/// A built-in member of a receiver is called with these.
-fn call_member_with(
+/// The address of the account of whose contracts a receiver is the part; IllTyped of anything else.
+fn contracts_address(state: &mut RunState, receiver: &Receiver) -> Result<Address, Stop>
+    ensures { FindsAndCarriesOut (λ a. a) (at_spot (receiver_of receiver.now) (λ spot. with_some (in_tree (account_in_value Basic.AccountContracts) spot.tree) give)) state.old state.new result }
+{
+    match settle_receiver(state, receiver) {
+        Ok(settled) => contracts_account(state, settled),
+        Err(stop) => Err(stop),
+    }
+}
+
+/// A contract is added to the account of whose contracts a receiver is the part.
+fn add_contract<E: Evaluator>(
+    evaluator: &E,
+    state: &mut RunState,
+    receiver: &Receiver,
+    row: Vec<Place>,
+) -> Result<Tree, Stop>
+    requires { E.is_ready evaluator.now }
+    ensures { FindsAndCarriesOut pure_tree (at_spot (receiver_of receiver.now) (λ spot. on_account Basic.AccountContracts spot (adding.add (E.front evaluator.now) (E.calls evaluator.now) (pure_row row.items)))) state.old state.new result }
+{
+    match contracts_address(state, receiver) {
+        Ok(address) => evaluator.add(state, address, row),
+        Err(stop) => {
+            discard_row(row);
+            Err(stop)
+        }
+    }
+}
+
+/// A built-in member of a receiver is used with these: `contracts.add` by what calls mean, any other whatever they mean.
+fn use_member<E: Evaluator>(
+    evaluator: &E,
     state: &mut RunState,
     builtin: Builtin,
     types: &[CadType],
     receiver: &Receiver,
     row: Vec<Place>,
 ) -> Result<Tree, Stop>
-    ensures { (front : Front) (calls : Calls) → FindsAndCarriesOut pure_tree (steps.member_called front calls builtin (map pure_type types.now) (receiver_of receiver.now) (pure_row row.items)) state.old state.new result }
+    requires { E.is_ready evaluator.now }
+    ensures { FindsAndCarriesOut pure_tree (at_spot (receiver_of receiver.now) (λ spot. members.member (E.front evaluator.now) (E.calls evaluator.now) builtin (map pure_type types.now) spot (pure_row row.items))) state.old state.new result }
+{
+    match builtin {
+        Builtin::ContractsAdd => add_contract(evaluator, state, receiver, row),
+        _ => member(state, builtin, types, receiver, row),
+    }
+}
+
+/// A built-in member of a receiver is called with these.
+fn call_member_with<E: Evaluator>(
+    evaluator: &E,
+    state: &mut RunState,
+    builtin: Builtin,
+    types: &[CadType],
+    receiver: &Receiver,
+    row: Vec<Place>,
+) -> Result<Tree, Stop>
+    requires { E.is_ready evaluator.now }
+    ensures { FindsAndCarriesOut pure_tree (steps.member_called (E.front evaluator.now) (E.calls evaluator.now) builtin (map pure_type types.now) (receiver_of receiver.now) (pure_row row.items)) state.old state.new result }
 {
     match state.tick() {
-        Ok(()) => member(state, builtin, types, receiver, row),
+        Ok(()) => use_member(evaluator, state, builtin, types, receiver, row),
         Err(stop) => {
             discard_row(row);
             Err(stop)

@@ -17,15 +17,15 @@ ghost use Rattle.cad_state.specs.declared.state.RunState.{RunState};
 ghost use Rattle.cad_syntax.specs.Types.{pure_type};
 ghost use Rattle.cad_world.specs.Transfers.{transferred};
 
-use cad_casts::cast;
-use cad_containers::{Pair, array, dictionary, discard_pairs};
 use cad_declarations::discard_type;
 use cad_grammar::{BinaryOperator, CastKind, UnaryOperator};
 use cad_making::end_variables;
-use cad_members::{binary, coalesce, force, round, unary, wrap};
+use cad_members::{
+    Pair, array, binary, coalesce, dictionary, discard_pairs, force, round, unary, wrap,
+};
 use cad_operators::{truth_in, truth_only};
 use cad_outcomes::Stop;
-use cad_receivers::{Receiver, index};
+use cad_receivers::{Receiver, cast, index};
 use cad_rows::{Place, Tree, discard_row, discard_tree};
 use cad_state::RunState;
 use cad_syntax::CadType;

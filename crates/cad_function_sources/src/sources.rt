@@ -13,6 +13,7 @@ ghost use Rattle.cad_world.specs.Declared as declared;
 
 use cad_access::{function_in, interfaces_of};
 use cad_declarations::{Checked, DestroyedEvent, TypedFunction, TypedType};
+use cad_discards::hold;
 use cad_state::{Contract, RunState, discard_shared};
 use cad_syntax::{Name, TypeId};
 use std::alloc::{AllocError, Global};
@@ -75,7 +76,7 @@ fn program_of(contracts: &[Contract], id: &TypeId) -> Result<Option<Rc<Checked>>
 {
     for contract in contracts {
         if has_bodies(&contract.checked, id) {
-            return Ok(Some(contract.checked.clone()?));
+            return Ok(Some(hold(&contract.checked)?));
         }
     }
     Ok(None)

@@ -6,3 +6,6 @@ mod start;
 
 pub use script::run_script;
 pub use start::begin;
+
+// What the crates above use of the ones below.
+pub use cad_calls::FrontEnd;

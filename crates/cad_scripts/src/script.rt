@@ -10,8 +10,7 @@ ghost use Rattle.cad_values.specs.Values.{pure_value};
 ghost use Rattle.cad_world.specs.Rows as rows;
 ghost use Rattle.cad_world.specs.Trees.{value_of};
 
-use cad_calls::{FrontEnd, call_with};
-use cad_expressions::Callee;
+use cad_calls::{Callee, FrontEnd, call_with};
 use cad_making::is_told;
 use cad_outcomes::{RunError, Stop};
 use cad_rows::{Place, Tree, discard_row, discard_tree};

@@ -21,8 +21,8 @@ use Rattle.cad_outcomes.specs.declared.stop.Stop.{Stop}
 use Rattle.cad_rows.specs.Views.{PlaceView, vacant, taken, as_row}
 use Rattle.cad_state.specs.Views.{FindsAndCarriesOut}
 use Rattle.cad_state.specs.declared.state.RunState.{RunState}
-use Rattle.cad_members.specs.Optionals.{content_or_none}
-use Rattle.cad_standing.specs.CastPlaces.{cast_place}
+use Rattle.cad_expressions.specs.Passed.{content_or_none}
+use Rattle.cad_expressions.specs.Passed.{cast_place}
 use Rattle.cad_world.specs.Locations.{Location, variable}
 use Rattle.cad_world.specs.Rows.{Row, Tree}
 use Rattle.cad_world.specs.State.{Action, ◌>>=◌, ◌>>◌, give, stuck, with_some, tick}

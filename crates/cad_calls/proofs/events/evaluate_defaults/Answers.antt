@@ -3,7 +3,7 @@ use Rattle.std.proofs.Common.{subst, map}
 use Rattle.cad_declarations.specs.Typed.{arguments_of}
 use Rattle.cad_declarations.specs.Views.{argument_of}
 use Rattle.cad_evaluation.specs.Terms.{eval_arguments}
-use Rattle.cad_expressions.specs.Views.{items_row}
+use Rattle.cad_execution.specs.Passed.{items_row}
 use Rattle.cad_state.specs.Views.{FindsAndCarriesOut}
 use Rattle.cad_calls.proofs.Telling.{row_err, row_ok}
 use Rattle.cad_calls.proofs.events.evaluate_defaults.Goals as goal

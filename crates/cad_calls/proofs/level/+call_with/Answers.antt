@@ -1,6 +1,6 @@
 use Rattle.std.proofs.Common.{◌∙◌, ap, arith, sym, ◌-◌}
 use Rattle.cad_calls.specs.Unnamed.{unnamed}
-use Rattle.cad_expressions.specs.Views.{callee_of}
+use Rattle.cad_execution.specs.Passed.{callee_of}
 use Rattle.cad_rows.specs.Views.{pure_row}
 use Rattle.cad_calls.proofs.Levels.{level_below}
 use Rattle.cad_calls.proofs.Unnamed.{has_none}

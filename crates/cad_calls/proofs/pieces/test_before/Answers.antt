@@ -7,4 +7,4 @@ use Rattle.cad_calls.proofs.pieces.test_before.Goals as goal
 
 pub returns : goal.returns
 returns g c =
-    subst (λ l. FindsAndCarriesOut no_value (spec.all_tested (g.C.Callees.front c.args.callees.now) (g.C.Callees.calls c.args.callees.now) (map condition_of l)) c.args.state.now c.conditions.new.state c.conditions.result) c.as_slice.ensures.value c.conditions.ensures
+    subst (λ l. FindsAndCarriesOut no_value (spec.all_tested (g.C.Callees.front c.args.callees.now) (g.C.Callees.calls c.args.callees.now) (map condition_of l)) c.args.state.now c.test_conditions.new.state c.test_conditions.result) c.as_slice.ensures.value c.test_conditions.ensures

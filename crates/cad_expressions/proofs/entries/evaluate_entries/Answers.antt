@@ -1,5 +1,5 @@
 use Rattle.std.proofs.Common.{map, refl, ap}
-use Rattle.cad_containers.specs.Literals.{pure_pair}
+use Rattle.cad_members.specs.Passed.{pure_pair}
 use Rattle.cad_declarations.specs.Typed as e
 use Rattle.cad_declarations.specs.Views.{pair_of}
 use Rattle.cad_syntax.specs.Types.{pure_type}

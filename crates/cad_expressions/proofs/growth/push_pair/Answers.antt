@@ -1,6 +1,6 @@
 use Rattle.std.proofs.Common.{◌∙◌, ap, map, sym}
 use Rattle.std.proofs.lemmas.List.{map-append}
-use Rattle.cad_containers.specs.Literals.{pure_pair}
+use Rattle.cad_members.specs.Passed.{pure_pair}
 use Rattle.cad_expressions.specs.Code.Steps.{pair_of}
 use Rattle.cad_world.specs.State.{ok}
 use Rattle.cad_expressions.proofs.growth.push_pair.Goals as goal

@@ -13,4 +13,4 @@ pub returns-in-BuiltinField : goal.returns-in-BuiltinField
 returns-in-BuiltinField g c = builtin_field_arm (g.E.Evaluator.front c.args.evaluator.now) (g.E.Evaluator.calls c.args.evaluator.now) c.args.member.now _ (receiver_of c.args.receiver.now) c.args.state.now c.read_member.new.state c.read_member.result c.in-BuiltinField.is (c.read_member.ensures (g.E.Evaluator.front c.args.evaluator.now) (g.E.Evaluator.calls c.args.evaluator.now))
 
 pub returns-in-BuiltinCall : goal.returns-in-BuiltinCall
-returns-in-BuiltinCall g c = builtin_call_arm (g.E.Evaluator.front c.args.evaluator.now) (g.E.Evaluator.calls c.args.evaluator.now) (g.met.E.Evaluator.keeps c.args.evaluator.now) (receiver_of c.args.receiver.now) _ _ _ _ _ _ c.args.state.now _ _ _ _ _ _ c.in-BuiltinCall.is c.as_slice-in-BuiltinCall-2.ensures.value c.as_slice-in-BuiltinCall.ensures.value c.check_use-ready.ensures c.arguments_behind-row-in-BuiltinCall.ensures (c.call_member.ensures (g.E.Evaluator.front c.args.evaluator.now) (g.E.Evaluator.calls c.args.evaluator.now))
+returns-in-BuiltinCall g c = builtin_call_arm (g.E.Evaluator.front c.args.evaluator.now) (g.E.Evaluator.calls c.args.evaluator.now) (g.met.E.Evaluator.keeps c.args.evaluator.now) (receiver_of c.args.receiver.now) _ _ _ _ _ _ c.args.state.now _ _ _ _ _ _ c.in-BuiltinCall.is c.as_slice-in-BuiltinCall-2.ensures.value c.as_slice-in-BuiltinCall.ensures.value c.check_use-ready.ensures c.arguments_behind-row-in-BuiltinCall.ensures c.call_member.ensures

@@ -2,7 +2,7 @@ use Rattle.cad_expressions.proofs.Going.{goes_on, goes_stopped}
 use Rattle.cad_expressions.proofs.uses.call_member.Goals as goal
 
 pub returns-in-Ok : goal.returns-in-Ok
-returns-in-Ok c front calls = goes_on _ _ _ _ _ _ _ _ _ c.in-Ok.is (c.call_member_with.ensures front calls)
+returns-in-Ok g c = goes_on _ _ _ _ _ _ _ _ _ c.in-Ok.is c.call_member_with.ensures
 
 pub returns-in-Err : goal.returns-in-Err
-returns-in-Err c front calls = goes_stopped _ _ _ _ _ _ _ _ c.in-Err.is
+returns-in-Err g c = goes_stopped _ _ _ _ _ _ _ _ c.in-Err.is

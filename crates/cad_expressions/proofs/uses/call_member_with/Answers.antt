@@ -17,10 +17,16 @@ use Rattle.cad_expressions.proofs.uses.call_member_with.Goals as goal
 
 pub returns-in-Ok : goal.returns-in-Ok
 unfolding member_called
-returns-in-Ok c front calls = find_same pure_tree (member_called front calls c.args.builtin (map pure_type c.args.types.now) (receiver_of c.args.receiver.now) (pure_row c.args.row.items)) (tick >>= (λ (u : Unit {0}). (look_at (receiver_of c.args.receiver.now)) >>= (λ spot. member front calls c.args.builtin (map pure_type c.args.types.now) spot (pure_row c.args.row.items)))) c.args.state.now c.member.new.state c.member.result (λ w ready. bind_assoc (tick (state_over w c.args.state.now)) (λ (u : Unit {0}). (look_at (receiver_of c.args.receiver.now))) (λ spot. member front calls c.args.builtin (map pure_type c.args.types.now) spot (pure_row c.args.row.items)))
-    (find_then AnyOne tick (keeps_spend 1) no_value pure_tree (λ (u : Unit {0}). (look_at (receiver_of c.args.receiver.now)) >>= (λ spot. member front calls c.args.builtin (map pure_type c.args.types.now) spot (pure_row c.args.row.items))) tt c.args.state.now c.tick.new.self c.member.new.state c.member.result (find_any no_value tick c.args.state.now c.tick.new.self (Ok tt) c.in-Ok.ensures) (λ h. c.member.ensures front calls))
+returns-in-Ok g c =
+    let front = g.E.Evaluator.front c.args.evaluator.now in
+    let calls = g.E.Evaluator.calls c.args.evaluator.now in
+    find_same pure_tree (member_called front calls c.args.builtin (map pure_type c.args.types.now) (receiver_of c.args.receiver.now) (pure_row c.args.row.items)) (tick >>= (λ (u : Unit {0}). (look_at (receiver_of c.args.receiver.now)) >>= (λ spot. member front calls c.args.builtin (map pure_type c.args.types.now) spot (pure_row c.args.row.items)))) c.args.state.now c.use_member.new.state c.use_member.result (λ w ready. bind_assoc (tick (state_over w c.args.state.now)) (λ (u : Unit {0}). (look_at (receiver_of c.args.receiver.now))) (λ spot. member front calls c.args.builtin (map pure_type c.args.types.now) spot (pure_row c.args.row.items)))
+    (find_then AnyOne tick (keeps_spend 1) no_value pure_tree (λ (u : Unit {0}). (look_at (receiver_of c.args.receiver.now)) >>= (λ spot. member front calls c.args.builtin (map pure_type c.args.types.now) spot (pure_row c.args.row.items))) tt c.args.state.now c.tick.new.self c.use_member.new.state c.use_member.result (find_any no_value tick c.args.state.now c.tick.new.self (Ok tt) c.in-Ok.ensures) (λ h. c.use_member.ensures))
 
 pub returns-in-Err : goal.returns-in-Err
 unfolding member_called
-returns-in-Err c front calls = find_same pure_tree (member_called front calls c.args.builtin (map pure_type c.args.types.now) (receiver_of c.args.receiver.now) (pure_row c.args.row.items)) (tick >>= (λ (u : Unit {0}). (look_at (receiver_of c.args.receiver.now)) >>= (λ spot. member front calls c.args.builtin (map pure_type c.args.types.now) spot (pure_row c.args.row.items)))) c.args.state.now c.tick.new.self (Err c.in-Err.stop) (λ w ready. bind_assoc (tick (state_over w c.args.state.now)) (λ (u : Unit {0}). (look_at (receiver_of c.args.receiver.now))) (λ spot. member front calls c.args.builtin (map pure_type c.args.types.now) spot (pure_row c.args.row.items)))
+returns-in-Err g c =
+    let front = g.E.Evaluator.front c.args.evaluator.now in
+    let calls = g.E.Evaluator.calls c.args.evaluator.now in
+    find_same pure_tree (member_called front calls c.args.builtin (map pure_type c.args.types.now) (receiver_of c.args.receiver.now) (pure_row c.args.row.items)) (tick >>= (λ (u : Unit {0}). (look_at (receiver_of c.args.receiver.now)) >>= (λ spot. member front calls c.args.builtin (map pure_type c.args.types.now) spot (pure_row c.args.row.items)))) c.args.state.now c.tick.new.self (Err c.in-Err.stop) (λ w ready. bind_assoc (tick (state_over w c.args.state.now)) (λ (u : Unit {0}). (look_at (receiver_of c.args.receiver.now))) (λ spot. member front calls c.args.builtin (map pure_type c.args.types.now) spot (pure_row c.args.row.items)))
     (find_stopped {D = Tree} no_value pure_tree tick (λ (u : Unit {0}). (look_at (receiver_of c.args.receiver.now)) >>= (λ spot. member front calls c.args.builtin (map pure_type c.args.types.now) spot (pure_row c.args.row.items))) c.args.state.now c.tick.new.self c.tick.new.self c.in-Err.stop (find_any {B = Unit {0}} no_value tick c.args.state.now c.tick.new.self (Err c.in-Err.stop) c.in-Err.ensures))

@@ -10,7 +10,7 @@ returns-then-has_bodies c =
     let cs = c.args.contracts.now in
     let i = c.loop-contract.contract-index in
     let id = c.args.id.now in
-    ap (λ x. view.found_in x id) c.in_ok-clone.ensures.cases
+    ap (λ x. view.found_in x id) c.in_ok-hold.ensures
     ∙ there (view.found_in c.contract-item.result.checked.value id) (bodies_among (contracts_of (drop (i + 1) cs)) id) (bodies_among (contracts_of cs) id)
     (ap (λ x. is_some (view.found_in x id)) (sym c.deref.ensures) ∙ sym c.has_bodies.ensures ∙ c.if-has_bodies.true)
     (bodies_walked id cs i (i + 1) c.contract-item.result (omega arith) c.loop-contract-test.true c.contract-item.is c.loop-contract.invariant)

@@ -1,0 +1,4 @@
+pub mod Fitting
+pub mod Kinds
+pub mod Values
+pub mod Steps
