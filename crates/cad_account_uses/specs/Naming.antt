@@ -1,27 +1,17 @@
--- Which programs name accounts: somewhere in a body stands what gives a value of accounts, or is used on one. Such a value is an
--- account, a part of it, what it stores, a capability, a controller or the value of a contract.
---
--- These forms are enough. A value of accounts comes to a body from a built-in, from the value of a contract or as a signer;
--- arguments have none, since neither references nor capabilities are importable. A type makes no value, so which types stand in a
--- body doesn't count. Whether a form is ever reached isn't asked. What a program imports is a program of its own, and isn't
--- looked into.
+-- Which programs name contracts: somewhere in a body stands the value of a contract, or what is used on the contracts of an
+-- account. Whether such a form is ever reached isn't asked. What a program imports is a program of its own, and isn't looked into.
 use Rattle.std.specs.Prelude.{Bool, true, false, ◌||◌, List, [], ◌∷◌, Option, Some, None}
 use Rattle.std.specs.List.{list_any}
 use Rattle.cad_types.specs.declared.builtin.Builtin.{Builtin}
 use Rattle.cad_types.specs.declared.builtin.Builtin.TheVariants as m
-use Rattle.cad_declarations.specs.Builtins.{needs_reference}
 use Rattle.cad_declarations.specs.Typed as e
 
--- it gives a reference to an account, or is a member of accounts, of their parts, of controllers or of capabilities
-abbrev pub is_of_accounts : Builtin → Bool
-is_of_accounts m.GetAccount = true
-is_of_accounts m.ResourceOwner = true
-is_of_accounts m.ContractAccount = true
-is_of_accounts m.CapabilityId = true
-is_of_accounts m.CapabilityAddress = true
-is_of_accounts m.CapabilityBorrow = true
-is_of_accounts m.CapabilityCheck = true
-is_of_accounts member = needs_reference member
+-- it gives the contracts of an account, or changes them
+abbrev pub is_of_contracts : Builtin → Bool
+is_of_contracts m.AccountContracts = true
+is_of_contracts m.ContractsAdd = true
+is_of_contracts m.ContractsUpdate = true
+is_of_contracts _ = false
 
 -- ---- expressions
 
@@ -37,8 +27,8 @@ abbrev mutual
   pub use_names : e.UseTree → Bool
   use_names (e.get name authorization) = false
   use_names (e.method name is_view is_never all) = arguments_name all
-  use_names (e.builtin_field member) = is_of_accounts member
-  use_names (e.builtin_call member types all) = is_of_accounts member || arguments_name all
+  use_names (e.builtin_field member) = is_of_contracts member
+  use_names (e.builtin_call member types all) = is_of_contracts member || arguments_name all
 
   pub term_names : e.TermTree → Bool
   term_names (e.copy p) = place_names p
@@ -48,7 +38,7 @@ abbrev mutual
   term_names (e.construct id all) = arguments_name all
   term_names (e.create id all) = arguments_name all
   term_names (e.call f is_view is_never all) = arguments_name all
-  term_names (e.builtin member types all) = is_of_accounts member || arguments_name all
+  term_names (e.builtin member types all) = is_of_contracts member || arguments_name all
   term_names (e.on p u) = place_names p || use_names u
   term_names (e.chain p u wraps) = place_names p || use_names u
   term_names (e.index p of x) = place_names p || term_names x
@@ -128,17 +118,11 @@ function_names f =
 abbrev pub member_names : e.MemberBody → Bool
 member_names m = function_names m.function
 
-abbrev pub has_signers : List e.VariableEntry → Bool
-has_signers [] = false
-has_signers (x ∷ xs) = true
-
--- a signer is an account
 abbrev pub transaction_names : e.TransactionBody → Bool
 transaction_names t =
-    has_signers t.signers
-    || (is_some_with block_names t.prepare
+    is_some_with block_names t.prepare
     || (list_any condition_names t.pre
-    || (list_any before_names t.before || (is_some_with block_names t.execute || list_any condition_names t.post))))
+    || (list_any before_names t.before || (is_some_with block_names t.execute || list_any condition_names t.post)))
 
 abbrev pub argument_names : e.TargetedTerm → Bool
 argument_names a = term_names a.value
@@ -150,5 +134,5 @@ abbrev pub type_names : e.TypeBody → Bool
 type_names t = is_some_with function_names t.initializer || (list_any member_names t.functions || is_some_with event_names t.destroyed)
 
 -- somewhere in a body of the program stands one of these forms
-abbrev pub names_accounts : e.ProgramBodies → Bool
-names_accounts p = list_any type_names p.types || (list_any member_names p.functions || is_some_with transaction_names p.transaction)
+abbrev pub names_contracts : e.ProgramBodies → Bool
+names_contracts p = list_any type_names p.types || (list_any member_names p.functions || is_some_with transaction_names p.transaction)

@@ -1,4 +1,4 @@
-//! Which programs name accounts, storage, capabilities or the values of contracts.
+//! Which programs name contracts: their values, or those of an account.
 #![tactic(auto)]
 
 mod bodies;
@@ -6,4 +6,4 @@ mod builtins;
 mod statements;
 mod terms;
 
-pub use bodies::names_accounts;
+pub use bodies::names_contracts;

@@ -1,4 +1,4 @@
-// Statements that name accounts.
+// Statements that name contracts.
 ghost use Rattle.std.specs.Prelude.{◌≡◌, map};
 ghost use Rattle.cad_account_uses.specs.Naming as spec;
 ghost use Rattle.cad_declarations.specs.Typed as tree;
@@ -7,7 +7,7 @@ ghost use Rattle.cad_declarations.specs.Views.{block_of, case_of, return_of, sta
 use crate::terms::{arguments_name, place_names, term_names};
 use cad_declarations::{Argument, TypedBlock, TypedCase, TypedStatement};
 
-/// Whether a statement names accounts that returns, maybe a value.
+/// Whether a statement names contracts that returns, maybe a value.
 fn return_names(at: u64, value: &Option<Argument>) -> bool
     ensures { result ≡ spec.statement_names (return_of at value.now) }
 {
@@ -17,7 +17,7 @@ fn return_names(at: u64, value: &Option<Argument>) -> bool
     }
 }
 
-/// Whether a statement names accounts, or one in it.
+/// Whether a statement names contracts, or one in it.
 #[cycle(statements)]
 fn statement_names(statement: &TypedStatement) -> bool
     ensures { result ≡ spec.statement_names (statement_of statement.now) }
@@ -63,7 +63,7 @@ fn statement_names(statement: &TypedStatement) -> bool
     }
 }
 
-/// Whether a statement of a block names accounts.
+/// Whether a statement of a block names contracts.
 #[cycle(statements)]
 pub(crate) fn block_names(block: &TypedBlock) -> bool
     ensures { result ≡ spec.block_names (block_of block.now) }
@@ -71,7 +71,7 @@ pub(crate) fn block_names(block: &TypedBlock) -> bool
     statements_name(&block.statements)
 }
 
-/// Whether one of these statements names accounts.
+/// Whether one of these statements names contracts.
 #[cycle(statements)]
 fn statements_name(all: &[TypedStatement]) -> bool
     ensures { result ≡ spec.statements_name (tree.statements_of (map statement_of all.now)) }
@@ -84,7 +84,7 @@ fn statements_name(all: &[TypedStatement]) -> bool
     false
 }
 
-/// Whether one of these cases of a `switch` names accounts.
+/// Whether one of these cases of a `switch` names contracts.
 #[cycle(statements)]
 fn cases_name(all: &[TypedCase]) -> bool
     ensures { result ≡ spec.cases_name (tree.cases_of (map case_of all.now)) }
@@ -100,14 +100,14 @@ fn cases_name(all: &[TypedCase]) -> bool
     false
 }
 
-/// Whether the value of a case names accounts.
+/// Whether the value of a case names contracts.
 fn test_names(case: &TypedCase) -> bool
     ensures { result ≡ spec.term_names (case_of case.now).value }
 {
     term_names(&case.value)
 }
 
-/// Whether the block of a case names accounts.
+/// Whether the block of a case names contracts.
 #[cycle(statements)]
 fn body_names(case: &TypedCase) -> bool
     ensures { result ≡ spec.block_names (case_of case.now).body }

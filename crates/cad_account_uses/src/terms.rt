@@ -1,13 +1,13 @@
-// Expressions that name accounts.
+// Expressions that name contracts.
 ghost use Rattle.std.specs.Prelude.{◌≡◌, map};
 ghost use Rattle.cad_account_uses.specs.Naming as spec;
 ghost use Rattle.cad_declarations.specs.Typed as tree;
 ghost use Rattle.cad_declarations.specs.Views.{argument_of, pair_of, place_of, term_of, use_of};
 
-use crate::builtins::is_of_accounts;
+use crate::builtins::is_of_contracts;
 use cad_declarations::{Argument, Place, Term, TermEntry, Use};
 
-/// Whether a place names accounts: it is the value of a contract, or something in it names them.
+/// Whether a place names contracts: it is the value of a contract, or something in it names them.
 #[cycle(terms)]
 pub(crate) fn place_names(place: &Place) -> bool
     ensures { result ≡ spec.place_names (place_of place.now) }
@@ -21,7 +21,7 @@ pub(crate) fn place_names(place: &Place) -> bool
     }
 }
 
-/// Whether what is done with a receiver names accounts.
+/// Whether what is done with a receiver names contracts.
 #[cycle(terms)]
 fn use_names(member: &Use) -> bool
     ensures { result ≡ spec.use_names (use_of member.now) }
@@ -29,16 +29,16 @@ fn use_names(member: &Use) -> bool
     match member {
         Use::Field { .. } => false,
         Use::Method { arguments, .. } => arguments_name(arguments),
-        Use::BuiltinField(member) => is_of_accounts(*member),
+        Use::BuiltinField(member) => is_of_contracts(*member),
         Use::BuiltinCall {
             member,
             arguments,
             ..
-        } => is_of_accounts(*member) || arguments_name(arguments),
+        } => is_of_contracts(*member) || arguments_name(arguments),
     }
 }
 
-/// Whether an expression names accounts.
+/// Whether an expression names contracts.
 #[cycle(terms)]
 pub(crate) fn term_names(term: &Term) -> bool
     ensures { result ≡ spec.term_names (term_of term.now) }
@@ -66,7 +66,7 @@ pub(crate) fn term_names(term: &Term) -> bool
             member,
             arguments,
             ..
-        } => is_of_accounts(*member) || arguments_name(arguments),
+        } => is_of_contracts(*member) || arguments_name(arguments),
         Term::On(base, member) | Term::Chain { base, member, .. } => place_names(base)
             || use_names(member),
         Term::Index { base, index, .. } => place_names(base) || term_names(index),
@@ -81,7 +81,7 @@ pub(crate) fn term_names(term: &Term) -> bool
     }
 }
 
-/// Whether one of these expressions names accounts.
+/// Whether one of these expressions names contracts.
 #[cycle(terms)]
 fn terms_name(all: &[Term]) -> bool
     ensures { result ≡ spec.terms_name (tree.terms_of (map term_of all.now)) }
@@ -94,7 +94,7 @@ fn terms_name(all: &[Term]) -> bool
     false
 }
 
-/// Whether the value of one of these arguments names accounts.
+/// Whether the value of one of these arguments names contracts.
 #[cycle(terms)]
 pub(crate) fn arguments_name(all: &[Argument]) -> bool
     ensures { result ≡ spec.arguments_name (tree.arguments_of (map argument_of all.now)) }
@@ -107,7 +107,7 @@ pub(crate) fn arguments_name(all: &[Argument]) -> bool
     false
 }
 
-/// Whether one of these keys or values names accounts.
+/// Whether one of these keys or values names contracts.
 #[cycle(terms)]
 fn entries_name(all: &[TermEntry]) -> bool
     ensures { result ≡ spec.entries_name (tree.entries_of (map pair_of all.now)) }
@@ -123,7 +123,7 @@ fn entries_name(all: &[TermEntry]) -> bool
     false
 }
 
-/// Whether the value of an argument names accounts.
+/// Whether the value of an argument names contracts.
 #[cycle(terms)]
 pub(crate) fn argument_names(argument: &Argument) -> bool
     ensures { result ≡ spec.term_names (argument_of argument.now).value }
@@ -131,7 +131,7 @@ pub(crate) fn argument_names(argument: &Argument) -> bool
     term_names(&argument.value)
 }
 
-/// Whether the key of an entry names accounts.
+/// Whether the key of an entry names contracts.
 #[cycle(terms)]
 fn key_names(entry: &TermEntry) -> bool
     ensures { result ≡ spec.term_names (pair_of entry.now).key }
@@ -139,7 +139,7 @@ fn key_names(entry: &TermEntry) -> bool
     term_names(&entry.key)
 }
 
-/// Whether the value of an entry names accounts.
+/// Whether the value of an entry names contracts.
 #[cycle(terms)]
 fn value_names(entry: &TermEntry) -> bool
     ensures { result ≡ spec.term_names (pair_of entry.now).value }

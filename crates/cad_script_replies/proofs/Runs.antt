@@ -1,5 +1,5 @@
--- What a run comes to in each World without contracts, and what is told of it.
-use Rattle.std.proofs.Common.{◌≡◌, ℕ, suc, ◌≤◌, List, [], Option, Some, None, refl, sym, ap, ◌∙◌, subst, arith}
+-- What a run comes to over a World, and what is told of it.
+use Rattle.std.proofs.Common.{◌≡◌, ℕ, suc, ◌+◌, ◌*◌, ◌≤◌, List, [], Option, Some, None, refl, sym, ap, ◌∙◌, subst, arith}
 use Rattle.std.specs.Prelude.{Result, Ok, Err}
 use Rattle.serde_json.specs.Data.{Data}
 use Rattle.cad_labels.proofs.Gone.{found_given}
@@ -8,39 +8,40 @@ use Rattle.cad_outcomes.specs.Outcomes.{Does}
 use Rattle.cad_outcomes.specs.declared.stop.Stop.{Stop}
 use Rattle.cad_outcomes.specs.declared.stop.Stop.TheVariants.{Failed, Limit, IllTyped, Memory}
 use Rattle.cad_runs.specs.Commands.{Reply}
+use Rattle.cad_runs.specs.Run.{bound}
 use Rattle.cad_state.specs.Views.{state_over, AreUnnamed, FindsAndCarriesOut}
 use Rattle.cad_state.specs.declared.state.RunState.{RunState}
 use Rattle.cad_types.specs.Declarations.{Declaration}
 use Rattle.cad_values.specs.Values.{PureValue, pure_value}
 use Rattle.cad_values.specs.declared.value.Value.{Value}
-use Rattle.cad_world.specs.Begin.{begun}
+use Rattle.cad_world.specs.Begin.{begun, IsKept}
 use Rattle.cad_world.specs.Labels.{found_in_accounts, found_in_contracts}
 use Rattle.cad_world.specs.Marks.{AreGivenOnce}
 use Rattle.cad_world.specs.Rows.{Found, either}
 use Rattle.cad_world.specs.State.{Program, State, World, Action}
 use Rattle.cad_script_replies.specs.Code.{told_of}
-use Rattle.cad_script_replies.specs.Replies.{IsBare, told_reply}
+use Rattle.cad_script_replies.specs.Replies.{told_reply}
+
+-- how deep calls may nest
+pub fuel : (n : ℕ) → 2 * n + 2 ≡ bound n
+fuel n = omega arith
 
 -- nothing is found by a label where none was given
-unnamed : (p : Program) (units : ℕ) (w : World) → IsBare w → AreUnnamed w.accounts
-unnamed p units w bare l = go (found_in_accounts l w.accounts) refl
+unnamed : (p : Program) (units : ℕ) (w : World) → IsKept w → AreUnnamed w.accounts
+unnamed p units w kept l = go (found_in_accounts l w.accounts) refl
   where
     go : (o : Option Found) → found_in_accounts l w.accounts ≡ o → found_in_accounts l w.accounts ≡ None
     go None e = e
     go (Some f) e =
-        let low : suc l ≤ 0 = found_given (begun p units w) l f (begins_without p units w bare.kept) (ap (λ o. either o (found_in_contracts l w.contracts)) e) in
+        let low : suc l ≤ 0 = found_given (begun p units w) l f (begins_without p units w kept) (ap (λ o. either o (found_in_contracts l w.contracts)) e) in
         absurd (omega (arith, low))
 
--- a run that begins so, in each such World
-pub ran_so : (a : Action PureValue) (p : Program) (units : ℕ) (x y : RunState) (outcome : Result Value Stop)
-    → ((w : World) → w.contracts ≡ [] → w.next_identity ≡ 1 → state_over w.accounts x ≡ begun p units w) → FindsAndCarriesOut pure_value a x y outcome
-    → (w : World) → IsBare w → (after : State) × Does pure_value a (begun p units w) after outcome
-ran_so a p units x y outcome begins carries w bare =
-    let starts : state_over w.accounts x ≡ begun p units w = begins w bare.contracts bare.identity in
-    let once : AreGivenOnce (state_over w.accounts x) = subst AreGivenOnce (sym starts) (begins_without p units w bare.kept) in (
-      state_over w.accounts y,
-      subst (λ (s : State). Does pure_value a s (state_over w.accounts y) outcome) starts (carries w.accounts (record { unnamed = unnamed p units w bare; once = once })),
-    )
+-- a run that begins over a World as it stands between runs
+pub ran_so : {A B : Type 0} (view : B → A) (a : Action A) (p : Program) (units : ℕ) (w : World) (x y : RunState) (outcome : Result B Stop)
+    → state_over w.accounts x ≡ begun p units w → IsKept w → FindsAndCarriesOut view a x y outcome → Does view a (begun p units w) (state_over w.accounts y) outcome
+ran_so view a p units w x y outcome starts kept carries =
+    let once : AreGivenOnce (state_over w.accounts x) = subst AreGivenOnce (sym starts) (begins_without p units w kept) in
+    subst (λ (s : State). Does view a s (state_over w.accounts y) outcome) starts (carries w.accounts (record { unnamed = unnamed p units w kept; once = once }))
 
 some_is : {A : Type 0} (a b : A) → Some a ≡ Some b → a ≡ b
 some_is a b e = cc

@@ -12,14 +12,21 @@ use Rattle.cad_declarations.specs.declared.statement.Variable.{Variable}
 use Rattle.cad_outcomes.specs.declared.stop.Stop.{Stop}
 use Rattle.cad_rows.specs.Views.{pure_row}
 use Rattle.cad_rows.specs.declared.tree.Place.{Place}
-use Rattle.cad_runs.specs.Commands.{Reply, bad, main_of, types_of}
+use Rattle.cad_runs.specs.Commands.{Reply, main_of, types_of}
 use Rattle.cad_types.specs.Declarations.{Declaration}
 use Rattle.cad_values.specs.Shapes.{Shapes}
 use Rattle.cad_values.specs.declared.value.Value.{Value}
 use Rattle.cad_world.specs.Rows.{Row}
-use Rattle.cad_world.specs.State.{Program}
+use Rattle.cad_world.specs.State.{Program, State, World}
+use Rattle.cad_evaluation.specs.Evaluation.{calls_to}
+use Rattle.cad_outcomes.specs.Outcomes.{Does}
+use Rattle.cad_runs.specs.Run.{bound, run_script}
+use Rattle.cad_values.specs.Shapes.{declarations}
+use Rattle.cad_values.specs.Values.{pure_value}
+use Rattle.cad_world.specs.Begin.{begun}
+use Rattle.cad_script_replies.proofs.Runs.{tells}
 use Rattle.cad_script_replies.specs.Code.{IsRow, told_of, told_stop}
-use Rattle.cad_script_replies.specs.Replies.{value_types, AreArguments, Ran, Answers, unfit, ran}
+use Rattle.cad_script_replies.specs.Replies.{value_types, accepts_nothing, AreArguments, Ran, Answers, ran}
 use Rattle.cad_script_replies.specs.Views.{Tells}
 use Rattle.cad_script_replies.specs.declared.reply.ScriptReply.{ScriptReply}
 
@@ -52,13 +59,23 @@ counts_differ all ps differ = λ e. differ (sym (length-map all view) ∙ e ∙ 
 
 -- ---- answers
 
-pub unfit_so : (p : Program) (all : List Data) (units : ℕ) (main : FunctionBody) (k : Shapes) → main_of p ≡ Some main → k ≡ value_types → length all ≡ length main.parameters
-    → ((r : Row) → AreArguments k (types_of main.parameters) all r → ⊥) → Answers p all units (bad 24)
-unfit_so p all units main k is same count refused = unfit is count (subst (λ (x : Shapes). (r : Row) → AreArguments x (types_of main.parameters) all r → ⊥) same refused)
+-- a reply without a run
+pub refused_with : {E : Type 0} (P : ScriptReply → Type 0) (r : Result ScriptReply E) (it : ScriptReply) → r ≡ Ok it → P it → IfOk r P
+refused_with P r it is h = subst (λ (x : Result ScriptReply _). IfOk x P) (sym is) h
 
-pub ran_answers : {E : Type 0} (p : Program) (all : List Data) (units : ℕ) (main : FunctionBody) (k : Shapes) (r : Row) (given : Result ScriptReply E) → main_of p ≡ Some main → k ≡ value_types
-    → AreArguments k (types_of main.parameters) all r → (k ≡ value_types → IfOk given (λ it. (reply : Reply Data) × Ran p r units reply × Tells it reply))
-    → IfOk given (λ it. (reply : Reply Data) × Answers p all units reply × Tells it reply)
-ran_answers p all units main k r (Ok it) is same them run =
-    let told = run same in (told.0, ran is (subst (λ (x : Shapes). AreArguments x (types_of main.parameters) all r) same them) told.1, told.2)
-ran_answers p all units main k r (Err e) is same them run = tt
+pub ran_answers : {E : Type 0} (w : World) (p : Program) (all : List Data) (units : ℕ) (main : FunctionBody) (r : Row) (given : Result ScriptReply E) → main_of p ≡ Some main
+    → AreArguments value_types (types_of main.parameters) all r → IfOk given (λ it. (reply : Reply Data) × Ran w p r units reply × Tells it reply)
+    → IfOk given (λ it. (reply : Reply Data) × Answers w p all units reply × Tells it reply)
+ran_answers w p all units main r (Ok it) is them told = (told.0, ran is them told.1, told.2)
+ran_answers w p all units main r (Err e) is them told = tt
+
+-- what is told of a run is what is answered to its row
+pub ran_told : {E : Type 0} (k : Shapes) (w : World) (p : Program) (r : Row) (units : ℕ) (after : State) (outcome : Result Value Stop) (given : Result ScriptReply E) → k ≡ value_types
+    → Does pure_value (run_script (calls_to accepts_nothing (bound units)) r) (begun p units w) after outcome → IfOk given (λ it. (reply : Reply Data) × (told_of (declarations k) outcome ≡ Some reply) × Tells it reply)
+    → IfOk given (λ it. (reply : Reply Data) × Ran w p r units reply × Tells it reply)
+ran_told k w p r units after outcome (Ok it) same does told = (
+  told.0,
+  tells (declarations value_types) (run_script (calls_to accepts_nothing (bound units)) r) (begun p units w) after outcome told.0 does (subst (λ (x : Shapes). told_of (declarations x) outcome ≡ Some told.0) same told.1),
+  told.2,
+)
+ran_told k w p r units after outcome (Err e) same does told = tt

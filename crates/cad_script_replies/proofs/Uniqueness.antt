@@ -14,11 +14,10 @@ use Rattle.cad_json_read.specs.Reading.{Known}
 use Rattle.cad_json_read.proofs.Complete.{found_by}
 use Rattle.cad_json_read.proofs.Known.{Good}
 use Rattle.cad_runs.specs.Commands.{Reply, main_of, types_of}
-use Rattle.cad_world.specs.Begin.{empty_world}
 use Rattle.cad_world.specs.Rows.{Row, first}
-use Rattle.cad_world.specs.State.{Program}
+use Rattle.cad_world.specs.State.{Program, World}
 use Rattle.cad_world.specs.Trees.{tree_of}
-use Rattle.cad_script_replies.specs.Replies.{value_types, AreArguments, Ran, IsBare, OneAnswer, no_main, miscounted, unfit, ran}
+use Rattle.cad_script_replies.specs.Replies.{value_types, AreArguments, Ran, OneAnswer, no_main, miscounted, unfit, ran}
 use Rattle.cad_script_replies.proofs.Turns.{parts_of, too_few, too_many, nothing, as_many}
 
 some_is : {A : Type 0} (a b : A) → Some a ≡ Some b → a ≡ b
@@ -38,7 +37,7 @@ good = record { tied = λ id. ((λ e. absurd cc), λ h. absurd (not_importable i
 one_value : (type : PureType) (json : Data) (x y : PureValue) → JsonOf value_types type x json → JsonOf value_types type y json → x ≡ y
 one_value type json x y a b = some_is x y (sym (found_by known good a.reads most_high a.low) ∙ found_by known good b.reads most_high b.low)
 
-one_row : (types : List PureType) (all : List Data) (r q : Row) → AreArguments value_types types all r → AreArguments value_types types all q → r ≡ q
+pub one_row : (types : List PureType) (all : List Data) (r q : Row) → AreArguments value_types types all r → AreArguments value_types types all q → r ≡ q
 one_row [] [] r q a b = nothing a ∙ sym (nothing b)
 one_row [] (json ∷ all) r q a b = absurd (too_many a)
 one_row (type ∷ types) [] r q a b = absurd (too_few a)
@@ -52,13 +51,10 @@ one_row (type ∷ types) (json ∷ all) r q a b =
 
 -- ---- one answer
 
-bare : IsBare empty_world
-bare = record { kept = record { accounts = refl; contracts = refl; rising = refl }; contracts = refl; identity = refl }
+one_reply : (w : World) (p : Program) (r q : Row) (units : ℕ) (x y : Reply Data) → r ≡ q → Ran w p r units x → Ran w p q units y → x ≡ y
+one_reply w p r q units x y same a b = sym (subst (λ (row : Row). Ran w p row units x) same a) ∙ b
 
-one_reply : (p : Program) (r q : Row) (units : ℕ) (x y : Reply Data) → r ≡ q → Ran p r units x → Ran p q units y → x ≡ y
-one_reply p r q units x y same a b = sym (subst (λ (row : Row). Ran p row units x) same a empty_world bare) ∙ b empty_world bare
-
-counted : (main : FunctionBody) (all : List Data) (r : Row) → AreArguments value_types (types_of main.parameters) all r → length all ≡ length main.parameters
+pub counted : (main : FunctionBody) (all : List Data) (r : Row) → AreArguments value_types (types_of main.parameters) all r → length all ≡ length main.parameters
 counted main all r h = as_many value_types (types_of main.parameters) all r h ∙ length-map main.parameters (λ x. x.type)
 
 not_both : (p : Program) (main : FunctionBody) → main_of p ≡ None → main_of p ≡ Some main → ⊥
@@ -68,22 +64,22 @@ same_main : (p : Program) (main other : FunctionBody) → main_of p ≡ Some mai
 same_main p main other e f = some_is main other (sym e ∙ f)
 
 pub one_answer : OneAnswer
-one_answer p all units x y (no_main e) (no_main f) = refl
-one_answer p all units x y (no_main e) (miscounted {main = main} f n) = absurd (not_both p main e f)
-one_answer p all units x y (no_main e) (unfit {main = main} f n h) = absurd (not_both p main e f)
-one_answer p all units x y (no_main e) (ran {main = main} f h r) = absurd (not_both p main e f)
-one_answer p all units x y (miscounted {main = main} f n) (no_main e) = absurd (not_both p main e f)
-one_answer p all units x y (miscounted f n) (miscounted g m) = refl
-one_answer p all units x y (miscounted {main = main} f n) (unfit {main = other} g m h) = absurd (n (m ∙ ap (λ b. length b.parameters) (same_main p other main g f)))
-one_answer p all units x y (miscounted {main = main} f n) (ran {main = other} {r = row} g h r) = absurd (n (counted other all row h ∙ ap (λ b. length b.parameters) (same_main p other main g f)))
-one_answer p all units x y (unfit {main = main} f n h) (no_main e) = absurd (not_both p main e f)
-one_answer p all units x y (unfit {main = main} f n h) (miscounted {main = other} g m) = absurd (m (n ∙ ap (λ b. length b.parameters) (same_main p main other f g)))
-one_answer p all units x y (unfit f n h) (unfit g m k) = refl
-one_answer p all units x y (unfit {main = main} f n h) (ran {main = other} {r = row} g k r) =
+one_answer w p all units x y (no_main e) (no_main f) = refl
+one_answer w p all units x y (no_main e) (miscounted {main = main} f n) = absurd (not_both p main e f)
+one_answer w p all units x y (no_main e) (unfit {main = main} f n h) = absurd (not_both p main e f)
+one_answer w p all units x y (no_main e) (ran {main = main} f h r) = absurd (not_both p main e f)
+one_answer w p all units x y (miscounted {main = main} f n) (no_main e) = absurd (not_both p main e f)
+one_answer w p all units x y (miscounted f n) (miscounted g m) = refl
+one_answer w p all units x y (miscounted {main = main} f n) (unfit {main = other} g m h) = absurd (n (m ∙ ap (λ b. length b.parameters) (same_main p other main g f)))
+one_answer w p all units x y (miscounted {main = main} f n) (ran {main = other} {r = row} g h r) = absurd (n (counted other all row h ∙ ap (λ b. length b.parameters) (same_main p other main g f)))
+one_answer w p all units x y (unfit {main = main} f n h) (no_main e) = absurd (not_both p main e f)
+one_answer w p all units x y (unfit {main = main} f n h) (miscounted {main = other} g m) = absurd (m (n ∙ ap (λ b. length b.parameters) (same_main p main other f g)))
+one_answer w p all units x y (unfit f n h) (unfit g m k) = refl
+one_answer w p all units x y (unfit {main = main} f n h) (ran {main = other} {r = row} g k r) =
     absurd (h row (subst (λ (b : FunctionBody). AreArguments value_types (types_of b.parameters) all row) (same_main p other main g f) k))
-one_answer p all units x y (ran {main = main} f h r) (no_main e) = absurd (not_both p main e f)
-one_answer p all units x y (ran {main = main} {r = row} f h r) (miscounted {main = other} g m) = absurd (m (counted main all row h ∙ ap (λ b. length b.parameters) (same_main p main other f g)))
-one_answer p all units x y (ran {main = main} {r = row} f h r) (unfit {main = other} g m k) =
+one_answer w p all units x y (ran {main = main} f h r) (no_main e) = absurd (not_both p main e f)
+one_answer w p all units x y (ran {main = main} {r = row} f h r) (miscounted {main = other} g m) = absurd (m (counted main all row h ∙ ap (λ b. length b.parameters) (same_main p main other f g)))
+one_answer w p all units x y (ran {main = main} {r = row} f h r) (unfit {main = other} g m k) =
     absurd (k row (subst (λ (b : FunctionBody). AreArguments value_types (types_of b.parameters) all row) (same_main p main other f g) h))
-one_answer p all units x y (ran {main = main} {r = row} f h r) (ran {main = other} {r = row'} g k q) =
-    one_reply p row row' units x y (one_row (types_of other.parameters) all row row' (subst (λ (b : FunctionBody). AreArguments value_types (types_of b.parameters) all row) (same_main p main other f g) h) k) r q
+one_answer w p all units x y (ran {main = main} {r = row} f h r) (ran {main = other} {r = row'} g k q) =
+    one_reply w p row row' units x y (one_row (types_of other.parameters) all row row' (subst (λ (b : FunctionBody). AreArguments value_types (types_of b.parameters) all row) (same_main p main other f g) h) k) r q

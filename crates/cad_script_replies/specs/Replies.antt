@@ -9,7 +9,7 @@ use Rattle.cad_values.specs.Values.{PureValue}
 use Rattle.cad_json.specs.Forms.{has_form}
 use Rattle.cad_json.specs.Read.{JsonOf}
 use Rattle.cad_json.specs.Told.{told}
-use Rattle.cad_world.specs.Begin.{begun, IsKept}
+use Rattle.cad_world.specs.Begin.{begun}
 use Rattle.cad_world.specs.Fronts.{Front}
 use Rattle.cad_world.specs.Rows.{Row, stop, first}
 use Rattle.cad_world.specs.Shapes.{shapes}
@@ -48,32 +48,26 @@ told_reply declared run.ill = ill
 
 -- ---- runs
 
--- a World between runs without contracts, in which no identity was given; whatever its accounts are
-pub record IsBare (w : World) : Type 0 where
-  pub kept : IsKept w
-  pub contracts : w.contracts ≡ []
-  pub identity : w.next_identity ≡ 1
-
 -- no code is accepted as a contract
 abbrev pub accepts_nothing : Front
 accepts_nothing contracts address code = None
 
--- `main` runs on a row of arguments with so many units, and this is told of it, in each such World
-abbrev pub Ran : Program → Row → ℕ → Reply Data → Type 0
-Ran p r units reply = (w : World) → IsBare w → told_reply (declarations value_types) (run_script (calls_to accepts_nothing (bound units)) r (begun p units w)) ≡ reply
+-- `main` runs over a World on a row of arguments with so many units, and this is told of it
+abbrev pub Ran : World → Program → Row → ℕ → Reply Data → Type 0
+Ran w p r units reply = told_reply (declarations value_types) (run_script (calls_to accepts_nothing (bound units)) r (begun p units w)) ≡ reply
 
 -- ---- replies
 
--- What a script answers to JSON as its arguments, with so many units: 26 where it has no `main`, 25 where the arguments are more or
+-- What a script answers over a World to JSON as its arguments, with so many units: 26 where it has no `main`, 25 where the arguments are more or
 -- fewer than its parameters, 24 where they aren't of their types.
-pub data Answers (p : Program) (all : List Data) (units : ℕ) : Reply Data → Type 0 where
-  no_main : main_of p ≡ None → Answers p all units (bad 26)
-  miscounted : {main : FunctionBody} → main_of p ≡ Some main → length all ≢ length main.parameters → Answers p all units (bad 25)
+pub data Answers (w : World) (p : Program) (all : List Data) (units : ℕ) : Reply Data → Type 0 where
+  no_main : main_of p ≡ None → Answers w p all units (bad 26)
+  miscounted : {main : FunctionBody} → main_of p ≡ Some main → length all ≢ length main.parameters → Answers w p all units (bad 25)
   unfit : {main : FunctionBody} → main_of p ≡ Some main → length all ≡ length main.parameters
-      → ((r : Row) → AreArguments value_types (types_of main.parameters) all r → ⊥) → Answers p all units (bad 24)
+      → ((r : Row) → AreArguments value_types (types_of main.parameters) all r → ⊥) → Answers w p all units (bad 24)
   ran : {main : FunctionBody} {r : Row} {reply : Reply Data} → main_of p ≡ Some main → AreArguments value_types (types_of main.parameters) all r
-      → Ran p r units reply → Answers p all units reply
+      → Ran w p r units reply → Answers w p all units reply
 
--- a script has one answer at most
+-- a script has one answer at most over a World
 abbrev pub OneAnswer : Type 0
-OneAnswer = (p : Program) (all : List Data) (units : ℕ) (x y : Reply Data) → Answers p all units x → Answers p all units y → x ≡ y
+OneAnswer = (w : World) (p : Program) (all : List Data) (units : ℕ) (x y : Reply Data) → Answers w p all units x → Answers w p all units y → x ≡ y

@@ -5,12 +5,14 @@ ghost use Rattle.cad_declarations.specs.Views.{variable_of};
 ghost use Rattle.cad_rows.specs.Views.{pure_row};
 ghost use Rattle.cad_runs.specs.Commands.{types_of};
 ghost use Rattle.cad_script_replies.specs.Code.{Adds, AddsAll, IsRow};
+ghost use Rattle.cad_script_replies.specs.Replies.{value_types};
 ghost use Rattle.cad_shapes.specs.Held.{shapes_of};
 ghost use Rattle.cad_syntax.specs.Types.{pure_type};
 ghost use Rattle.cad_values.specs.Values.{pure_value};
 ghost use Rattle.cad_world.specs.Rows.{add_last};
 ghost use Rattle.cad_world.specs.Trees.{tree_of};
 
+use crate::types::value_types;
 use cad_declarations::Variable;
 use cad_json_import::import;
 use cad_rows::{Place, add_last, discard_row};
@@ -74,7 +76,7 @@ fn push_arguments(
 }
 
 /// The values that JSON stands for as arguments for parameters, in a row. None where there are more or fewer, or one stands for none.
-pub fn argument_row(
+fn argument_row(
     alloc: Global,
     shapes: &DeclaredShapes,
     parameters: &[Variable],
@@ -94,4 +96,16 @@ pub fn argument_row(
             Err(error)
         }
     }
+}
+
+/// The same beside no contracts.
+pub fn row_for(
+    alloc: Global,
+    parameters: &[Variable],
+    arguments: &[Json],
+) -> Result<Option<Vec<Place>>, AllocError>
+    ensures { IfOk result (λ o. IsRow value_types (types_of (map variable_of parameters.now)) (map view arguments.now) (option_map (λ row. pure_row row.items) o)) }
+{
+    let shapes = value_types(alloc)?;
+    argument_row(alloc, &shapes, parameters, arguments)
 }

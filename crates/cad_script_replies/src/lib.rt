@@ -1,4 +1,4 @@
-//! What a checked script answers to its arguments.
+//! What a checked script answers over a World to its arguments.
 #![tactic(auto)]
 
 mod arguments;
@@ -11,4 +11,10 @@ mod types;
 
 pub use laws::one_answer;
 pub use reply::ScriptReply;
+pub use running::{NoContracts, begin_over};
 pub use script::answer;
+pub use types::value_types;
+
+// For the crates above alone: rows of arguments and replies to stops, by the definitions that the code follows.
+pub use arguments::row_for;
+pub use running::reply_to_stop;

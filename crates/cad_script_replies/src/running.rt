@@ -10,41 +10,80 @@ ghost use Rattle.cad_script_replies.specs.Code.{told_of, told_stop};
 ghost use Rattle.cad_script_replies.specs.Replies as spec;
 ghost use Rattle.cad_script_replies.specs.Views.{Tells};
 ghost use Rattle.cad_shapes.specs.Held.{shapes_of};
-ghost use Rattle.cad_state.specs.Views.{program_of};
+ghost use Rattle.cad_state.specs.Views.{program_of, state_over};
 ghost use Rattle.cad_values.specs.Shapes.{declarations};
 ghost use Rattle.cad_values.specs.Values.{pure_value};
-ghost use Rattle.cad_world.specs.Begin.{begun};
-ghost use Rattle.cad_world.specs.State.{State, World};
+ghost use Rattle.cad_world.specs.Begin.{begun, IsKept};
+ghost use Rattle.cad_world.specs.State.{State};
+ghost use Rattle.cad_worlds.specs.Standing.{world_of};
 
 use crate::reply::ScriptReply;
-use cad_calls::FrontEnd;
+use crate::types::value_types;
 use cad_declarations::Checked;
+use cad_discards::hold;
 use cad_json_export::export;
 use cad_outcomes::Stop;
 use cad_rows::{Place, discard_row};
-use cad_scripts::{begin, run_script};
+use cad_scripts::{FrontEnd, begin, run_script};
 use cad_shapes::DeclaredShapes;
-use cad_state::{Contract, discard_state, discard_value};
+use cad_state::{Contract, RunState, discard_state, discard_value};
+use cad_syntax::Address;
 use cad_values::Value;
+use cad_worlds::{World, discard_world};
 use std::alloc::{AllocError, Global};
 use std::rc::Rc;
 
 /// The front end that accepts no code as a contract.
 #[derive(Clone, Copy, Drop)]
-struct NoContracts;
+pub struct NoContracts;
 
 impl FrontEnd for NoContracts {
     ghost use Rattle.cad_script_replies.specs.Replies.{accepts_nothing};
 
     ghost front = { λ _. accepts_nothing };
+
+    fn accept(
+        &self,
+        alloc: Global,
+        contracts: &[Contract],
+        address: Address,
+        code: &[u8],
+    ) -> Result<Option<Checked>, AllocError> {
+        Ok(None)
+    }
 }
 
-/// `main` of a script runs on a row of arguments. Errors are those of the call, and 134 where a part of the result has no form.
-fn run_main(alloc: Global, checked: Rc<Checked>, row: Vec<Place>, limit: u64) -> Result<Value, Stop>
-    requires { limit ≤ 1000000 }
-    ensures { (w : World) → spec.IsBare w → (after : State) × Does pure_value (runs.run_script (calls_to spec.accepts_nothing (runs.bound limit)) (pure_row row.items)) (begun (program_of checked.value) limit w) after result }
+/// The state in which a program begins over a World, with so many units. It takes no memory.
+pub fn begin_over(alloc: Global, checked: Rc<Checked>, world: World, units: u64) -> RunState
+    ensures { state_over (world_of world).accounts result ≡ begun (program_of checked.value) units (world_of world) }
 {
-    let mut state = begin(alloc, checked, Vec::<Contract>::new(alloc), 1, limit);
+    let World {
+        accounts,
+        next_identity,
+    } = world;
+    begin(
+        alloc,
+        checked,
+        Some(accounts),
+        Vec::<Contract>::new(alloc),
+        next_identity,
+        units,
+    )
+}
+
+/// `main` of a script runs over a World on a row of arguments. Errors are those of the call, and 134 where a part of the result
+/// has no form.
+fn run_main(
+    alloc: Global,
+    checked: Rc<Checked>,
+    world: World,
+    row: Vec<Place>,
+    limit: u64,
+) -> Result<Value, Stop>
+    requires { limit ≤ 1000000 }
+    ensures { IsKept (world_of world) → (after : State) × Does pure_value (runs.run_script (calls_to spec.accepts_nothing (runs.bound limit)) (pure_row row.items)) (begun (program_of checked.value) limit (world_of world)) after result }
+{
+    let mut state = begin_over(alloc, checked, world, limit);
     let outcome = run_script(2 * limit + 2, &NoContracts, row, &mut state);
     discard_state(state);
     outcome
@@ -67,7 +106,7 @@ fn reply_to_value(
 }
 
 /// Why a run gave no value, as a reply.
-fn reply_to_stop(stop: Stop) -> Result<ScriptReply, AllocError>
+pub fn reply_to_stop(stop: Stop) -> Result<ScriptReply, AllocError>
     ensures { IfOk result (λ it. (reply : Reply Data) × (told_stop stop ≡ Some reply) × Tells it reply) }
 {
     match stop {
@@ -92,24 +131,49 @@ fn reply_to(
     }
 }
 
-/// What a script answers to a row of arguments, with so many units.
-pub fn answer_row(
+/// What a script answers over a World to a row of arguments, with so many units, told by what is known of types.
+fn answer_by(
     alloc: Global,
     shapes: &DeclaredShapes,
     checked: &Rc<Checked>,
+    world: World,
     row: Vec<Place>,
     limit: u64,
 ) -> Result<ScriptReply, AllocError>
-    requires { limit ≤ 1000000 }
-    ensures { shapes_of shapes.now ≡ spec.value_types → IfOk result (λ it. (reply : Reply Data) × spec.Ran (program_of checked.now.value) (pure_row row.items) limit reply × Tells it reply) }
+    requires units { limit ≤ 1000000 }
+    requires kept { IsKept (world_of world) }
+    ensures { shapes_of shapes.now ≡ spec.value_types → IfOk result (λ it. (reply : Reply Data) × spec.Ran (world_of world) (program_of checked.now.value) (pure_row row.items) limit reply × Tells it reply) }
 {
-    match checked.clone() {
+    match hold(checked) {
         Ok(shared) => {
-            let outcome = run_main(alloc, shared, row, limit);
+            let outcome = run_main(alloc, shared, world, row, limit);
             reply_to(alloc, shapes, outcome)
         }
         Err(error) => {
             discard_row(row);
+            discard_world(world);
+            Err(error)
+        }
+    }
+}
+
+/// What a script answers over a World to a row of arguments, with so many units.
+pub fn answer_row(
+    alloc: Global,
+    checked: &Rc<Checked>,
+    world: World,
+    row: Vec<Place>,
+    limit: u64,
+) -> Result<ScriptReply, AllocError>
+    requires units { limit ≤ 1000000 }
+    requires kept { IsKept (world_of world) }
+    ensures { IfOk result (λ it. (reply : Reply Data) × spec.Ran (world_of world) (program_of checked.now.value) (pure_row row.items) limit reply × Tells it reply) }
+{
+    match value_types(alloc) {
+        Ok(shapes) => answer_by(alloc, &shapes, checked, world, row, limit),
+        Err(error) => {
+            discard_row(row);
+            discard_world(world);
             Err(error)
         }
     }

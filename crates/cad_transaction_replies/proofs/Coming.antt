@@ -1,0 +1,20 @@
+-- What a transaction comes to, case by case.
+use Rattle.std.proofs.Common.{◌≡◌, ℕ, List, Result, Ok, Err, IfOk, sym, subst}
+use Rattle.serde_json.specs.Data.{Data}
+use Rattle.cad_syntax.specs.declared.address.Address.{Address}
+use Rattle.cad_world.specs.State.{Program, World}
+use Rattle.cad_transaction_replies.specs.Replies.{Outcome, Comes}
+use Rattle.cad_transaction_replies.specs.Views.{Tells}
+use Rattle.cad_transaction_replies.specs.declared.outcome.TransactionOutcome.{TransactionOutcome}
+
+pub if_ok : {A E : Type 0} {P Q : A → Type 0} (r : Result A E) → ((a : A) → P a → Q a) → IfOk r P → IfOk r Q
+if_ok (Ok a) f h = f a h
+if_ok (Err e) f h = tt
+
+-- what is told is what the program comes to
+abbrev pub IsOutcome : World → Program → List Data → List Address → ℕ → TransactionOutcome → Type 0
+IsOutcome w p all signers units it = (o : Outcome) × Comes w p all signers units o × Tells it o
+
+-- a reply without a run
+pub refused_with : {E : Type 0} (P : TransactionOutcome → Type 0) (r : Result TransactionOutcome E) (it : TransactionOutcome) → r ≡ Ok it → P it → IfOk r P
+refused_with P r it is h = subst (λ (x : Result TransactionOutcome _). IfOk x P) (sym is) h

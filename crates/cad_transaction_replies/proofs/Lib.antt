@@ -1,0 +1,5 @@
+pub mod Signing
+pub mod Listing
+pub mod Runs
+pub mod Coming
+pub mod Uniqueness

@@ -1,0 +1,56 @@
+-- What a transaction comes to beside no contracts: the reply, and the World that it leaves.
+use Rattle.std.specs.Prelude.{◌≡◌, ◌≢◌, ℕ, true, false, List, length, map, Some, None}
+use Rattle.serde_json.specs.Data.{Data}
+use Rattle.cad_syntax.specs.declared.address.Address.{Address}
+use Rattle.cad_declarations.specs.Typed.{TransactionBody}
+use Rattle.cad_json.specs.Told.{told}
+use Rattle.cad_values.specs.Shapes.{declarations}
+use Rattle.cad_world.specs.Begin.{begun, left_world}
+use Rattle.cad_world.specs.Rows.{Row}
+use Rattle.cad_world.specs.State as run
+use Rattle.cad_world.specs.State.{Program, State, World}
+use Rattle.cad_evaluation.specs.Evaluation.{calls_to}
+use Rattle.cad_runs.specs.Commands.{Reply, ran, failed, limit, bad, ill, are_signers, types_of}
+use Rattle.cad_runs.specs.Run.{bound, run_transaction}
+use Rattle.cad_script_replies.specs.Replies.{value_types, AreArguments, accepts_nothing}
+
+-- what a command comes to: a reply, and the World where it becomes another
+pub data Outcome : Type 0 where
+  stays : Reply Data → Outcome
+  leads : Reply Data → World → Outcome
+
+-- ---- runs
+
+-- what was made and destroyed, and the events as JSON
+abbrev pub receipt : State → Reply Data
+receipt s = ran s.made s.destroyed (map (told (declarations value_types)) s.events)
+
+-- the World that the state leaves, or the one before
+abbrev pub settled : run.Outcome (Unit {0}) → Outcome
+settled (run.ok u s) = leads (receipt s) (left_world s)
+settled (run.failed n) = stays (failed n)
+settled run.limit = stays limit
+settled run.ill = stays ill
+
+-- the transaction runs over a World on a row of arguments with so many units, and comes to this
+abbrev pub Ran : World → Program → TransactionBody → Row → List Address → ℕ → Outcome → Type 0
+Ran w p t r signers units outcome =
+    settled (run_transaction accepts_nothing (calls_to accepts_nothing (bound units)) (bound units) t r signers (begun p units w)) ≡ outcome
+
+-- ---- replies
+
+-- What a program comes to as a transaction: 26 where it is none, where a signer has no account, and where there are more or fewer
+-- signers than parameters of `prepare`; 25 where the arguments are more or fewer than its parameters, 24 where they aren't of
+-- their types; else what its run comes to.
+pub data Comes (w : World) (p : Program) (all : List Data) (signers : List Address) (units : ℕ) : Outcome → Type 0 where
+  no_transaction : p.bodies.transaction ≡ None → Comes w p all signers units (stays (bad 26))
+  unsigned : {t : TransactionBody} → p.bodies.transaction ≡ Some t → are_signers w t signers ≡ false → Comes w p all signers units (stays (bad 26))
+  miscounted : {t : TransactionBody} → p.bodies.transaction ≡ Some t → are_signers w t signers ≡ true → length all ≢ length t.parameters → Comes w p all signers units (stays (bad 25))
+  unfit : {t : TransactionBody} → p.bodies.transaction ≡ Some t → are_signers w t signers ≡ true → length all ≡ length t.parameters
+      → ((r : Row) → AreArguments value_types (types_of t.parameters) all r → ⊥) → Comes w p all signers units (stays (bad 24))
+  runs : {t : TransactionBody} {r : Row} {outcome : Outcome} → p.bodies.transaction ≡ Some t → are_signers w t signers ≡ true → AreArguments value_types (types_of t.parameters) all r
+      → Ran w p t r signers units outcome → Comes w p all signers units outcome
+
+-- a transaction comes to one outcome at most over a World
+abbrev pub OneOutcome : Type 0
+OneOutcome = (w : World) (p : Program) (all : List Data) (signers : List Address) (units : ℕ) (x y : Outcome) → Comes w p all signers units x → Comes w p all signers units y → x ≡ y

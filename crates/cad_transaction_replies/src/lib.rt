@@ -1,0 +1,16 @@
+//! What a checked transaction comes to over a World.
+#![tactic(auto)]
+
+mod events;
+mod laws;
+mod left;
+mod outcome;
+mod running;
+mod signers;
+mod transaction;
+
+pub use events::push_item;
+pub use laws::one_outcome;
+pub use outcome::{Receipt, TransactionOutcome};
+pub use signers::has_account;
+pub use transaction::transact;

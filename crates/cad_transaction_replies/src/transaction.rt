@@ -1,0 +1,152 @@
+// What a transaction comes to.
+ghost use Rattle.std.specs.Prelude.{◌≡◌, ◌≤◌, IfOk, Ok, Some, length, map, true};
+ghost use Rattle.serde_json.specs.View.{view};
+ghost use Rattle.cad_declarations.specs.Views.{transaction_of};
+ghost use Rattle.cad_runs.specs.Commands.{are_signers};
+ghost use Rattle.cad_state.specs.Views.{program_of};
+ghost use Rattle.cad_transaction_replies.specs.Replies.{Outcome, Comes};
+ghost use Rattle.cad_transaction_replies.specs.Views.{Tells};
+ghost use Rattle.cad_world.specs.Begin.{IsKept};
+ghost use Rattle.cad_worlds.specs.Standing.{world_of};
+
+use crate::outcome::TransactionOutcome;
+use crate::running::outcome_of_row;
+use crate::signers::are_signers;
+use cad_declarations::{Checked, TypedTransaction};
+use cad_discards::discard_checked;
+use cad_script_replies::{ScriptReply, row_for};
+use cad_state::discard_shared;
+use cad_syntax::Address;
+use cad_worlds::{World, discard_world};
+use serde_json::Value as Json;
+use std::alloc::{AllocError, Global};
+use std::rc::Rc;
+
+/// A refusal by its number. The World is let go.
+fn refuse(world: World, number: u16) -> Result<TransactionOutcome, AllocError>
+    ensures { result ≡ Ok (TransactionOutcome.Stays (ScriptReply.Bad number)) }
+{
+    discard_world(world);
+    Ok(TransactionOutcome::Stays(ScriptReply::Bad(number)))
+}
+
+/// What a transaction comes to, with its signers, on as many arguments as it has parameters: bad 24 where they aren't of their
+/// types, else what its run comes to.
+fn outcome_of_arguments(
+    alloc: Global,
+    checked: &Rc<Checked>,
+    transaction: &TypedTransaction,
+    world: World,
+    arguments: &[Json],
+    signers: &[Address],
+    limit: u64,
+) -> Result<TransactionOutcome, AllocError>
+    requires units { limit ≤ 1000000 }
+    requires kept { IsKept (world_of world) }
+    requires is { (program_of checked.now.value).bodies.transaction ≡ Some (transaction_of transaction.now) }
+    requires signed { are_signers (world_of world) (transaction_of transaction.now) signers.now ≡ true }
+    requires counted { length arguments.now ≡ length transaction.now.parameters.items }
+    ensures { IfOk result (λ it. (o : Outcome) × Comes (world_of world) (program_of checked.now.value) (map view arguments.now) signers.now limit o × Tells it o) }
+{
+    match row_for(alloc, transaction.parameters.as_slice(), arguments) {
+        Ok(Some(row)) => outcome_of_row(alloc, checked, transaction, world, row, signers, limit),
+        Ok(None) => refuse(world, 24),
+        Err(error) => {
+            discard_world(world);
+            Err(error)
+        }
+    }
+}
+
+/// What a transaction comes to: bad 26 where a signer has no account, and where there are more or fewer signers than parameters
+/// of `prepare`; 25 where the arguments are more or fewer than its parameters, 24 where they aren't of their types; else what its
+/// run comes to.
+fn outcome_of_transaction(
+    alloc: Global,
+    checked: &Rc<Checked>,
+    transaction: &TypedTransaction,
+    world: World,
+    arguments: &[Json],
+    signers: &[Address],
+    limit: u64,
+) -> Result<TransactionOutcome, AllocError>
+    requires units { limit ≤ 1000000 }
+    requires kept { IsKept (world_of world) }
+    requires is { (program_of checked.now.value).bodies.transaction ≡ Some (transaction_of transaction.now) }
+    ensures { IfOk result (λ it. (o : Outcome) × Comes (world_of world) (program_of checked.now.value) (map view arguments.now) signers.now limit o × Tells it o) }
+{
+    if !are_signers(&world, transaction, signers) {
+        return refuse(world, 26);
+    }
+    if arguments.len() != transaction.parameters.len() {
+        return refuse(world, 25);
+    }
+    outcome_of_arguments(
+        alloc,
+        checked,
+        transaction,
+        world,
+        arguments,
+        signers,
+        limit,
+    )
+}
+
+/// What a program that others may hold comes to as a transaction.
+fn outcome_of_shared(
+    alloc: Global,
+    checked: &Rc<Checked>,
+    world: World,
+    arguments: &[Json],
+    signers: &[Address],
+    limit: u64,
+) -> Result<TransactionOutcome, AllocError>
+    requires units { limit ≤ 1000000 }
+    requires kept { IsKept (world_of world) }
+    ensures { IfOk result (λ it. (o : Outcome) × Comes (world_of world) (program_of checked.now.value) (map view arguments.now) signers.now limit o × Tells it o) }
+{
+    match &checked.bodies.transaction {
+        Some(transaction) => {
+            outcome_of_transaction(
+                alloc,
+                checked,
+                transaction,
+                world,
+                arguments,
+                signers,
+                limit,
+            )
+        }
+        None => refuse(world, 26),
+    }
+}
+
+/// What a program comes to as a transaction over a World without contracts, with JSON as its arguments, these signers and so many
+/// units. Bad 26 where it is no transaction, where a signer has no account, and where there are more or fewer signers than
+/// parameters of `prepare`; 25 where the arguments are more or fewer than its parameters, 24 where they aren't of their types;
+/// else the number of its error, that the units were too few, or its receipt and the World that it leaves.
+pub fn transact(
+    alloc: Global,
+    checked: Checked,
+    world: World,
+    arguments: &[Json],
+    signers: &[Address],
+    limit: u64,
+) -> Result<TransactionOutcome, AllocError>
+    requires units { limit ≤ 1000000 }
+    requires kept { IsKept (world_of world) }
+    ensures { IfOk result (λ it. (o : Outcome) × Comes (world_of world) (program_of checked) (map view arguments.now) signers.now limit o × Tells it o) }
+{
+    match Rc::new(alloc, checked) {
+        Ok(shared) => {
+            let outcome = outcome_of_shared(alloc, &shared, world, arguments, signers, limit);
+            discard_shared(shared);
+            outcome
+        }
+        Err(refused) => {
+            discard_checked(refused.value);
+            discard_world(world);
+            Err(AllocError)
+        }
+    }
+}

@@ -1,0 +1,188 @@
+// Whether the values of a World have bytes of their own: those from which they are read again.
+ghost use Rattle.std.specs.Prelude.{◌≡◌, ◌↔◌, IsTrue, IfOk, map};
+ghost use Rattle.std.specs.List.{AllByRecursion};
+ghost use Rattle.cad_codec.specs.Forms.{HasBytes, TypeHasBytes};
+ghost use Rattle.cad_rows.specs.Views.{pure_place, pure_row, pure_tree};
+ghost use Rattle.cad_state.specs.Views.{account_of, controller_of, publication_of};
+ghost use Rattle.cad_syntax.specs.Types.{pure_type};
+ghost use Rattle.cad_values.specs.Values.{pure_value};
+ghost use Rattle.cad_world.specs.Registers.{row_values};
+ghost use Rattle.cad_world.specs.Trees.{value_of};
+ghost use Rattle.cad_world_checks.specs.Checks.{PlaceHasBytes, LentHasBytes, BorrowedHasBytes};
+ghost use Rattle.cad_worlds.specs.Standing.{AccountHasBytes, WorldHasBytes, world_of};
+
+use cad_codec::{DecodeError, decode, decode_type, encode, encode_type};
+use cad_declarations::discard_type;
+use cad_rows::{Place, Tree};
+use cad_state::{Account, Controller, Publication, discard_value};
+use cad_syntax::CadType;
+use cad_value_trees::value_from_tree;
+use cad_values::{Value, has_no_reference, same};
+use cad_worlds::World;
+use std::alloc::{AllocError, Global};
+
+const MOST_LETTERS: usize = 4_294_967_295;
+
+// ---- values and types
+
+/// Whether a value is the one that was read again, which is let go.
+fn is_value(again: Value, value: &Value) -> bool
+    ensures { IsTrue result ↔ (pure_value again ≡ pure_value value.now) }
+{
+    let is = same(&again, value);
+    discard_value(again);
+    is
+}
+
+/// Whether a value is read again from its bytes.
+fn value_has_bytes(alloc: Global, value: &Value) -> Result<bool, AllocError>
+    ensures { IfOk result (λ b. IsTrue b ↔ HasBytes (pure_value value.now)) }
+{
+    if !has_no_reference(value) {
+        return Ok(false);
+    }
+    let bytes = encode(alloc, value)?;
+    match decode(alloc, bytes.as_slice()) {
+        Ok(again) => Ok(is_value(again, value)),
+        Err(DecodeError::Damaged) => Ok(false),
+        Err(DecodeError::Memory) => Err(AllocError),
+    }
+}
+
+/// Whether a type is the one that was read again, which is let go.
+fn is_that_type(again: CadType, t: &CadType) -> bool
+    ensures { IsTrue result ↔ (pure_type again ≡ pure_type t.now) }
+{
+    let is = again.same(t);
+    discard_type(again);
+    is
+}
+
+/// Whether a type is read again from its bytes.
+fn type_has_bytes(alloc: Global, t: &CadType) -> Result<bool, AllocError>
+    ensures { IfOk result (λ b. IsTrue b ↔ TypeHasBytes (pure_type t.now)) }
+{
+    let bytes = encode_type(alloc, t)?;
+    match decode_type(alloc, bytes.as_slice()) {
+        Ok(again) => Ok(is_that_type(again, t)),
+        Err(DecodeError::Damaged) => Ok(false),
+        Err(DecodeError::Memory) => Err(AllocError),
+    }
+}
+
+// ---- what an account has
+
+/// Whether the value of a tree has bytes of its own.
+fn tree_has_bytes(alloc: Global, tree: &Tree) -> Result<bool, AllocError>
+    ensures { IfOk result (λ b. IsTrue b ↔ HasBytes (value_of (pure_tree tree.now))) }
+{
+    let value = value_from_tree(alloc, tree)?;
+    let has = value_has_bytes(alloc, &value);
+    discard_value(value);
+    has
+}
+
+/// Whether what stands in a place has, if something does.
+fn place_has_bytes(alloc: Global, place: &Place) -> Result<bool, AllocError>
+    ensures { IfOk result (λ b. IsTrue b ↔ PlaceHasBytes (pure_place place.now)) }
+{
+    match place {
+        Place::Empty => Ok(true),
+        Place::Full(_, tree) => tree_has_bytes(alloc, tree),
+    }
+}
+
+/// Whether all that stands in a row has.
+fn row_has_bytes(alloc: Global, row: &[Place]) -> Result<bool, AllocError>
+    ensures { IfOk result (λ b. IsTrue b ↔ AllByRecursion HasBytes (row_values (pure_row row.now))) }
+{
+    for place in row {
+        if !place_has_bytes(alloc, place)? {
+            return Ok(false);
+        }
+    }
+    Ok(true)
+}
+
+/// Whether the type that a publication lends has bytes of its own.
+fn publication_has_bytes(alloc: Global, publication: &Publication) -> Result<bool, AllocError>
+    ensures { IfOk result (λ b. IsTrue b ↔ LentHasBytes (publication_of publication.now)) }
+{
+    type_has_bytes(alloc, &publication.lent)
+}
+
+/// Whether that of each publication has.
+fn publications_have_bytes(alloc: Global, published: &[Publication]) -> Result<bool, AllocError>
+    ensures { IfOk result (λ b. IsTrue b ↔ AllByRecursion LentHasBytes (map publication_of published.now)) }
+{
+    for publication in published {
+        if !publication_has_bytes(alloc, publication)? {
+            return Ok(false);
+        }
+    }
+    Ok(true)
+}
+
+/// Whether the type that a controller lets be borrowed has, and its target isn't too long.
+fn controller_has_bytes(alloc: Global, controller: &Controller) -> Result<bool, AllocError>
+    ensures { IfOk result (λ b. IsTrue b ↔ BorrowedHasBytes (controller_of controller.now)) }
+{
+    let target = controller.target.0.as_bytes();
+    if target.len() > MOST_LETTERS {
+        return Ok(false);
+    }
+    type_has_bytes(alloc, &controller.borrow)
+}
+
+/// Whether all controllers have.
+fn controllers_have_bytes(alloc: Global, controllers: &[Controller]) -> Result<bool, AllocError>
+    ensures { IfOk result (λ b. IsTrue b ↔ AllByRecursion BorrowedHasBytes (map controller_of controllers.now)) }
+{
+    for controller in controllers {
+        if !controller_has_bytes(alloc, controller)? {
+            return Ok(false);
+        }
+    }
+    Ok(true)
+}
+
+// ---- all
+
+/// Whether all that an account has has bytes of its own.
+fn account_has_bytes(alloc: Global, account: &Account) -> Result<bool, AllocError>
+    ensures { IfOk result (λ b. IsTrue b ↔ AccountHasBytes (account_of account.now)) }
+{
+    let places = account.stored.as_slice();
+    let stored = row_has_bytes(alloc, places)?;
+    if !stored {
+        return Ok(false);
+    }
+    let published = account.published.as_slice();
+    let lent = publications_have_bytes(alloc, published)?;
+    if !lent {
+        return Ok(false);
+    }
+    let controllers = account.controllers.as_slice();
+    controllers_have_bytes(alloc, controllers)
+}
+
+/// Whether all accounts have.
+fn accounts_have_bytes(alloc: Global, accounts: &[Account]) -> Result<bool, AllocError>
+    ensures { IfOk result (λ b. IsTrue b ↔ AllByRecursion AccountHasBytes (map account_of accounts.now)) }
+{
+    for account in accounts {
+        if !account_has_bytes(alloc, account)? {
+            return Ok(false);
+        }
+    }
+    Ok(true)
+}
+
+/// Whether the values and types in a World have bytes that no others have. AllocError where memory runs out, or where a text
+/// or a list has 2^32 items or more.
+pub fn has_bytes(alloc: Global, world: &World) -> Result<bool, AllocError>
+    ensures { IfOk result (λ b. IsTrue b ↔ WorldHasBytes (world_of world.now)) }
+{
+    let accounts = world.accounts.as_slice();
+    accounts_have_bytes(alloc, accounts)
+}

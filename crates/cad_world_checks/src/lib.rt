@@ -1,0 +1,9 @@
+//! What is tested of Worlds between commands: whether they are sound, and whether their values have bytes of their own.
+#![tactic(auto)]
+
+mod bytes;
+mod of_values;
+mod sound;
+
+pub use bytes::has_bytes;
+pub use sound::is_sound;

@@ -1,0 +1,5 @@
+pub mod Again
+pub mod Found
+pub mod Made
+pub mod Same
+pub mod ReadBack

@@ -1,0 +1,77 @@
+-- What a register says, as it is read, and what is made of registers one behind another.
+use Rattle.std.specs.Prelude.{ℕ, ◌==◌, List, [], ◌∷◌, Option, Some, None, option_map, if◌then◌else◌}
+use Rattle.std.specs.Str.{is_utf8}
+use Rattle.cad_codec.specs.Code.Fields.{name_of}
+use Rattle.cad_codec.specs.Code.Values.{value_at, whole, whole_type_at}
+use Rattle.cad_syntax.specs.Types.{PureType}
+use Rattle.cad_syntax.specs.declared.text.Name.{Name}
+use Rattle.cad_values.specs.Sizes.{most_high}
+use Rattle.cad_values.specs.Values.{PureValue, capability}
+use Rattle.cad_wire.specs.Fields.{◌>>=◌, number_at, bytes_at}
+use Rattle.cad_world.specs.Registers.{Register}
+use Rattle.cad_world.specs.State.{Controller, World}
+use Rattle.cad_worlds.specs.Items.{Item, head, next, stored, published, controlled, put}
+
+-- ---- what all of the bytes are
+
+abbrev pub number_in : List ℕ → Option ℕ
+number_in bytes = whole (number_at bytes)
+
+abbrev pub name_in : List ℕ → Option Name
+name_in bytes = if is_utf8 bytes then Some (name_of bytes) else None
+
+unfoldable pub value_in : List ℕ → Option PureValue
+value_in bytes = whole (value_at most_high bytes)
+
+unfoldable pub type_in : List ℕ → Option PureType
+type_in bytes = whole (whole_type_at bytes)
+
+-- the number and the type of a capability
+abbrev pub lent_by : PureValue → Option (ℕ × PureType)
+lent_by (capability a n t) = Some (n, t)
+lent_by _ = None
+
+abbrev pub lent_in : List ℕ → Option (ℕ × PureType)
+lent_in bytes = value_in bytes >>= lent_by
+
+-- ---- registers of each kind, by what stands behind the kind in their keys, and their bytes
+
+abbrev pub head_in : List ℕ → Option Item
+head_in bytes = number_at bytes >>= λ count. number_in count.1 >>= λ identity. Some (head count.0 identity)
+
+abbrev pub next_in : List ℕ → List ℕ → Option Item
+next_in place bytes = number_in place >>= λ n. number_in bytes >>= λ number. Some (next n number)
+
+abbrev pub stored_in : List ℕ → List ℕ → Option Item
+stored_in place bytes = number_at place >>= λ n. name_in n.1 >>= λ i. value_in bytes >>= λ v. Some (stored n.0 i v)
+
+abbrev pub published_in : List ℕ → List ℕ → Option Item
+published_in place bytes = number_at place >>= λ n. name_in n.1 >>= λ i. lent_in bytes >>= λ l. Some (published n.0 (record { identifier = i; number = l.0; lent = l.1 }))
+
+abbrev pub controller_in : ℕ → List ℕ → Option Controller
+controller_in number bytes = bytes_at bytes >>= λ a. bytes_at a.1 >>= λ b. name_in a.0 >>= λ i. type_in b.1 >>= λ t. Some (record { number = number; borrow = t; tag = b.0; target = i })
+
+abbrev pub controlled_in : List ℕ → List ℕ → Option Item
+controlled_in place bytes = number_at place >>= λ n. number_in n.1 >>= λ number. controller_in number bytes >>= λ c. Some (controlled n.0 c)
+
+abbrev pub of_kind : ℕ → List ℕ → List ℕ → Option Item
+of_kind kind place bytes =
+    if kind == 0 then head_in bytes
+    else (if kind == 1 then next_in place bytes
+    else (if kind == 4 then stored_in place bytes
+    else (if kind == 5 then published_in place bytes
+    else (if kind == 6 then controlled_in place bytes else None))))
+
+-- by its key and its bytes
+abbrev pub item_in : List ℕ → List ℕ → Option Item
+item_in [] bytes = None
+item_in (kind ∷ place) bytes = of_kind kind place bytes
+
+-- ---- the World that they make
+
+abbrev pub made : Option Item → World → Option World
+made o w = option_map (λ x. put x w) o
+
+abbrev pub all_made : List Register → World → Option World
+all_made [] w = Some w
+all_made (r ∷ rs) w = made (item_in r.key r.bytes) w >>= λ v. all_made rs v

@@ -1,0 +1,99 @@
+// Parts of keys and of bytes.
+ghost use Rattle.std.specs.Prelude.{ℕ, List};
+ghost use Rattle.cad_codec.specs.Answers.{GivesAs};
+ghost use Rattle.cad_syntax.specs.Types.{PureType, pure_type};
+ghost use Rattle.cad_values.specs.Values.{pure_value};
+ghost use Rattle.cad_wire.specs.Fields.{number_at, bytes_at};
+ghost use Rattle.cad_world_reading.specs.Told as spec;
+
+use cad_codec::{DecodeError, decode, decode_type};
+use cad_state::discard_value;
+use cad_syntax::{CadType, Name, Text};
+use cad_values::Value;
+use cad_wire::Reader;
+use std::alloc::Global;
+
+/// The number that 8 bytes at the front are, and the bytes behind it.
+pub(crate) fn split_number(bytes: &[u8]) -> Result<(u64, &[u8]), DecodeError>
+    ensures { GivesAs {B = ℕ × List ℕ} (λ p. (p.0, p.1.now)) result (number_at bytes.now) }
+{
+    let Some((front, rest)) = bytes.split_first_chunk::<8>() else {
+        return Err(DecodeError::Damaged);
+    };
+    Ok((u64::from_be_bytes(*front), rest))
+}
+
+/// The number that all 8 bytes are.
+pub(crate) fn number_in(bytes: &[u8]) -> Result<u64, DecodeError>
+    ensures { GivesAs (λ n. n) result (spec.number_in bytes.now) }
+{
+    let mut reader = Reader::new(bytes);
+    let number = reader.number()?;
+    if reader.left() > 0 {
+        return Err(DecodeError::Damaged);
+    }
+    Ok(number)
+}
+
+/// The byte string at the front, and the bytes behind it.
+#[tactic(auto, unfolding(cad_wire::specs::Fields::bytes_at))]
+pub(crate) fn split_text(bytes: &[u8]) -> Result<(&[u8], &[u8]), DecodeError>
+    ensures { GivesAs {B = List ℕ × List ℕ} (λ p. (p.0.now, p.1.now)) result (bytes_at bytes.now) }
+{
+    let Some((front, rest)) = bytes.split_first_chunk::<4>() else {
+        return Err(DecodeError::Damaged);
+    };
+    let length = u32::from_be_bytes(*front) as usize;
+    if rest.len() < length {
+        return Err(DecodeError::Damaged);
+    }
+    let (text, rest) = rest.split_at(length);
+    Ok((text, rest))
+}
+
+/// The name that all of the bytes are.
+pub(crate) fn name_in(alloc: Global, bytes: &[u8]) -> Result<Name, DecodeError>
+    ensures { GivesAs (λ name. name) result (spec.name_in bytes.now) }
+{
+    match std::str::from_utf8(bytes) {
+        Ok(text) => Ok(Name(Text::from_str(alloc, text)?)),
+        Err(_) => Err(DecodeError::Damaged),
+    }
+}
+
+/// The value that has these bytes.
+pub(crate) fn value_in(alloc: Global, bytes: &[u8]) -> Result<Value, DecodeError>
+    ensures { GivesAs pure_value result (spec.value_in bytes.now) }
+{
+    decode(alloc, bytes)
+}
+
+/// The type that has these bytes.
+pub(crate) fn type_in(alloc: Global, bytes: &[u8]) -> Result<CadType, DecodeError>
+    ensures { GivesAs pure_type result (spec.type_in bytes.now) }
+{
+    decode_type(alloc, bytes)
+}
+
+/// The number and the type of a capability.
+fn lent_by(value: &Value) -> Result<(u64, CadType), DecodeError>
+    ensures { GivesAs {B = ℕ × PureType} (λ p. (p.0, pure_type p.1)) result (spec.lent_by (pure_value value.now)) }
+{
+    match value {
+        Value::Capability(cap) => {
+            let lent = cap.borrow.clone()?;
+            Ok((cap.id, lent))
+        }
+        _ => Err(DecodeError::Damaged),
+    }
+}
+
+/// The number and the type of the capability that has these bytes.
+pub(crate) fn lent_in(alloc: Global, bytes: &[u8]) -> Result<(u64, CadType), DecodeError>
+    ensures { GivesAs {B = ℕ × PureType} (λ p. (p.0, pure_type p.1)) result (spec.lent_in bytes.now) }
+{
+    let value = value_in(alloc, bytes)?;
+    let lent = lent_by(&value);
+    discard_value(value);
+    lent
+}

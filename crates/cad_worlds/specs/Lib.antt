@@ -1,0 +1,5 @@
+pub mod Standing
+pub mod Sections
+pub mod Merging
+pub mod Laws
+pub mod Items

@@ -1,0 +1,156 @@
+// The entries that lead from registers to others.
+ghost use Rattle.std.specs.Prelude.{◌≡◌, ◌++◌, ◌∷◌, [], true, List, map, IfOk, OnOk};
+ghost use Rattle.cad_accounts.specs.KeyOrder as order;
+ghost use Rattle.cad_accounts.specs.Registers.{Leads, at, are_rising};
+ghost use Rattle.cad_accounts.specs.declared.row.Row as r;
+ghost use Rattle.cad_worlds.specs.Merging as spec;
+
+use cad_accounts::Row;
+use cad_syntax::Items;
+use cad_wire::{Entries, Entry, Key};
+use std::alloc::{AllocError, Global};
+
+/// Whether a row stands before a key.
+fn is_before(row: &Row, key: &[u8]) -> bool
+    ensures { result ≡ order.before row.now.key.0 key.now }
+{
+    row.key.0.as_slice().cmp(key).is_lt()
+}
+
+/// Adds that a row is removed.
+fn push_removal(alloc: Global, row: &Row, changes: &mut Entries) -> Result<(), AllocError>
+    ensures { OnOk result (changes.new ≡ changes.old ++ spec.removal row.now ∷ []) }
+{
+    let key = Items::from_slice(alloc, row.key.0.as_slice())?;
+    changes.push(Entry {
+        key: Key(key),
+        value: None,
+    })
+}
+
+/// Adds that all rows are removed.
+fn remove_all(alloc: Global, rows: &[Row], changes: &mut Entries) -> Result<(), AllocError>
+    ensures { OnOk result (changes.new ≡ changes.old ++ map spec.removal rows.now) }
+{
+    for row in rows {
+        push_removal(alloc, row, changes)?;
+    }
+    Ok(())
+}
+
+/// Adds that the first rows are removed, whose keys stand before this one. The rows from there on are handed back.
+fn remove_before<'r>(
+    alloc: Global,
+    rows: &'r [Row],
+    key: &[u8],
+    changes: &mut Entries,
+) -> Result<&'r [Row], AllocError>
+    ensures left { IfOk result (λ left. left.now ≡ spec.from key.now rows.now) }
+    ensures changes { OnOk result (changes.new ≡ changes.old ++ map spec.removal (spec.in_front key.now rows.now)) }
+{
+    for i in 0..rows.len() {
+        let row = &rows[i];
+        if !is_before(row, key) {
+            return Ok(&rows[i..]);
+        }
+        push_removal(alloc, row, changes)?;
+    }
+    Ok(&[])
+}
+
+/// Whether a row is the first of these.
+fn is_first(rows: &[Row], row: &Row) -> bool
+    ensures { result ≡ spec.is_first rows.now row.now }
+{
+    match rows {
+        [] => false,
+        [first, ..] => {
+            first.key.0.as_slice() == row.key.0.as_slice()
+                && first.value.as_slice() == row.value.as_slice()
+        }
+    }
+}
+
+/// The rows behind that of a key, where it is the first.
+fn behind<'r>(rows: &'r [Row], key: &[u8]) -> &'r [Row]
+    ensures { result.now ≡ spec.behind key.now rows.now }
+{
+    match rows {
+        [] => rows,
+        [first, rest @ ..] => {
+            if first.key.0.as_slice() == key {
+                rest
+            } else {
+                rows
+            }
+        }
+    }
+}
+
+/// Adds that a row comes, unless it is the first of those that are there.
+fn push_row(there: &[Row], row: Row, changes: &mut Entries) -> Result<(), AllocError>
+    ensures { OnOk result (changes.new ≡ changes.old ++ spec.own there.now row) }
+{
+    if is_first(there, &row) {
+        return Ok(());
+    }
+    let Row { key, value } = row;
+    changes.push(Entry {
+        key,
+        value: Some(value),
+    })
+}
+
+/// Adds what leads to one row more: the removals of the rows before it, and itself, unless it is there. The rows behind it are
+/// handed back.
+fn take_row<'r>(
+    alloc: Global,
+    rows: &'r [Row],
+    row: Row,
+    changes: &mut Entries,
+) -> Result<&'r [Row], AllocError>
+    ensures left { IfOk result (λ left. left.now ≡ spec.behind row.key.0 (spec.from row.key.0 rows.now)) }
+    ensures changes { OnOk result (changes.new ≡ changes.old ++ (map spec.removal (spec.in_front row.key.0 rows.now) ++ spec.own (spec.from row.key.0 rows.now) row)) }
+{
+    let there = remove_before(alloc, rows, row.key.0.as_slice(), changes)?;
+    let left = behind(there, row.key.0.as_slice());
+    push_row(there, row, changes)?;
+    Ok(left)
+}
+
+/// Adds what leads from the one rows to the others, but for the removal of those behind the last of these, which are handed
+/// back.
+fn take_rows<'r>(
+    alloc: Global,
+    old: &'r [Row],
+    new: Vec<Row>,
+    changes: &mut Entries,
+) -> Result<&'r [Row], AllocError>
+    ensures { IfOk result (λ left. (rest : List r.Row) → changes.new ++ spec.merged left.now rest ≡ changes.old ++ spec.merged old.now (new.items ++ rest)) }
+{
+    let mut left = old;
+    for row in new {
+        left = take_row(alloc, left, row, changes)?;
+    }
+    Ok(left)
+}
+
+/// What leads from the one rows to the others, by going once over both.
+fn merge(alloc: Global, old: &[Row], new: Vec<Row>) -> Result<Entries, AllocError>
+    ensures { IfOk result (λ changes. changes ≡ spec.merged old.now new.items) }
+{
+    let mut changes = Items::new(alloc);
+    let left = take_rows(alloc, old, new, &mut changes)?;
+    remove_all(alloc, left, &mut changes)?;
+    Ok(changes)
+}
+
+/// The entries that lead from registers to others, both in byte order of their keys: exactly those that differ, in that order.
+pub fn changes(alloc: Global, old: &[Row], new: Vec<Row>) -> Result<Entries, AllocError>
+    requires old { are_rising old.now ≡ true }
+    requires new { are_rising new.items ≡ true }
+    ensures { IfOk result (λ changes. Leads (at old.now) (at new.items) changes) }
+{
+    let entries = merge(alloc, old, new)?;
+    Ok(entries)
+}
