@@ -1,6 +1,8 @@
 -- A reply is one line.
 use Rattle.std.proofs.Common.{◌≡◌, ℕ, zero, suc, ◌+◌, ◌≤◌, ◌==◌, Bool, true, false, if◌then◌else◌, List, [], ◌∷◌, ◌++◌, length, take, refl, ◌∙◌, ap, arith}
-use Rattle.cadence.specs.Answer.{Answer, answer_line}
+use Rattle.serde_json.specs.Data.{Data}
+use Rattle.cad_runs.specs.Commands.{Reply}
+use Rattle.cadence.specs.Answer.{answer_line}
 use Rattle.cadence.specs.Served.{answer_lines}
 use Rattle.cadence.specs.Replied.{line_feeds}
 
@@ -25,6 +27,6 @@ feeds_front (suc k) [] = omega arith
 feeds_front (suc k) (b ∷ xs) = at_most (b == 10) (line_feeds (take k xs)) (line_feeds xs) (feeds_front k xs)
 
 -- as many lines as answers
-pub feeds_lines : ((a : Answer) → line_feeds (answer_line a) ≡ 1) → (answers : List Answer) → line_feeds (answer_lines answers) ≡ length answers
+pub feeds_lines : ((a : Reply Data) → line_feeds (answer_line a) ≡ 1) → (answers : List (Reply Data)) → line_feeds (answer_lines answers) ≡ length answers
 feeds_lines one [] = refl
 feeds_lines one (a ∷ answers) = feeds_append (answer_line a) (answer_lines answers) ∙ omega (arith, one a, feeds_lines one answers)

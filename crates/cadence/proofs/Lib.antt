@@ -7,9 +7,12 @@ pub mod Lines_of
 pub mod Prefixes
 pub mod Saids
 pub mod Comings
+pub mod Standings
 pub mod Readies
 pub mod Declining
+pub mod Receipts
 pub mod Replying
+pub mod Transacting
 pub mod Tellings
 pub mod Runs
 pub mod Openings

@@ -9,7 +9,9 @@ use Rattle.std.proofs.lemmas.Bool.Decides.{eqb_tells}
 use Rattle.serde_json.specs.Data.{Num, unsigned, negative, float, Data, null, boolean, number, string, array, object, Items, no_items, item, Members, no_members, member}
 use Rattle.serde_json.specs.Written.{number_text, comma_if, compact_text, items_text, members_text}
 use Rattle.cad_syntax.specs.Addresses.{hex_digits, address_text}
-use Rattle.cadence.specs.Answer.{Answer, result, address, done, failed, limit, bad, rejected, answer_line}
+use Rattle.cad_runs.specs.Commands.{Reply, account_made, result, ran, failed, limit, bad, rejected, ill}
+use Rattle.cadence.specs.Answer.{answer_line, number_items, ill_typed}
+use Rattle.cad_transaction_replies.specs.Views.{event_items}
 use Rattle.cad_rejections.specs.Texts.{phase_name, joined, rejected_text}
 use Rattle.cad_grammar.specs.declared.phase.Phase.{Phase}
 use Rattle.cad_grammar.specs.declared.phase.Phase.TheVariants.{Lex, Parse, Resolve, Types, Conformance, Moves, Purity, Initialisation}
@@ -173,11 +175,29 @@ mutual
       (both_none (quoted k) (58 ∷ (compact_text d ++ members_text true ms)) (quoted_none k)
       (both_none (compact_text d) (members_text true ms) (json_none d) (members_none true ms)))
 
-pub one_feed : (a : Answer) → line_feeds (answer_line a) ≡ 1
+-- three texts of a receipt
+effects_none : (x y z : List ℕ) → line_feeds x ≡ 0 → line_feeds y ≡ 0 → line_feeds z ≡ 0
+    → line_feeds (codes "{\"destroyed\":" ++ x ++ codes ",\"events\":" ++ y ++ codes ",\"made\":" ++ z ++ codes ",\"reply\":\"ok\"}") ≡ 0
+effects_none x y z nx ny nz =
+    let d = codes "{\"destroyed\":" in
+    let e = codes ",\"events\":" in
+    let m = codes ",\"made\":" in
+    both_none (d ++ x ++ e ++ y ++ m ++ z) (codes ",\"reply\":\"ok\"}")
+    (both_none (d ++ x ++ e ++ y ++ m) z
+    (both_none (d ++ x ++ e ++ y) m
+    (both_none (d ++ x ++ e) y
+    (both_none (d ++ x) e
+    (both_none d x refl nx) refl) ny) refl) nz) refl
+
+pub one_feed : (a : Reply Data) → line_feeds (answer_line a) ≡ 1
+one_feed (account_made n) = wrapped (codes "{\"address\":\"") (address_text n) (codes "\",\"reply\":\"ok\"}") refl (both_none (codes "0x") (hex_digits 16 n) refl (hex_none 16 n)) refl
 one_feed (result json) = wrapped (codes "{\"reply\":\"ok\",\"result\":") (compact_text json) (codes "}") refl (json_none json) refl
-one_feed (address n) = wrapped (codes "{\"address\":\"") (address_text n) (codes "\",\"reply\":\"ok\"}") refl (both_none (codes "0x") (hex_digits 16 n) refl (hex_none 16 n)) refl
-one_feed done = alone (codes "{\"destroyed\":[],\"events\":[],\"made\":[],\"reply\":\"ok\"}") refl
+one_feed (ran made destroyed events) =
+    alone (codes "{\"destroyed\":" ++ compact_text (array (number_items destroyed)) ++ codes ",\"events\":" ++ compact_text (array (event_items events)) ++ codes ",\"made\":" ++ compact_text (array (number_items made)) ++ codes ",\"reply\":\"ok\"}")
+    (effects_none (compact_text (array (number_items destroyed))) (compact_text (array (event_items events))) (compact_text (array (number_items made)))
+    (json_none (array (number_items destroyed))) (json_none (array (event_items events))) (json_none (array (number_items made))))
+one_feed (rejected r) = alone (rejected_text None r) (rejected_none r)
 one_feed (failed n) = wrapped (codes "{\"error\":\"") (decimal n) (codes "\",\"reply\":\"failed\"}") refl (decimal_none n) refl
 one_feed limit = alone (codes "{\"reply\":\"limit\"}") refl
 one_feed (bad n) = wrapped (codes "{\"error\":\"") (decimal n) (codes "\",\"reply\":\"bad\"}") refl (decimal_none n) refl
-one_feed (rejected r) = alone (rejected_text None r) (rejected_none r)
+one_feed ill = wrapped (codes "{\"error\":\"") (decimal ill_typed) (codes "\",\"reply\":\"failed\"}") refl (decimal_none ill_typed) refl

@@ -4,8 +4,9 @@ use Rattle.cad_host.specs.declared.host.Tape.{Tape}
 use Rattle.cad_host.specs.declared.host.Tape.TheVariants.{Pick}
 use Rattle.cad_host.specs.Disk.{Event, synced, output, reads, Ran}
 use Rattle.cad_host.proofs.Kept.{sync_output, look_output}
-use Rattle.cad_accounts.specs.Accounts.{Accounts, StandsFor}
-use Rattle.cad_accounts.proofs.States.{one_state_lem}
+use Rattle.cad_world.specs.State.{World}
+use Rattle.cad_worlds.specs.Standing.{StandsFor}
+use Rattle.cad_worlds.proofs.OneWorld.{one_world_lem}
 use Rattle.cad_store.specs.declared.store.Store.{Store}
 use Rattle.cad_store.specs.declared.stops.OpenStop.{OpenStop}
 use Rattle.cad_store.specs.declared.stops.OpenStop.TheVariants as stop
@@ -24,22 +25,22 @@ use Rattle.cadence.proofs.Batches.{begun_none}
 use Rattle.cadence.proofs.Runs.{cause_as}
 
 -- the accounts that the tapes stand for are those that the store holds
-pub store_stands : (m : List Event) (store : Store) (w : Accounts) → DiskHolds (reads m) (held store) → DiskStands (reads m) w → StandsFor (held store) w
+pub store_stands : (m : List Event) (store : Store) (w : World) → DiskHolds (reads m) (held store) → DiskStands (reads m) w → StandsFor (held store) w
 store_stands m store w holds h = subst (λ n. StandsFor n w) (λ i key. one_map (reads m) h.map (held store) h.holds holds key i) h.stands
 
 -- tapes stand for one state of the accounts
-pub stands_both : (disk : Tape → List ℕ) (v w : Accounts) → DiskStands disk v → DiskStands disk w → v ≡ w
-stands_both disk v w h k = one_state_lem k.map v w (subst (λ n. StandsFor n v) (λ i key. one_map disk h.map k.map h.holds k.holds key i) h.stands) k.stands
+pub stands_both : (disk : Tape → List ℕ) (v w : World) → DiskStands disk v → DiskStands disk w → v ≡ w
+stands_both disk v w h k = one_world_lem k.map v w (subst (λ n. StandsFor n v) (λ i key. one_map disk h.map k.map h.holds k.holds key i) h.stands) k.stands
 
 -- a run behind an opening
-pub ends_from : (s : Status) (w : Accounts) (input input2 left : List ℕ) (begun begun2 new : List Event) → input2 ≡ input → begun2 ≡ begun → Ends s w input2 left begun2 new → Ends s w input left begun new
+pub ends_from : (s : Status) (w : World) (input input2 left : List ℕ) (begun begun2 new : List Event) → input2 ≡ input → begun2 ≡ begun → Ends s w input2 left begun2 new → Ends s w input left begun new
 ends_from s w input input2 left begun begun2 new same story h = subst (λ i. Ends s w i left begun new) same (subst (λ m. Ends s w input2 left m new) story h)
 
-pub survives_from : (w : Accounts) (commands : List (List ℕ)) (old begun new : List Event) → begun ≡ opened old → Ran old begun (IsOpening old) → KeepsPrefix w commands (opened old) new → Survives w commands old new
+pub survives_from : (w : World) (commands : List (List ℕ)) (old begun new : List Event) → begun ≡ opened old → Ran old begun (IsOpening old) → KeepsPrefix w commands (opened old) new → Survives w commands old new
 survives_from w commands old begun new story ran h = after_opening (subst (λ m. Ran old m (IsOpening old)) story ran) h
 
 -- a run that isn't one
-pub survives_idle : (w : Accounts) (commands : List (List ℕ)) (m : List Event) → Survives w commands m m
+pub survives_idle : (w : World) (commands : List (List ℕ)) (m : List Event) → Survives w commands m m
 survives_idle w commands m = in_opening (record { since = []; is = refl; each = record { output = refl; disk = λ disk image. image } })
 
 -- the store could not be opened
@@ -125,7 +126,7 @@ broke_output old new (at_tape h) = look_output (in_use old) old new h
 broke_output old new (at_sync h) = sync_output Pick old new (inr h)
 broke_output old new (at_second_sync h) = sync_output (in_use old) (synced Pick ∷ old) new (inr h)
 
-pub opening_begins : (s : Status) (w : Accounts) (input left : List ℕ) (old new : List Event) → EndsOpening s input left old new → Begun w (commands input) (output old) (output new)
+pub opening_begins : (s : Status) (w : World) (input left : List ℕ) (old new : List Event) → EndsOpening s input left old new → Begun w (commands input) (output old) (output new)
 opening_begins Done w input left old new e = absurd e
 opening_begins Usage w input left old new e = absurd e
 opening_begins ReadFault w input left old new e = absurd e

@@ -5,10 +5,12 @@ use Rattle.cad_host.specs.Disk.{Event, put, synced, output, reads}
 use Rattle.cad_host.specs.Crash.{IsSettled}
 use Rattle.cad_host.proofs.Ran.{ran_inside}
 use Rattle.cad_host.proofs.Kept.{settled_synced, reads_disk}
-use Rattle.cad_accounts.specs.Accounts.{Accounts}
+use Rattle.cad_world.specs.State.{World}
 use Rattle.cad_store.specs.Opening.{in_use, opened, IsOpening}
 use Rattle.cad_store.proofs.Beginning.{opened_reads}
-use Rattle.cadence.specs.Answer.{Answer, Answers, answer_line}
+use Rattle.serde_json.specs.Data.{Data}
+use Rattle.cad_runs.specs.Commands.{Reply}
+use Rattle.cadence.specs.Answer.{Answers, answer_line}
 use Rattle.cadence.specs.Replied.{line_feeds, acknowledged}
 use Rattle.cadence.specs.Served.{AnswersAll}
 use Rattle.cadence.specs.Crashes.{DiskStands, HasPrefix, IsPrefix, Survives, in_opening, after_opening}
@@ -17,12 +19,12 @@ use Rattle.cadence.proofs.Lines_of.{one_feed}
 use Rattle.cadence.proofs.Openings.{stands_both}
 
 -- one command has one answer
-one_answer : (w v u : Accounts) (command : List ℕ) (a : Answer) (answers : List Answer) → ((b : Answer) (x : Accounts) → Answers w command b x → x ≡ v) → AnswersAll w (command ∷ []) answers u → u ≡ v
+one_answer : (w v u : World) (command : List ℕ) (a : Reply Data) (answers : List (Reply Data)) → ((b : Reply Data) (x : World) → Answers w command b x → x ≡ v) → AnswersAll w (command ∷ []) answers u → u ≡ v
 one_answer w v u command a [] only h = elim h [ ]
 one_answer w v u command a (b ∷ []) only h = h.2 ∙ only b h.0 h.1
 one_answer w v u command a (b ∷ c ∷ answers) only h = elim h.2 [ ]
 
-module _ (w v : Accounts) (command : List ℕ) (a : Answer) (old later : List Event) (only : (b : Answer) (x : Accounts) → Answers w command b x → x ≡ v) (changes : v ≢ w) (settled : IsSettled old) (stands : DiskStands (reads old) w) where
+module _ (w v : World) (command : List ℕ) (a : Reply Data) (old later : List Event) (only : (b : Reply Data) (x : World) → Answers w command b x → x ≡ v) (changes : v ≢ w) (settled : IsSettled old) (stands : DiskStands (reads old) w) where
   abbrev told : List Event
   told = put (answer_line a) ∷ opened old
 
@@ -36,9 +38,9 @@ module _ (w v : Accounts) (command : List ℕ) (a : Answer) (old later : List Ev
   no_prefix : HasPrefix w (command ∷ []) (acknowledged (opened old) told) (reads told) → ⊥
   no_prefix p =
       let one : p.count ≡ 1 = omega (arith, p.within, p.each_known, feeds) in
-      let all : AnswersAll w (command ∷ []) p.answers p.accounts = subst (λ n. AnswersAll w (take n (command ∷ [])) p.answers p.accounts) one p.are in
-      let is : p.accounts ≡ v = one_answer w v p.accounts command a p.answers only all in
-      let there : DiskStands (reads old) v = subst (λ x. DiskStands (reads old) x) is (subst (λ r. DiskStands r p.accounts) (opened_reads old) p.stands) in
+      let all : AnswersAll w (command ∷ []) p.answers p.world = subst (λ n. AnswersAll w (take n (command ∷ [])) p.answers p.world) one p.are in
+      let is : p.world ≡ v = one_answer w v p.world command a p.answers only all in
+      let there : DiskStands (reads old) v = subst (λ x. DiskStands (reads old) x) is (subst (λ r. DiskStands r p.world) (opened_reads old) p.stands) in
       changes (stands_both (reads old) v w there stands)
 
   pub too_early : Survives w (command ∷ []) old (later ++ told) → ⊥

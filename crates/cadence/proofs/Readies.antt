@@ -6,14 +6,17 @@ use Rattle.std.proofs.Common.{arith}
 use Rattle.cad_wire.specs.declared.entry.Entry.{Entry}
 use Rattle.cad_accounts.specs.declared.row.Row.{Row}
 use Rattle.cad_accounts.specs.Registers.{Map, at, applied, are_rising, size_of, Leads}
-use Rattle.cad_accounts.specs.Accounts.{Accounts, StandsFor, AreRegisters, HasSize}
+use Rattle.cad_world.specs.Registers.{size}
+use Rattle.cad_world.specs.State.{World}
+use Rattle.cad_worlds.specs.Standing.{StandsFor, coding}
+use Rattle.cad_worlds.proofs.OneWorld.{rows_are_registers_lem}
 use Rattle.cad_accounts.proofs.Existing.{rows_exist}
 use Rattle.cad_commands.specs.Commands.{command_of}
-use Rattle.cad_runs.specs.Commands.{Command}
+use Rattle.cad_runs.specs.Commands.{Command, Reply, failed, bad}
+use Rattle.cad_transaction_replies.specs.Replies as spec
 use Rattle.serde_json.specs.Data.{Data}
 use Rattle.cad_store.specs.declared.store.Store.{Store}
-use Rattle.cadence.specs.Answer as answer
-use Rattle.cadence.specs.Answer.{Answer, Answers, too_long, answered, Does, Commits, unchanged, fits, full, most_bytes, bad}
+use Rattle.cadence.specs.Answer.{Answers, answer_line, too_long, answered, Does, Commits, unchanged, fits, full, most_bytes}
 use Rattle.cadence.specs.Held.{longest}
 use Rattle.cadence.specs.Code.Held.{Holds}
 use Rattle.cadence.specs.Code.Outcomes.{Comes, IsReady}
@@ -23,30 +26,26 @@ use Rattle.cadence.specs.declared.reply.Reply as own
 use Rattle.cadence.specs.declared.outcome.Outcome.{Outcome}
 use Rattle.cadence.specs.declared.outcome.Outcome.TheVariants.{Stays as Staying, Leads as Leading}
 use Rattle.cadence.specs.declared.prepare.Prepared.{Prepared}
-use Rattle.cadence.specs.declared.prepare.Prepared.TheVariants.{Reply, Commit}
+use Rattle.cadence.specs.declared.prepare.Prepared.TheVariants as prepared
 
 -- what leads to a map gives it
 leads_to : (old new : Map) (changes : List Entry) → Leads old new changes → new ≡ applied changes old
 leads_to old new changes h = λ i key. h.is key i
 
-sized : (v : Accounts) (old new : Map) (changes : List Entry) (rows : List Row) → Leads old new changes → StandsFor new v → are_rising rows ≡ true → ((key : List ℕ) → at rows key ≡ applied changes old key) → HasSize v (size_of rows)
-sized v old new changes rows h stands rises same = record {
-  rows = rows;
-  rising = rises;
-  are = subst (AreRegisters v) (leads_to old new changes h ∙ (λ i key. sym (same key) i)) stands.are;
-  is = refl;
-}
+sized : (v : World) (old new : Map) (changes : List Entry) (rows : List Row) → Leads old new changes → StandsFor new v → are_rising rows ≡ true → ((key : List ℕ) → at rows key ≡ applied changes old key) → size_of rows ≡ size coding v
+sized v old new changes rows h stands rises same =
+    (rows_are_registers_lem rows v rises (subst (λ m. StandsFor m v) (leads_to old new changes h ∙ (λ i key. sym (same key) i)) stands)).size_is
 
-module _ (w v : Accounts) (a : Answer) (changes : List Entry) (new : Map) (before : List Row) (rises : are_rising before ≡ true) (h : Leads (at before) new changes) (stands : StandsFor new v) (room : ℕ) (is : room ≡ most_bytes) where
-  pub commits_fit : ((rows : List Row) → are_rising rows ≡ true → ((key : List ℕ) → at rows key ≡ applied changes (at before) key) → size_of rows ≤ room) → Commits w (answer.leads a v) a v
+module _ (w v : World) (a : Reply Data) (changes : List Entry) (new : Map) (before : List Row) (rises : are_rising before ≡ true) (h : Leads (at before) new changes) (stands : StandsFor new v) (room : ℕ) (is : room ≡ most_bytes) where
+  pub commits_fit : ((rows : List Row) → are_rising rows ≡ true → ((key : List ℕ) → at rows key ≡ applied changes (at before) key) → size_of rows ≤ room) → Commits w (spec.leads a v) a v
   commits_fit small =
       let r = rows_exist before changes rises in
-      fits (sized v (at before) new changes r.0 h stands r.1 r.2) (subst (λ n. size_of r.0 ≤ n) is (small r.0 r.1 r.2))
+      fits (subst (λ n. n ≤ most_bytes) (sized v (at before) new changes r.0 h stands r.1 r.2) (subst (λ n. size_of r.0 ≤ n) is (small r.0 r.1 r.2)))
 
-  pub commits_full : ((rows : List Row) → are_rising rows ≡ true → ((key : List ℕ) → at rows key ≡ applied changes (at before) key) → room < size_of rows) → Commits w (answer.leads a v) (answer.failed 130) w
+  pub commits_full : ((rows : List Row) → are_rising rows ≡ true → ((key : List ℕ) → at rows key ≡ applied changes (at before) key) → room < size_of rows) → Commits w (spec.leads a v) (failed 130) w
   commits_full large =
       let r = rows_exist before changes rises in
-      full (sized v (at before) new changes r.0 h stands r.1 r.2) (subst (λ n. n < size_of r.0) is (large r.0 r.1 r.2))
+      full (subst (λ n. most_bytes < n) (sized v (at before) new changes r.0 h stands r.1 r.2) (subst (λ n. n < size_of r.0) is (large r.0 r.1 r.2)))
 
   pub stands_applied : StandsFor (applied changes (at before)) v
   stands_applied = subst (λ m. StandsFor m v) (leads_to (at before) new changes h) stands
@@ -56,13 +55,13 @@ pub leads_applied : (old new : Map) (changes : List Entry) → Leads old new cha
 leads_applied old new changes h = subst (λ m. Leads old m changes) (leads_to old new changes h) h
 
 -- no change leaves the map
-pub stands_unchanged : (v : Accounts) (old new : Map) (changes : List Entry) → changes ≡ [] → Leads old new changes → StandsFor new v → StandsFor old v
+pub stands_unchanged : (v : World) (old new : Map) (changes : List Entry) → changes ≡ [] → Leads old new changes → StandsFor new v → StandsFor old v
 stands_unchanged v old new changes none h stands = subst (λ es. StandsFor (applied es old) v) none (subst (λ m. StandsFor m v) (leads_to old new changes h) stands)
 
 -- what is ready may be allowed by more
-pub ready_as : {P Q : Answer → Accounts → Type 0} (p : Prepared) (store : Store) → ((a : Answer) (v : Accounts) → P a v → Q a v) → IsReady p store P → IsReady p store Q
-ready_as (Reply text) store f h = (h.0, h.1, f h.0 h.1 h.2, h.3, h.4)
-ready_as (Commit commit text) store f h = (h.0, h.1, h.2, f h.0 h.1 h.3, h.4, h.5, h.6, h.7, h.8)
+pub ready_as : {P Q : Reply Data → World → Type 0} (p : Prepared) (store : Store) → ((a : Reply Data) (v : World) → P a v → Q a v) → IsReady p store P → IsReady p store Q
+ready_as (prepared.Reply text) store f h = (h.0, h.1, f h.0 h.1 h.2, h.3, h.4)
+ready_as (prepared.Commit commit text) store f h = (h.0, h.1, h.2, f h.0 h.1 h.3, h.4, h.5, h.6, h.7, h.8)
 
 -- a line that is held
 test_long : (n m : ℕ) → ltb n m ≡ true → n < m
@@ -71,7 +70,7 @@ test_long n m e = grind (arith, nat_tests)
 test_short : (n m : ℕ) → ltb n m ≡ false → m ≤ n
 test_short n m e = grind (arith, nat_tests)
 
-pub long_line : (w : Accounts) (line : Line) (pending : List ℕ) → line.long ≡ true → Holds line pending → Answers w pending (bad 27) w
+pub long_line : (w : World) (line : Line) (pending : List ℕ) → line.long ≡ true → Holds line pending → Answers w pending (bad 27) w
 long_line w line pending long h = too_long (test_long longest (length pending) (sym h.long ∙ long))
 
 pub short_line : (line : Line) (pending : List ℕ) → line.long ≡ false → Holds line pending → length pending ≤ longest
@@ -80,33 +79,33 @@ short_line line pending short h = test_short longest (length pending) (sym h.lon
 pub held_line : (line : Line) (pending : List ℕ) → line.long ≡ false → Holds line pending → line.held.items ≡ pending
 held_line line pending short h = h.held ∙ take_all longest pending (short_line line pending short h)
 
-pub with_command : (w : Accounts) (line : Line) (a : Answer) (v : Accounts) → line.long ≡ false → (o : answer.Outcome) × Does w (command_of line.held.items) o × Commits w o a v
+pub with_command : (w : World) (line : Line) (a : Reply Data) (v : World) → line.long ≡ false → (o : spec.Outcome) × Does w (command_of line.held.items) o × Commits w o a v
     → (pending : List ℕ) → Holds line pending → Answers w pending a v
 with_command w line a v short done pending h =
     answered (short_line line pending short h) (subst (λ (l : List ℕ). Does w (command_of l) done.0) (held_line line pending short h) done.1) done.2
 
 -- what a command comes to, which stays
-pub ready_stays : (old : Map) (outcome : Outcome) (reply : own.Reply) (text : List ℕ) → outcome ≡ Staying reply → ((a : Answer) → Tells reply a → text ≡ answer.answer_line a)
-    → (w : Accounts) (command : Command Data) → StandsFor old w → Comes outcome old w command
-    → (a : Answer) × (v : Accounts) × ((o : answer.Outcome) × Does w command o × Commits w o a v) × (text ≡ answer.answer_line a) × StandsFor old v
+pub ready_stays : (old : Map) (outcome : Outcome) (reply : own.Reply) (text : List ℕ) → outcome ≡ Staying reply → ((a : Reply Data) → Tells reply a → text ≡ answer_line a)
+    → (w : World) (command : Command Data) → StandsFor old w → Comes outcome old w command
+    → (a : Reply Data) × (v : World) × ((o : spec.Outcome) × Does w command o × Commits w o a v) × (text ≡ answer_line a) × StandsFor old v
 ready_stays old outcome reply text is tells w command is_w comes =
     let h = subst (λ o. Comes o old w command) is comes in
-    (h.0, w, (answer.stays h.0, h.2, unchanged), tells h.0 h.1, is_w)
+    (h.0, w, (spec.stays h.0, h.2, unchanged), tells h.0 h.1, is_w)
 
 pub ready_leads : {E : Type 0} (r : Result Prepared E) (old : Map) (store : Store) (outcome : Outcome) (reply : own.Reply) (changes : List Entry) → outcome ≡ Leading reply changes
-    → IfOk r (λ p. (a : Answer) (w v : Accounts) (new : Map) → Tells reply a → StandsFor old w → Leads old new changes → StandsFor new v → IsReady p store (Commits w (answer.leads a v)))
-    → IfOk r (λ p. (w : Accounts) (command : Command Data) → StandsFor old w → Comes outcome old w command → IsReady p store (λ a v. (o : answer.Outcome) × Does w command o × Commits w o a v))
+    → IfOk r (λ p. (a : Reply Data) (w v : World) (new : Map) → Tells reply a → StandsFor old w → Leads old new changes → StandsFor new v → IsReady p store (Commits w (spec.leads a v)))
+    → IfOk r (λ p. (w : World) (command : Command Data) → StandsFor old w → Comes outcome old w command → IsReady p store (λ a v. (o : spec.Outcome) × Does w command o × Commits w o a v))
 ready_leads (Ok p) old store outcome reply changes is f = λ w command is_w comes.
     let h = subst (λ o. Comes o old w command) is comes in
-    ready_as p store (λ a u c. (answer.leads h.0 h.2, h.4, c)) (f h.0 w h.2 h.3 h.1 is_w h.5 h.6)
+    ready_as p store (λ a u c. (spec.leads h.0 h.2, h.4, c)) (f h.0 w h.2 h.3 h.1 is_w h.5 h.6)
 ready_leads (Err e) old store outcome reply changes is f = tt
 
 pub ready_command : {E : Type 0} (r : Result Prepared E) (old : Map) (store : Store) (line : Line) (outcome : Outcome) (command : Command Data) → line.long ≡ false
-    → command ≡ command_of line.held.items → ((w : Accounts) → StandsFor old w → Comes outcome old w command)
-    → IfOk r (λ p. (w : Accounts) (command : Command Data) → StandsFor old w → Comes outcome old w command → IsReady p store (λ a v. (o : answer.Outcome) × Does w command o × Commits w o a v))
-    → IfOk r (λ p. (w : Accounts) → StandsFor old w → IsReady p store (λ a v. (pending : List ℕ) → Holds line pending → Answers w pending a v))
+    → command ≡ command_of line.held.items → ((w : World) → StandsFor old w → Comes outcome old w command)
+    → IfOk r (λ p. (w : World) (command : Command Data) → StandsFor old w → Comes outcome old w command → IsReady p store (λ a v. (o : spec.Outcome) × Does w command o × Commits w o a v))
+    → IfOk r (λ p. (w : World) → StandsFor old w → IsReady p store (λ a v. (pending : List ℕ) → Holds line pending → Answers w pending a v))
 ready_command (Ok p) old store line outcome command short is comes f = λ w is_w.
     ready_as p store
-    (λ a v done pending h. with_command w line a v short (subst (λ (c : Command Data). (o : answer.Outcome) × Does w c o × Commits w o a v) is done) pending h)
+    (λ a v done pending h. with_command w line a v short (subst (λ (c : Command Data). (o : spec.Outcome) × Does w c o × Commits w o a v) is done) pending h)
     (f w command is_w (comes w is_w))
 ready_command (Err e) old store line outcome command short is comes f = tt

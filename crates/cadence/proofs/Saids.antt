@@ -8,13 +8,16 @@ use Rattle.cad_host.proofs.Ran.{ran_as, ran_on, ran_none, ran_one, ran_end}
 use Rattle.cad_wire.specs.declared.entry.Entry.{Entry}
 use Rattle.cad_wire.specs.Body.{body_bytes}
 use Rattle.cad_accounts.specs.Registers.{Map, Leads}
-use Rattle.cad_accounts.specs.Accounts.{Accounts, StandsFor}
-use Rattle.cad_accounts.proofs.States.{one_state_lem}
+use Rattle.cad_world.specs.State.{World}
+use Rattle.cad_worlds.specs.Standing.{StandsFor}
+use Rattle.cad_worlds.proofs.OneWorld.{one_world_lem}
 use Rattle.cad_store.specs.declared.store.Store.{Store}
 use Rattle.cad_store.specs.declared.place.Place.{Place}
 use Rattle.cad_store.specs.declared.place.Place.TheVariants.{Behind, Onto}
 use Rattle.cad_store.specs.Stores.{DiskHolds, held, IsAt, IsOn, Keeps, BreaksRecord}
-use Rattle.cadence.specs.Answer.{Answer, Answers, answer_line}
+use Rattle.serde_json.specs.Data.{Data}
+use Rattle.cad_runs.specs.Commands.{Reply}
+use Rattle.cadence.specs.Answer.{Answers, answer_line}
 use Rattle.cadence.specs.Served.{Served, Broken}
 use Rattle.cadence.specs.Writing.{Written, nothing, Wrote, WroteBroken, WroteStopped, writing}
 use Rattle.cadence.specs.Crashes.{DiskStands, HasPrefix, IsPrefix, KeepsPrefix}
@@ -45,19 +48,19 @@ pub on_took : (bytes : List ℕ) (m : List Event) (store : Store) → IsOn m sto
 on_took bytes m store h = record { holds = h.holds; place = place_took bytes m store.place h.place; quiet = record { clean = h.quiet.clean; clean_pick = h.quiet.clean_pick } }
 
 -- a store on its tapes, which stand for the accounts that it holds
-pub on_stands : (m : List Event) (store : Store) (w : Accounts) → IsOn m store → StandsFor (held store) w → DiskStands (reads m) w
+pub on_stands : (m : List Event) (store : Store) (w : World) → IsOn m store → StandsFor (held store) w → DiskStands (reads m) w
 on_stands m store w on stands = record { map = held store; holds = on.holds; stands = stands }
 
 -- each image stands for these accounts too
-pub images : (m : List Event) (store : Store) (w : Accounts) → IsOn m store → StandsFor (held store) w → (disk : Tape → List ℕ) → IsDisk m disk → DiskStands disk w
+pub images : (m : List Event) (store : Store) (w : World) → IsOn m store → StandsFor (held store) w → (disk : Tape → List ℕ) → IsDisk m disk → DiskStands disk w
 images m store w on stands disk image = quiet_stands m disk w on.quiet image (on_stands m store w on stands)
 
-pub survives_none : (w : Accounts) (cs : List (List ℕ)) (m : List Event) → ((disk : Tape → List ℕ) → IsDisk m disk → DiskStands disk w) → KeepsPrefix w cs m m
+pub survives_none : (w : World) (cs : List (List ℕ)) (m : List Event) → ((disk : Tape → List ℕ) → IsDisk m disk → DiskStands disk w) → KeepsPrefix w cs m m
 survives_none w cs m stands = ran_none (IsPrefix w cs m) m (prefix_none w cs m stands)
 
-pub said_none : (base : List Event) (w : Accounts) (m : List Event) (store : Store) → StandsFor (held store) w → IsOn m store → Said base w [] m m store
+pub said_none : (base : List Event) (w : World) (m : List Event) (store : Store) → StandsFor (held store) w → IsOn m store → Said base w [] m m store
 said_none base w m store stands on = record {
-  accounts = w;
+  world = w;
   served = served_none w (output m);
   wrote = wrote_none base w m;
   stands = stands;
@@ -65,28 +68,28 @@ said_none base w m store stands on = record {
   survives = survives_none w [] m (images m store w on stands);
 }
 
-pub said_then : (base : List Event) (w : Accounts) (xs ys : List (List ℕ)) (old mid new : List Event) (s t : Store) (h : Said base w xs old mid s) → Said base h.accounts ys mid new t → Said base w (xs ++ ys) old new t
+pub said_then : (base : List Event) (w : World) (xs ys : List (List ℕ)) (old mid new : List Event) (s t : Store) (h : Said base w xs old mid s) → Said base h.world ys mid new t → Said base w (xs ++ ys) old new t
 said_then base w xs ys old mid new s t h k = record {
-  accounts = k.accounts;
-  served = served_then w h.accounts k.accounts xs ys (output old) (output mid) (output new) h.served k.served;
-  wrote = wrote_then base w h.accounts k.accounts xs ys old mid new h.wrote k.wrote;
+  world = k.world;
+  served = served_then w h.world k.world xs ys (output old) (output mid) (output new) h.served k.served;
+  wrote = wrote_then base w h.world k.world xs ys old mid new h.wrote k.wrote;
   stands = k.stands;
   on = k.on;
-  survives = survives_then w h.accounts xs ys old mid new h.served h.survives k.survives;
+  survives = survives_then w h.world xs ys old mid new h.served h.survives k.survives;
 }
 
 -- and then more is taken
-pub said_took : (base : List Event) (w : Accounts) (cs : List (List ℕ)) (old m : List Event) (store : Store) (bytes : List ℕ) → Said base w cs old m store → HasReplied base m → Said base w cs old (took bytes ∷ m) store
+pub said_took : (base : List Event) (w : World) (cs : List (List ℕ)) (old m : List Event) (store : Store) (bytes : List ℕ) → Said base w cs old m store → HasReplied base m → Said base w cs old (took bytes ∷ m) store
 said_took base w cs old m store bytes h replied = record {
-  accounts = h.accounts;
+  world = h.world;
   served = h.served;
-  wrote = wrote_took base w h.accounts cs old m bytes h.wrote replied;
+  wrote = wrote_took base w h.world cs old m bytes h.wrote replied;
   stands = h.stands;
   on = on_took bytes m store h.on;
   survives = survives_took w cs old m bytes h.survives;
 }
 
-halts_then : (base : List Event) (status : Status) (w u : Accounts) (xs ys : List (List ℕ)) (old mid new : List Event) → Served w xs (output old) (output mid) u → Wrote base w xs old mid u → Halts status base u ys mid new → Halts status base w (xs ++ ys) old new
+halts_then : (base : List Event) (status : Status) (w u : World) (xs ys : List (List ℕ)) (old mid new : List Event) → Served w xs (output old) (output mid) u → Wrote base w xs old mid u → Halts status base u ys mid new → Halts status base w (xs ++ ys) old new
 halts_then base Done w u xs ys old mid new s r h = absurd h
 halts_then base Usage w u xs ys old mid new s r h = absurd h
 halts_then base ReadFault w u xs ys old mid new s r h = absurd h
@@ -96,13 +99,13 @@ halts_then base Memory w u xs ys old mid new s r h = (h.0, some_then w u h.0 xs 
 halts_then base BadStore w u xs ys old mid new s r h = absurd h
 halts_then base InputBound w u xs ys old mid new s r h = absurd h
 
-pub halted_then : (base : List Event) (status : Status) (w : Accounts) (xs ys : List (List ℕ)) (old mid new : List Event) (s : Store) (h : Said base w xs old mid s) → Halted status base h.accounts ys mid new → Halted status base w (xs ++ ys) old new
+pub halted_then : (base : List Event) (status : Status) (w : World) (xs ys : List (List ℕ)) (old mid new : List Event) (s : Store) (h : Said base w xs old mid s) → Halted status base h.world ys mid new → Halted status base w (xs ++ ys) old new
 halted_then base status w xs ys old mid new s h k = record {
-  halts = halts_then base status w h.accounts xs ys old mid new h.served h.wrote k.halts;
-  survives = survives_then w h.accounts xs ys old mid new h.served h.survives k.survives;
+  halts = halts_then base status w h.world xs ys old mid new h.served h.wrote k.halts;
+  survives = survives_then w h.world xs ys old mid new h.served h.survives k.survives;
 }
 
-halts_more : (base : List Event) (status : Status) (w : Accounts) (xs ys : List (List ℕ)) (old new : List Event) → Halts status base w xs old new → Halts status base w (xs ++ ys) old new
+halts_more : (base : List Event) (status : Status) (w : World) (xs ys : List (List ℕ)) (old new : List Event) → Halts status base w xs old new → Halts status base w (xs ++ ys) old new
 halts_more base Done w xs ys old new h = absurd h
 halts_more base Usage w xs ys old new h = absurd h
 halts_more base ReadFault w xs ys old new h = absurd h
@@ -113,17 +116,17 @@ halts_more base BadStore w xs ys old new h = absurd h
 halts_more base InputBound w xs ys old new h = absurd h
 
 -- whatever commands follow
-pub halted_more : (base : List Event) (status : Status) (w : Accounts) (xs ys : List (List ℕ)) (old new : List Event) → Halted status base w xs old new → Halted status base w (xs ++ ys) old new
+pub halted_more : (base : List Event) (status : Status) (w : World) (xs ys : List (List ℕ)) (old new : List Event) → Halted status base w xs old new → Halted status base w (xs ++ ys) old new
 halted_more base status w xs ys old new h = record { halts = halts_more base status w xs ys old new h.halts; survives = survives_more w xs ys old new h.survives }
 
 -- want of memory between commands
-pub memory_here : (base : List Event) (w : Accounts) (cs : List (List ℕ)) (m : List Event) (store : Store) → IsOn m store → StandsFor (held store) w → Halted Memory base w cs m m
+pub memory_here : (base : List Event) (w : World) (cs : List (List ℕ)) (m : List Event) (store : Store) → IsOn m store → StandsFor (held store) w → Halted Memory base w cs m m
 memory_here base w cs m store on stands = record {
   halts = (w, record { count = 0; within = omega arith; served = served_none w (output m) }, on_stands m store w on stands, some_none base w cs m);
   survives = survives_none w cs m (images m store w on stands);
 }
 
-module _ (base : List Event) (w v : Accounts) (c : List ℕ) (a : Answer) (answers : Answers w c a v) (old : List Event) where
+module _ (base : List Event) (w v : World) (c : List ℕ) (a : Reply Data) (answers : Answers w c a v) (old : List Event) where
   -- nothing is put yet: the accounts are those from before, or the new ones
   held_back : (m : List Event) → output m ≡ output old → ((disk : Tape → List ℕ) → IsDisk m disk → DiskStands disk w ⊎ DiskStands disk v) → IsPrefix w (c ∷ []) old m
   held_back m same stands = record {
@@ -132,8 +135,8 @@ module _ (base : List Event) (w v : Accounts) (c : List ℕ) (a : Answer) (answe
   }
     where
       by : (disk : Tape → List ℕ) → DiskStands disk w ⊎ DiskStands disk v → HasPrefix w (c ∷ []) (acknowledged old m) disk
-      by disk (inl h) = record { count = 0; within = omega arith; each_known = omega (arith, ap line_feeds same); one_more = omega arith; answers = []; accounts = w; are = refl; stands = h }
-      by disk (inr h) = record { count = 1; within = omega arith; each_known = omega (arith, ap line_feeds same); one_more = omega (arith, ap line_feeds same); answers = a ∷ []; accounts = v; are = (v, answers, refl); stands = h }
+      by disk (inl h) = record { count = 0; within = omega arith; each_known = omega (arith, ap line_feeds same); one_more = omega arith; answers = []; world = w; are = refl; stands = h }
+      by disk (inr h) = record { count = 1; within = omega arith; each_known = omega (arith, ap line_feeds same); one_more = omega (arith, ap line_feeds same); answers = a ∷ []; world = v; are = (v, answers, refl); stands = h }
 
   -- some bytes of the reply were put, or all
   told : (m : List Event) (bytes : ℕ) → output m ≡ output old ++ take bytes (answer_line a) → ((disk : Tape → List ℕ) → IsDisk m disk → DiskStands disk v) → IsPrefix w (c ∷ []) old m
@@ -143,7 +146,7 @@ module _ (base : List Event) (w v : Accounts) (c : List ℕ) (a : Answer) (answe
       let one = one_feed a in
       record {
         grown = omega (arith, by);
-        disk = λ disk image. record { count = 1; within = omega arith; each_known = omega (arith, by, most, one); one_more = omega arith; answers = a ∷ []; accounts = v; are = (v, answers, refl); stands = stands disk image };
+        disk = λ disk image. record { count = 1; within = omega arith; each_known = omega (arith, by, most, one); one_more = omega arith; answers = a ∷ []; world = v; are = (v, answers, refl); stands = stands disk image };
       }
 
   all_told : (m : List Event) → output m ≡ output old ++ answer_line a → ((disk : Tape → List ℕ) → IsDisk m disk → DiskStands disk v) → IsPrefix w (c ∷ []) old m
@@ -170,7 +173,7 @@ module _ (base : List Event) (w v : Accounts) (c : List ℕ) (a : Answer) (answe
 
     pub put_said : (text : List ℕ) (new : List Event) (store : Store) → text ≡ answer_line a → new ≡ put text ∷ mid → StandsFor (held store) v → IsOn mid store → Said base w (c ∷ []) old new store
     put_said text new store is made holds on = record {
-      accounts = v;
+      world = v;
       served = one_served (output new) (ap output made ∙ ap (λ o. o ++ text) same ∙ ap (λ t. output old ++ t) is);
       wrote = (a, v, old, mid, takes_none base old, answers, written, (refl, ([], made ∙ ap (λ t. put t ∷ mid) is)));
       stands = holds;
@@ -184,7 +187,7 @@ module _ (base : List Event) (w v : Accounts) (c : List ℕ) (a : Answer) (answe
       next = c;
       rest = [];
       are = refl;
-      accounts = w;
+      world = w;
       told = old;
       wrote = wrote_none base w old;
       answer = a;
@@ -237,11 +240,11 @@ module _ (base : List Event) (w v : Accounts) (c : List ℕ) (a : Answer) (answe
   -- a command that writes nothing
   pub stays_said : (text : List ℕ) (new : List Event) (store : Store) → text ≡ answer_line a → new ≡ put text ∷ old → StandsFor (held store) w → StandsFor (held store) v → IsOn old store → Said base w (c ∷ []) old new store
   stays_said text new store is made is_w is_v on = put_said old refl (stays_ran store on is_w) (on_stands old store v on is_v) (images old store v on is_v)
-      (nothing (one_state_lem (held store) v w is_v is_w) refl) text new store is made is_v on
+      (nothing (one_world_lem (held store) v w is_v is_w) refl) text new store is made is_v on
 
   pub stays_broke : (text : List ℕ) (new : List Event) (store : Store) → text ≡ answer_line a → BreaksPut text old new → StandsFor (held store) w → StandsFor (held store) v → IsOn old store → Halted WriteFault base w (c ∷ []) old new
   stays_broke text new store is made is_w is_v on = put_broke old refl (stays_ran store on is_w) (on_stands old store v on is_v) (images old store v on is_v)
-      (nothing (one_state_lem (held store) v w is_v is_w) refl) text new is made
+      (nothing (one_world_lem (held store) v w is_v is_w) refl) text new is made
 
   -- a command whose commit was written
   pub commit_said : (before : Map) (mid new : List Event) (text : List ℕ) (store : Store) → output mid ≡ output old → StandsFor before w → StandsFor (held store) v → Ran old mid (Keeps old before (held store))

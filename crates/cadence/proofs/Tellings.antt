@@ -4,11 +4,14 @@ use Rattle.cad_host.specs.Disk.{Event, put, output, Puts, Ran, BreaksPut}
 use Rattle.cad_wire.specs.declared.entry.Entry.{Entry}
 use Rattle.cad_wire.specs.Body.{body_bytes}
 use Rattle.cad_accounts.specs.Registers.{Map, applied, Leads}
-use Rattle.cad_accounts.specs.Accounts.{Accounts, StandsFor}
-use Rattle.cad_accounts.specs.Worlds.{AreSound}
+use Rattle.cad_world.specs.State.{World}
+use Rattle.cad_worlds.specs.Standing.{StandsFor}
+use Rattle.serde_json.specs.Data.{Data}
+use Rattle.cad_runs.specs.Commands.{Reply}
+use Rattle.cadence.specs.Code.Worlds.{AreSound}
 use Rattle.cad_store.specs.declared.store.Store.{Store}
 use Rattle.cad_store.specs.Stores.{held, IsOn, Keeps, recorded}
-use Rattle.cadence.specs.Answer.{Answer, Answers, answer_line}
+use Rattle.cadence.specs.Answer.{Answers, answer_line}
 use Rattle.cadence.specs.Writing.{Written, one_record}
 use Rattle.cadence.specs.Code.Progress.{Said, Halted}
 use Rattle.cadence.specs.declared.status.Status.{Status}
@@ -31,10 +34,10 @@ told_stops (Err s) R P text mid new cause puts f = subst P (sym cause.0) (f puts
 same_map : (m n : Map) → ((key : List ℕ) → m key ≡ n key) → m ≡ n
 same_map m n h = λ i key. h key i
 
-pub sound_as : (m n : Map) (v : Accounts) → ((key : List ℕ) → m key ≡ n key) → StandsFor n v → AreSound m
+pub sound_as : (m n : Map) (v : World) → ((key : List ℕ) → m key ≡ n key) → StandsFor n v → AreSound m
 sound_as m n v h stands = (v, subst (λ x. StandsFor x v) (sym (same_map m n h)) stands)
 
-module _ (base : List Event) (w v : Accounts) (c : List ℕ) (a : Answer) (answers : Answers w c a v) (old mid : List Event) (before : Map) (changes : List Entry) (store : Store)
+module _ (base : List Event) (w v : World) (c : List ℕ) (a : Reply Data) (answers : Answers w c a v) (old mid : List Event) (before : Map) (changes : List Entry) (store : Store)
     (same : output mid ≡ output old) (is_w : StandsFor before w) (is_v : StandsFor (applied changes before) v)
     (holds : (key : List ℕ) → held store key ≡ applied changes before key)
     (moments : Ran old mid (Keeps old before (applied changes before))) (on : IsOn mid store)
@@ -69,11 +72,11 @@ is_blank_line line pending h blank = ap not (sym h.blank ∙ blank)
 pub is_command_line : (line : Line) (pending : List ℕ) → Holds line pending → line.blank ≡ false → is_command pending ≡ true
 is_command_line line pending h command = ap not (sym h.blank ∙ command)
 
-pub blank_said : (base : List Event) (b : Bool) (w : Accounts) (pending : List ℕ) (m : List Event) (store : Store) → b ≡ false → StandsFor (held store) w → IsOn m store → Said base w (cond b (pending ∷ []) []) m m store
+pub blank_said : (base : List Event) (b : Bool) (w : World) (pending : List ℕ) (m : List Event) (store : Store) → b ≡ false → StandsFor (held store) w → IsOn m store → Said base w (cond b (pending ∷ []) []) m m store
 blank_said base b w pending m store blank stands on = subst (λ c. Said base w (cond c (pending ∷ []) []) m m store) (sym blank) (said_none base w m store stands on)
 
-pub command_said : {T E : Type 0} (r : Result T E) (base : List Event) (b : Bool) (w : Accounts) (pending : List ℕ) (old new : List Event) (store : Store) → b ≡ true → OnOk r (Said base w (pending ∷ []) old new store) → OnOk r (Said base w (cond b (pending ∷ []) []) old new store)
+pub command_said : {T E : Type 0} (r : Result T E) (base : List Event) (b : Bool) (w : World) (pending : List ℕ) (old new : List Event) (store : Store) → b ≡ true → OnOk r (Said base w (pending ∷ []) old new store) → OnOk r (Said base w (cond b (pending ∷ []) []) old new store)
 command_said r base b w pending old new store command h = subst (λ c. OnOk r (Said base w (cond c (pending ∷ []) []) old new store)) (sym command) h
 
-pub command_stops : {T : Type 0} (r : Result T Status) (base : List Event) (b : Bool) (w : Accounts) (pending : List ℕ) (old new : List Event) → b ≡ true → IfErr r (λ s. Halted s base w (pending ∷ []) old new) → IfErr r (λ s. Halted s base w (cond b (pending ∷ []) []) old new)
+pub command_stops : {T : Type 0} (r : Result T Status) (base : List Event) (b : Bool) (w : World) (pending : List ℕ) (old new : List Event) → b ≡ true → IfErr r (λ s. Halted s base w (pending ∷ []) old new) → IfErr r (λ s. Halted s base w (cond b (pending ∷ []) []) old new)
 command_stops r base b w pending old new command h = subst (λ c. IfErr r (λ s. Halted s base w (cond c (pending ∷ []) []) old new)) (sym command) h

@@ -5,7 +5,7 @@ use Rattle.cad_host.specs.Disk.{Event, put, took, taken, reads, Puts}
 use Rattle.cad_tape.specs.Framing.{framed}
 use Rattle.cad_tape.specs.Reading.{chosen, pick_of, ending, four_calls}
 use Rattle.cad_store.specs.Stores.{other, recorded}
-use Rattle.cad_accounts.specs.Accounts.{Accounts}
+use Rattle.cad_world.specs.State.{World}
 use Rattle.cadence.specs.Answer.{answer_line}
 use Rattle.cadence.specs.Replied.{HasReplied}
 use Rattle.cadence.specs.Writing.{TakesAll, TakesInput, Wrote, WroteSome, WroteBroken, WroteStopped, Stopped, writing}
@@ -26,19 +26,19 @@ takes_one : (base m : List Event) (bytes : List ℕ) → HasReplied base m → T
 takes_one base m bytes h = (bytes ∷ [], (h, refl))
 
 -- takes, and then what is written
-wrote_behind : (base : List Event) (w v : Accounts) (cs : List (List ℕ)) (o p q : List Event) → TakesInput base o p → Wrote base w cs p q v → Wrote base w cs o q v
+wrote_behind : (base : List Event) (w v : World) (cs : List (List ℕ)) (o p q : List Event) → TakesInput base o p → Wrote base w cs p q v → Wrote base w cs o q v
 wrote_behind base w v [] o p q h k = (k.0, takes_then base o p q h k.1)
 wrote_behind base w v (c ∷ cs) o p q h k = (k.0, k.1, k.2, k.3, takes_then base o p k.2 h k.4, k.5, k.6, k.7)
 
-pub wrote_then : (base : List Event) (w u v : Accounts) (xs ys : List (List ℕ)) (o p q : List Event) → Wrote base w xs o p u → Wrote base u ys p q v → Wrote base w (xs ++ ys) o q v
+pub wrote_then : (base : List Event) (w u v : World) (xs ys : List (List ℕ)) (o p q : List Event) → Wrote base w xs o p u → Wrote base u ys p q v → Wrote base w (xs ++ ys) o q v
 wrote_then base w u v [] ys o p q h k = subst (λ x. Wrote base x ys o q v) h.0 (wrote_behind base u v ys o p q h.1 k)
 wrote_then base w u v (x ∷ xs) ys o p q h k = (h.0, h.1, h.2, h.3, h.4, h.5, h.6, wrote_then base h.1 u v xs ys (put (answer_line h.0) ∷ h.3) p q h.7 k)
 
-pub wrote_none : (base : List Event) (w : Accounts) (m : List Event) → Wrote base w [] m m w
+pub wrote_none : (base : List Event) (w : World) (m : List Event) → Wrote base w [] m m w
 wrote_none base w m = (refl, takes_none base m)
 
 -- what is written, and then one take more
-pub wrote_took : (base : List Event) (w v : Accounts) (cs : List (List ℕ)) (o p : List Event) (bytes : List ℕ) → Wrote base w cs o p v → HasReplied base p → Wrote base w cs o (took bytes ∷ p) v
+pub wrote_took : (base : List Event) (w v : World) (cs : List (List ℕ)) (o p : List Event) (bytes : List ℕ) → Wrote base w cs o p v → HasReplied base p → Wrote base w cs o (took bytes ∷ p) v
 wrote_took base w v [] o p bytes h replied = (h.0, takes_then base o p (took bytes ∷ p) h.1 (takes_one base p bytes replied))
 wrote_took base w v (c ∷ cs) o p bytes h replied = (h.0, h.1, h.2, h.3, h.4, h.5, h.6, wrote_took base h.1 v cs (put (answer_line h.0) ∷ h.3) p bytes h.7 replied)
 
@@ -60,10 +60,10 @@ taken_told (Err e) text old mid new puts same = tt
 
 -- ---- some of the commands
 
-pub some_none : (base : List Event) (w : Accounts) (cs : List (List ℕ)) (m : List Event) → WroteSome base w cs m m w
+pub some_none : (base : List Event) (w : World) (cs : List (List ℕ)) (m : List Event) → WroteSome base w cs m m w
 some_none base w cs m = record { first = []; rest = cs; are = refl; wrote = wrote_none base w m }
 
-pub wrote_some_then : (base : List Event) (w u v : Accounts) (xs ys : List (List ℕ)) (o p q : List Event) → Wrote base w xs o p u → WroteSome base u ys p q v → WroteSome base w (xs ++ ys) o q v
+pub wrote_some_then : (base : List Event) (w u v : World) (xs ys : List (List ℕ)) (o p q : List Event) → Wrote base w xs o p u → WroteSome base u ys p q v → WroteSome base w (xs ++ ys) o q v
 wrote_some_then base w u v xs ys o p q h k = record {
   first = xs ++ k.first;
   rest = k.rest;
@@ -72,18 +72,18 @@ wrote_some_then base w u v xs ys o p q h k = record {
 }
 
 -- whatever commands follow
-pub wrote_some_more : (base : List Event) (w v : Accounts) (xs ys : List (List ℕ)) (o p : List Event) → WroteSome base w xs o p v → WroteSome base w (xs ++ ys) o p v
+pub wrote_some_more : (base : List Event) (w v : World) (xs ys : List (List ℕ)) (o p : List Event) → WroteSome base w xs o p v → WroteSome base w (xs ++ ys) o p v
 wrote_some_more base w v xs ys o p h = record { first = h.first; rest = h.rest ++ ys; are = ap (λ l. l ++ ys) h.are ∙ append_assoc h.first h.rest ys; wrote = h.wrote }
 
-pub wrote_broken_then : (base : List Event) (w u v : Accounts) (xs ys : List (List ℕ)) (o p q : List Event) → Wrote base w xs o p u → WroteBroken base u ys p q v → WroteBroken base w (xs ++ ys) o q v
+pub wrote_broken_then : (base : List Event) (w u v : World) (xs ys : List (List ℕ)) (o p q : List Event) → Wrote base w xs o p u → WroteBroken base u ys p q v → WroteBroken base w (xs ++ ys) o q v
 wrote_broken_then base w u v xs ys o p q h k = record {
   first = xs ++ k.first;
   next = k.next;
   rest = k.rest;
   are = ap (λ l. xs ++ l) k.are ∙ sym (append_assoc xs k.first (k.next ∷ k.rest));
-  accounts = k.accounts;
+  world = k.world;
   told = k.told;
-  wrote = wrote_then base w u k.accounts xs k.first o p k.told h k.wrote;
+  wrote = wrote_then base w u k.world xs k.first o p k.told h k.wrote;
   answer = k.answer;
   answers = k.answers;
   behind = k.behind;
@@ -91,13 +91,13 @@ wrote_broken_then base w u v xs ys o p q h k = record {
   broke = k.broke;
 }
 
-pub wrote_broken_more : (base : List Event) (w v : Accounts) (xs ys : List (List ℕ)) (o p : List Event) → WroteBroken base w xs o p v → WroteBroken base w (xs ++ ys) o p v
+pub wrote_broken_more : (base : List Event) (w v : World) (xs ys : List (List ℕ)) (o p : List Event) → WroteBroken base w xs o p v → WroteBroken base w (xs ++ ys) o p v
 wrote_broken_more base w v xs ys o p h = record {
   first = h.first;
   next = h.next;
   rest = h.rest ++ ys;
   are = ap (λ l. l ++ ys) h.are ∙ append_assoc h.first (h.next ∷ h.rest) ys;
-  accounts = h.accounts;
+  world = h.world;
   told = h.told;
   wrote = h.wrote;
   answer = h.answer;
@@ -107,7 +107,7 @@ wrote_broken_more base w v xs ys o p h = record {
   broke = h.broke;
 }
 
-pub wrote_stopped_then : (base : List Event) (w u v : Accounts) (xs ys : List (List ℕ)) (o p q : List Event) → Wrote base w xs o p u → WroteStopped base u ys p q v → WroteStopped base w (xs ++ ys) o q v
+pub wrote_stopped_then : (base : List Event) (w u v : World) (xs ys : List (List ℕ)) (o p q : List Event) → Wrote base w xs o p u → WroteStopped base u ys p q v → WroteStopped base w (xs ++ ys) o q v
 wrote_stopped_then base w u v xs ys o p q h k = record {
   first = xs ++ k.first;
   rest = k.rest;
@@ -117,11 +117,11 @@ wrote_stopped_then base w u v xs ys o p q h k = record {
   stopped = k.stopped;
 }
 
-stopped_more : (w : Accounts) (rest ys : List (List ℕ)) (o p : List Event) → Stopped w o p rest → Stopped w o p (rest ++ ys)
+stopped_more : (w : World) (rest ys : List (List ℕ)) (o p : List Event) → Stopped w o p rest → Stopped w o p (rest ++ ys)
 stopped_more w [] ys o p stopped = elim stopped [ ]
 stopped_more w (next ∷ rest) ys o p (writing answers is_w is_v leads some broken) = writing answers is_w is_v leads some broken
 
-pub wrote_stopped_more : (base : List Event) (w v : Accounts) (xs ys : List (List ℕ)) (o p : List Event) → WroteStopped base w xs o p v → WroteStopped base w (xs ++ ys) o p v
+pub wrote_stopped_more : (base : List Event) (w v : World) (xs ys : List (List ℕ)) (o p : List Event) → WroteStopped base w xs o p v → WroteStopped base w (xs ++ ys) o p v
 wrote_stopped_more base w v xs ys o p h = record {
   first = h.first;
   rest = h.rest ++ ys;

@@ -1,4 +1,5 @@
 pub mod Views
+pub mod Worlds
 pub mod Outcomes
 pub mod Held
 pub mod Progress

@@ -2,7 +2,9 @@
 ghost use Rattle.std.specs.Prelude.{IfOk, [], None};
 ghost use Rattle.cad_acceptance.specs.Stops.{FirstStop};
 ghost use Rattle.cad_check.specs.Answers.{Tells as Stops, TextVerdict};
-ghost use Rattle.cadence.specs.Answer.{Answer, Declines};
+ghost use Rattle.serde_json.specs.Data.{Data};
+ghost use Rattle.cad_runs.specs.Commands as runs;
+ghost use Rattle.cadence.specs.Answer.{Declines};
 ghost use Rattle.cadence.specs.Code.Views.{Tells};
 
 use crate::reply::Reply;
@@ -39,7 +41,7 @@ fn stop_of(
 
 /// The reply to code that doesn't run.
 pub fn declined(alloc: Global, place: Option<Address>, code: &str) -> Result<Reply, AllocError>
-    ensures { IfOk result (λ reply. (a : Answer) × Tells reply a × Declines place code.now a) }
+    ensures { IfOk result (λ reply. (a : runs.Reply Data) × Tells reply a × Declines place code.now a) }
 {
     match stop_of(alloc, place, code)? {
         Some(rejected) => Ok(Reply::Rejected(rejected)),

@@ -3,21 +3,22 @@
 
 #[cfg(test)]
 mod account_tests;
-mod accounts;
 mod commands;
 mod judging;
 mod laws;
 mod line;
+mod making;
 mod outcome;
 mod prepare;
 mod reply;
-mod saving;
 mod scripts;
 mod serve;
 mod status;
 #[cfg(test)]
 mod tests;
+mod transactions;
 mod words;
+mod worlds;
 
 use cad_host::FileHost;
 use cad_syntax::{Items, Text};

@@ -3,13 +3,14 @@ ghost use Rattle.std.specs.Prelude.{◌≡◌, List, ℕ, IfOk};
 ghost use Rattle.serde_json.specs.Data.{Data};
 ghost use Rattle.cad_host.specs.Disk.{Event};
 ghost use Rattle.cad_accounts.specs.Registers.{Map, Leads};
-ghost use Rattle.cad_accounts.specs.Accounts.{Accounts, StandsFor};
-ghost use Rattle.cad_accounts.specs.Worlds.{AreSound};
+ghost use Rattle.cad_world.specs.State.{World};
+ghost use Rattle.cad_worlds.specs.Standing.{StandsFor};
+ghost use Rattle.cadence.specs.Code.Worlds.{AreSound};
 ghost use Rattle.cad_runs.specs.Commands as runs;
 ghost use Rattle.cad_store.specs.Stores.{held, room_of, IsOn};
 ghost use Rattle.cadence.specs.Code.Held.{Holds};
-ghost use Rattle.cadence.specs.Answer.{Answer, Answers, Does, Commits, most_bytes};
-ghost use Rattle.cadence.specs.Answer as answer;
+ghost use Rattle.cad_transaction_replies.specs.Replies as spec;
+ghost use Rattle.cadence.specs.Answer.{Answers, Does, Commits, most_bytes};
 ghost use Rattle.cadence.specs.Code.Views.{Tells};
 ghost use Rattle.cadence.specs.Code.Outcomes.{IsReady, Comes};
 
@@ -29,7 +30,7 @@ pub enum Prepared {
     Commit(Commit, Text),
 }
 
-// Makes the changes of a command ready. They take effect where the accounts aren't too large then.
+// Makes the changes of a command ready. They take effect where the World isn't too large then.
 fn commit_of(
     alloc: Global,
     store: &mut Store,
@@ -38,8 +39,8 @@ fn commit_of(
 ) -> Result<Prepared, AllocError>
     requires leads { (new : Map) × Leads (held store.old) new changes }
     requires room { room_of store.old ≡ most_bytes }
-    ensures ready { IfOk result (λ p. (a : Answer) (w v : Accounts) (new : Map) → Tells reply a → StandsFor (held store.old) w → Leads (held store.old) new changes → StandsFor new v
-        → IsReady p store.new (Commits w (answer.leads a v))) }
+    ensures ready { IfOk result (λ p. (a : runs.Reply Data) (w v : World) (new : Map) → Tells reply a → StandsFor (held store.old) w → Leads (held store.old) new changes → StandsFor new v
+        → IsReady p store.new (Commits w (spec.leads a v))) }
     ensures held { held store.new ≡ held store.old }
     ensures room { room_of store.new ≡ room_of store.old }
     ensures on { (m : List Event) → IsOn m store.old → IsOn m store.new }
@@ -64,10 +65,10 @@ fn commit_of(
 
 // Makes what a command comes to ready.
 fn ready_for(alloc: Global, store: &mut Store, outcome: Outcome) -> Result<Prepared, AllocError>
-    requires comes { (w : Accounts) × (command : runs.Command Data) × Comes outcome (held store.old) w command }
+    requires comes { (w : World) × (command : runs.Command Data) × Comes outcome (held store.old) w command }
     requires room { room_of store.old ≡ most_bytes }
-    ensures ready { IfOk result (λ p. (w : Accounts) (command : runs.Command Data) → StandsFor (held store.old) w → Comes outcome (held store.old) w command
-        → IsReady p store.new (λ a v. (o : answer.Outcome) × Does w command o × Commits w o a v)) }
+    ensures ready { IfOk result (λ p. (w : World) (command : runs.Command Data) → StandsFor (held store.old) w → Comes outcome (held store.old) w command
+        → IsReady p store.new (λ a v. (o : spec.Outcome) × Does w command o × Commits w o a v)) }
     ensures held { held store.new ≡ held store.old }
     ensures room { room_of store.new ≡ room_of store.old }
     ensures on { (m : List Event) → IsOn m store.old → IsOn m store.new }
@@ -85,7 +86,7 @@ fn ready_for(alloc: Global, store: &mut Store, outcome: Outcome) -> Result<Prepa
 pub fn prepare(alloc: Global, store: &mut Store, line: &Line) -> Result<Prepared, AllocError>
     requires sound { AreSound (held store.old) }
     requires room { room_of store.old ≡ most_bytes }
-    ensures ready { IfOk result (λ p. (w : Accounts) → StandsFor (held store.old) w → IsReady p store.new (λ a v. (pending : List ℕ) → Holds line.now pending → Answers w pending a v)) }
+    ensures ready { IfOk result (λ p. (w : World) → StandsFor (held store.old) w → IsReady p store.new (λ a v. (pending : List ℕ) → Holds line.now pending → Answers w pending a v)) }
     ensures held { held store.new ≡ held store.old }
     ensures room { room_of store.new ≡ room_of store.old }
     ensures on { (m : List Event) → IsOn m store.old → IsOn m store.new }

@@ -5,14 +5,17 @@ ghost use Rattle.cad_host.specs.Disk.{Event, output, taken, reads, Puts, Takes, 
 ghost use Rattle.cad_host.specs.Faults.{Rose, IsCaused};
 ghost use Rattle.cad_wire.specs.declared.entry.Entry.{Entry};
 ghost use Rattle.cad_accounts.specs.Registers.{applied, Leads};
-ghost use Rattle.cad_accounts.specs.Accounts.{Accounts, StandsFor};
-ghost use Rattle.cad_accounts.specs.Worlds.{AreSound};
+ghost use Rattle.cad_world.specs.State.{World};
+ghost use Rattle.cad_worlds.specs.Standing.{StandsFor};
+ghost use Rattle.cadence.specs.Code.Worlds.{AreSound};
 ghost use Rattle.cad_store.specs.Opening.{in_use, opened, BreaksOpening};
 ghost use Rattle.cad_store.specs.Stores.{held, room_of, IsOn, IsOut};
 ghost use Rattle.cadence.specs.Lines.{commands, commands_among};
 ghost use Rattle.cadence.specs.Code.Held.{Holds};
 ghost use Rattle.cadence.specs.Words.{IsRun};
-ghost use Rattle.cadence.specs.Answer.{Answer, Answers, answer_line, most_bytes};
+ghost use Rattle.serde_json.specs.Data.{Data};
+ghost use Rattle.cad_runs.specs.Commands.{Reply};
+ghost use Rattle.cadence.specs.Answer.{Answers, answer_line, most_bytes};
 ghost use Rattle.cadence.specs.Served.{Served, ServedSome, Broken, Begun, Finished};
 ghost use Rattle.cadence.specs.Writing.{Wrote, WroteSome, WroteBroken, WroteStopped};
 ghost use Rattle.cadence.specs.Crashes.{DiskStands, Survives};
@@ -26,6 +29,7 @@ use crate::line::Line;
 use crate::prepare::{Prepared, prepare};
 use crate::status::Status;
 use crate::words::is_run;
+use crate::worlds::Worlds;
 use cad_host::{Failed, Host};
 use cad_store::{Commit, OpenStop, Store, open};
 use cad_syntax::Text;
@@ -59,11 +63,11 @@ fn write_and_tell<H: Host>(
 ) -> Result<(), Status>
     requires out { (changes : List Entry) × IsOut store.old commit changes }
     requires on { H.tells → IsOn (H.trace host.old) store.old }
-    ensures said { H.tells → (base : List Event) (w v : Accounts) (c : List ℕ) (a : Answer) (changes : List Entry) → StandsFor (held store.old) w → Answers w c a v → text.now ≡ answer_line a
+    ensures said { H.tells → (base : List Event) (w v : World) (c : List ℕ) (a : Reply Data) (changes : List Entry) → StandsFor (held store.old) w → Answers w c a v → text.now ≡ answer_line a
         → IsOut store.old commit changes → StandsFor (applied changes (held store.old)) v
         → Leads (held store.old) (applied changes (held store.old)) changes → changes ≢ []
         → OnOk result (Said base w (c ∷ []) (H.trace host.old) (H.trace host.new) store.new) }
-    ensures stops { H.tells → (base : List Event) (w v : Accounts) (c : List ℕ) (a : Answer) (changes : List Entry) → StandsFor (held store.old) w → Answers w c a v → text.now ≡ answer_line a
+    ensures stops { H.tells → (base : List Event) (w v : World) (c : List ℕ) (a : Reply Data) (changes : List Entry) → StandsFor (held store.old) w → Answers w c a v → text.now ≡ answer_line a
         → IsOut store.old commit changes → StandsFor (applied changes (held store.old)) v
         → Leads (held store.old) (applied changes (held store.old)) changes → changes ≢ []
         → IfErr result (λ s. Halted s base w (c ∷ []) (H.trace host.old) (H.trace host.new)) }
@@ -92,9 +96,9 @@ fn answer<H: Host>(
     requires sound { AreSound (held store.old) }
     requires room { room_of store.old ≡ most_bytes }
     requires on { H.tells → IsOn (H.trace host.old) store.old }
-    ensures said { H.tells → (base : List Event) (pending : List ℕ) → Holds line.now pending → (w : Accounts) → StandsFor (held store.old) w
+    ensures said { H.tells → (base : List Event) (pending : List ℕ) → Holds line.now pending → (w : World) → StandsFor (held store.old) w
         → OnOk result (Said base w (pending ∷ []) (H.trace host.old) (H.trace host.new) store.new) }
-    ensures stops { H.tells → (base : List Event) (pending : List ℕ) → Holds line.now pending → (w : Accounts) → StandsFor (held store.old) w
+    ensures stops { H.tells → (base : List Event) (pending : List ℕ) → Holds line.now pending → (w : World) → StandsFor (held store.old) w
         → IfErr result (λ s. Halted s base w (pending ∷ []) (H.trace host.old) (H.trace host.new)) }
     ensures sound { OnOk result (AreSound (held store.new)) }
     ensures on { OnOk result (H.tells → IsOn (H.trace host.new) store.new) }
@@ -119,9 +123,9 @@ fn say<H: Host>(alloc: Global, host: &mut H, store: &mut Store, line: &Line) -> 
     requires sound { AreSound (held store.old) }
     requires room { room_of store.old ≡ most_bytes }
     requires on { H.tells → IsOn (H.trace host.old) store.old }
-    ensures said { H.tells → (base : List Event) (pending : List ℕ) → Holds line.now pending → (w : Accounts) → StandsFor (held store.old) w
+    ensures said { H.tells → (base : List Event) (pending : List ℕ) → Holds line.now pending → (w : World) → StandsFor (held store.old) w
         → OnOk result (Said base w (commands_among (pending ∷ [])) (H.trace host.old) (H.trace host.new) store.new) }
-    ensures stops { H.tells → (base : List Event) (pending : List ℕ) → Holds line.now pending → (w : Accounts) → StandsFor (held store.old) w
+    ensures stops { H.tells → (base : List Event) (pending : List ℕ) → Holds line.now pending → (w : World) → StandsFor (held store.old) w
         → IfErr result (λ s. Halted s base w (commands_among (pending ∷ [])) (H.trace host.old) (H.trace host.new)) }
     ensures sound { OnOk result (AreSound (held store.new)) }
     ensures on { OnOk result (H.tells → IsOn (H.trace host.new) store.new) }
@@ -233,11 +237,11 @@ fn turn<H: Host>(
     requires bytes { room_of store.old ≡ most_bytes }
     requires on { H.tells → IsOn (H.trace host.old) store.old }
     ensures count { IfOk result (λ n. n ≤ room) }
-    ensures going { H.tells → (w : Accounts) (input : List ℕ) (base : List Event) → Between line.old store.old w input base (H.left host.old) (H.trace host.old) →
+    ensures going { H.tells → (w : World) (input : List ℕ) (base : List Event) → Between line.old store.old w input base (H.left host.old) (H.trace host.old) →
         OnOk result (Between line.new store.new w input base (H.left host.new) (H.trace host.new)) }
     ensures left { H.tells → IfOk result (λ n. length (H.left host.old) ≡ n + length (H.left host.new)) }
     ensures end { H.tells → result ≡ Ok 0 → H.left host.new ≡ [] }
-    ensures ends { H.tells → (w : Accounts) (input : List ℕ) (base : List Event) → Between line.old store.old w input base (H.left host.old) (H.trace host.old) →
+    ensures ends { H.tells → (w : World) (input : List ℕ) (base : List Event) → Between line.old store.old w input base (H.left host.old) (H.trace host.old) →
         IfErr result (λ s. Ends s w input (H.left host.new) base (H.trace host.new)) }
     ensures sound { OnOk result (AreSound (held store.new)) }
     ensures on { OnOk result (H.tells → IsOn (H.trace host.new) store.new) }
@@ -259,7 +263,7 @@ fn finish<H: Host>(alloc: Global, host: &mut H, store: &mut Store, line: &Line) 
     requires sound { AreSound (held store.old) }
     requires room { room_of store.old ≡ most_bytes }
     requires on { H.tells → IsOn (H.trace host.old) store.old }
-    ensures ends { H.tells → (w : Accounts) (input : List ℕ) (base : List Event) → length input ≤ input_bound → H.left host.old ≡ [] → Going line.now store.old w input base [] (H.trace host.old) →
+    ensures ends { H.tells → (w : World) (input : List ℕ) (base : List Event) → length input ≤ input_bound → H.left host.old ≡ [] → Going line.now store.old w input base [] (H.trace host.old) →
         Ends result w input (H.left host.new) base (H.trace host.new) }
     ensures cause { HasCause result (H.input_faults host.old) (H.input_faults host.new) (H.output_faults host.old) (H.output_faults host.new) (H.disk_faults host.old) (H.disk_faults host.new) }
 {
@@ -297,7 +301,7 @@ fn past_bound<H: Host>(
     requires sound { AreSound (held store.old) }
     requires room { room_of store.old ≡ most_bytes }
     requires on { H.tells → IsOn (H.trace host.old) store.old }
-    ensures ends { H.tells → (w : Accounts) (input : List ℕ) (base : List Event) → length input ≡ input_bound + length (H.left host.old) →
+    ensures ends { H.tells → (w : World) (input : List ℕ) (base : List Event) → length input ≡ input_bound + length (H.left host.old) →
         Between line.now store.old w input base (H.left host.old) (H.trace host.old) → Ends result w input (H.left host.new) base (H.trace host.new) }
     ensures cause { HasCause result (H.input_faults host.old) (H.input_faults host.new) (H.output_faults host.old) (H.output_faults host.new) (H.disk_faults host.old) (H.disk_faults host.new) }
 {
@@ -321,7 +325,7 @@ fn read_lines<H: Host>(
     requires sound { AreSound (held store.old) }
     requires room { room_of store.old ≡ most_bytes }
     requires on { H.tells → IsOn (H.trace host.old) store.old }
-    ensures ends { H.tells → (w : Accounts) → StandsFor (held store.old) w → Ends result w (H.left host.old) (H.left host.new) (H.trace host.old) (H.trace host.new) }
+    ensures ends { H.tells → (w : World) → StandsFor (held store.old) w → Ends result w (H.left host.old) (H.left host.new) (H.trace host.old) (H.trace host.new) }
     ensures cause { HasCause result (H.input_faults host.old) (H.input_faults host.new) (H.output_faults host.old) (H.output_faults host.new) (H.disk_faults host.old) (H.disk_faults host.new) }
 {
     let mut taken = 0u64;
@@ -344,7 +348,7 @@ fn run<H: Host>(alloc: Global, host: &mut H, store: &mut Store) -> Status
     requires sound { AreSound (held store.old) }
     requires room { room_of store.old ≡ most_bytes }
     requires on { H.tells → IsOn (H.trace host.old) store.old }
-    ensures ends { H.tells → (w : Accounts) → StandsFor (held store.old) w → Ends result w (H.left host.old) (H.left host.new) (H.trace host.old) (H.trace host.new) }
+    ensures ends { H.tells → (w : World) → StandsFor (held store.old) w → Ends result w (H.left host.old) (H.left host.new) (H.trace host.old) (H.trace host.new) }
     ensures cause { HasCause result (H.input_faults host.old) (H.input_faults host.new) (H.output_faults host.old) (H.output_faults host.new) (H.disk_faults host.old) (H.disk_faults host.new) }
 {
     let Ok(mut buffer) = vec![in alloc; 0u8; BUFFER] else {
@@ -354,7 +358,7 @@ fn run<H: Host>(alloc: Global, host: &mut H, store: &mut Store) -> Status
     read_lines(alloc, host, &mut buffer, store, &mut line)
 }
 
-/// How many bytes the accounts may have: those of a record of all their registers, with the gate behind it.
+/// How many bytes a World may have: those of a record of all its registers, with the gate behind it.
 const ROOM: u64 = 1 << 30;
 
 fn stop_of(stop: OpenStop) -> Status
@@ -367,32 +371,32 @@ fn stop_of(stop: OpenStop) -> Status
     }
 }
 
-// Opens the accounts and reads the input.
+// Opens the World and reads the input.
 fn open_and_run<H: Host>(alloc: Global, host: &mut H) -> Status
-    ensures ends { H.tells → (w : Accounts) → DiskStands (reads (H.trace host.old)) w
+    ensures ends { H.tells → (w : World) → DiskStands (reads (H.trace host.old)) w
         → EndsOpening result (H.left host.old) (H.left host.new) (H.trace host.old) (H.trace host.new)
         ⊎ Ends result w (H.left host.old) (H.left host.new) (opened (H.trace host.old)) (H.trace host.new) }
-    ensures survives { H.tells → (w : Accounts) → DiskStands (reads (H.trace host.old)) w
+    ensures survives { H.tells → (w : World) → DiskStands (reads (H.trace host.old)) w
         → Survives w (commands (H.left host.old)) (H.trace host.old) (H.trace host.new) }
-    ensures bad { H.tells → result ≡ Status.BadStore → (w : Accounts) → DiskStands (reads (H.trace host.old)) w → ⊥ }
-    ensures unopened { H.tells → ((w : Accounts) → DiskStands (reads (H.trace host.old)) w → ⊥) → (H.left host.new ≡ H.left host.old)
+    ensures bad { H.tells → result ≡ Status.BadStore → (w : World) → DiskStands (reads (H.trace host.old)) w → ⊥ }
+    ensures unopened { H.tells → ((w : World) → DiskStands (reads (H.trace host.old)) w → ⊥) → (H.left host.new ≡ H.left host.old)
         × (FailsLook Pick (H.trace host.old) (H.trace host.new) ⊎ FailsLook (in_use (H.trace host.old)) (H.trace host.old) (H.trace host.new)) }
-    ensures opened { H.tells → HasRun result → (w : Accounts) × DiskStands (reads (H.trace host.old)) w }
+    ensures opened { H.tells → HasRun result → (w : World) × DiskStands (reads (H.trace host.old)) w }
     ensures run { result ≢ Status.Usage }
     ensures cause { IsCausedBy result (H.input_faults host.old) (H.input_faults host.new) (H.output_faults host.old) (H.output_faults host.new) (H.disk_faults host.old) (H.disk_faults host.new) }
 {
-    match open(alloc, host, ROOM) {
+    match open(alloc, host, &Worlds, ROOM) {
         Ok(mut store) => run(alloc, host, &mut store),
         Err(stop) => stop_of(stop),
     }
 }
 
-/// All that the program does. It reads the words `run FOLDER`, opens the accounts that the tapes stand for, which writes
+/// All that the program does. It reads the words `run FOLDER`, opens the World that the tapes stand for, which writes
 /// nothing and syncs what was read, and reads the input: lines that end with a line feed or with the input. A line of spaces, tabs and carriage
 /// returns alone is no command and has no reply; any other line is a command. What it changes is written, and then its reply
 /// line is put.
 ///
-/// The status is Usage exactly where the words are others. BadStore comes exactly where the tapes stand for no accounts,
+/// The status is Usage exactly where the words are others. BadStore comes exactly where the tapes stand for no World,
 /// unless a disk fault or want of memory ended the opening. ReadFault, WriteFault and DiskFault come only where the host's
 /// input, output or disk failed, InputBound where the input has more than 2^40 bytes, and Memory where memory ran out.
 pub fn serve<H: Host>(alloc: Global, words: &[Text], host: &mut H) -> Status
@@ -400,58 +404,58 @@ pub fn serve<H: Host>(alloc: Global, words: &[Text], host: &mut H) -> Status
     ensures usage { (result ≡ Status.Usage) ↔ (¬ IsRun words.now) }
     ensures idle { result ≡ Status.Usage → host.new ≡ host.old }
 
-    // BadStore: the tapes stand for no accounts. Where they stand for none, nothing is taken, written, synced or put, whatever
-    // the status (a look at a tape may fail), and it is none of those that a run over accounts ends with but DiskFault and Memory.
-    ensures bad_store { H.tells → result ≡ Status.BadStore → (w : Accounts) → DiskStands (reads (H.trace host.old)) w → ⊥ }
-    ensures unopened { H.tells → ((w : Accounts) → DiskStands (reads (H.trace host.old)) w → ⊥) → (H.left host.new ≡ H.left host.old)
+    // BadStore: the tapes stand for no World. Where they stand for none, nothing is taken, written, synced or put, whatever
+    // the status (a look at a tape may fail), and it is none of those that a run over a World ends with but DiskFault and Memory.
+    ensures bad_store { H.tells → result ≡ Status.BadStore → (w : World) → DiskStands (reads (H.trace host.old)) w → ⊥ }
+    ensures unopened { H.tells → ((w : World) → DiskStands (reads (H.trace host.old)) w → ⊥) → (H.left host.new ≡ H.left host.old)
         × (FailsLook Pick (H.trace host.old) (H.trace host.new) ⊎ FailsLook (in_use (H.trace host.old)) (H.trace host.old) (H.trace host.new)) }
-    ensures opened { H.tells → HasRun result → (w : Accounts) × DiskStands (reads (H.trace host.old)) w }
+    ensures opened { H.tells → HasRun result → (w : World) × DiskStands (reads (H.trace host.old)) w }
 
     // Done: the input was read to its end, the output grew by the reply lines of all commands, in order, and the tapes stand
-    // for the accounts that the commands lead to. The calls are told in their order: the opening synced `pick` and the tape in
+    // for the World that the commands lead to. The calls are told in their order: the opening synced `pick` and the tape in
     // use; a command that changes no register wrote nothing, and any other wrote one record, of exactly the registers that
     // differ, before its reply was put; and whenever input was taken, each command that a line feed had ended had its reply.
     // No call failed, and nothing else was written. So it is under each other status of the commands that were replied to.
-    ensures done { H.tells → result ≡ Status.Done → (w : Accounts) → DiskStands (reads (H.trace host.old)) w
-        → (v : Accounts) × (H.left host.new ≡ []) × Served w (commands (H.left host.old)) (output (H.trace host.old)) (output (H.trace host.new)) v
+    ensures done { H.tells → result ≡ Status.Done → (w : World) → DiskStands (reads (H.trace host.old)) w
+        → (v : World) × (H.left host.new ≡ []) × Served w (commands (H.left host.old)) (output (H.trace host.old)) (output (H.trace host.new)) v
         × DiskStands (reads (H.trace host.new)) v × Wrote (opened (H.trace host.old)) w (commands (H.left host.old)) (opened (H.trace host.old)) (H.trace host.new) v }
 
     // Under every status the output grew by a prefix of the bytes of these lines.
-    ensures begun { H.tells → (w : Accounts) → DiskStands (reads (H.trace host.old)) w
+    ensures begun { H.tells → (w : World) → DiskStands (reads (H.trace host.old)) w
         → Begun w (commands (H.left host.old)) (output (H.trace host.old)) (output (H.trace host.new)) }
 
-    // Memory: nothing was done, or the tapes stand for the accounts after exactly the commands that were replied to. DiskFault: a
+    // Memory: nothing was done, or the tapes stand for the World after exactly the commands that were replied to. DiskFault: a
     // disk call of the opening failed, and nothing was taken, written or put; or one of a commit failed, and neither was its
     // command replied to nor anything taken or begun behind it. WriteFault: the command whose line broke took effect, and what
     // it changes was written before. So the first call that fails is the last.
-    ensures memory { H.tells → result ≡ Status.Memory → (w : Accounts) → DiskStands (reads (H.trace host.old)) w
+    ensures memory { H.tells → result ≡ Status.Memory → (w : World) → DiskStands (reads (H.trace host.old)) w
         → ((H.left host.new ≡ H.left host.old) × (H.trace host.new ≡ H.trace host.old))
-        ⊎ ((v : Accounts) × ServedSome w (commands (H.left host.old)) (output (H.trace host.old)) (output (H.trace host.new)) v
+        ⊎ ((v : World) × ServedSome w (commands (H.left host.old)) (output (H.trace host.old)) (output (H.trace host.new)) v
         × DiskStands (reads (H.trace host.new)) v × WroteSome (opened (H.trace host.old)) w (commands (H.left host.old)) (opened (H.trace host.old)) (H.trace host.new) v) }
-    ensures disk_fault { H.tells → result ≡ Status.DiskFault → (w : Accounts) → DiskStands (reads (H.trace host.old)) w
+    ensures disk_fault { H.tells → result ≡ Status.DiskFault → (w : World) → DiskStands (reads (H.trace host.old)) w
         → ((H.left host.new ≡ H.left host.old) × BreaksOpening (H.trace host.old) (H.trace host.new))
-        ⊎ ((v : Accounts) × ServedSome w (commands (H.left host.old)) (output (H.trace host.old)) (output (H.trace host.new)) v
+        ⊎ ((v : World) × ServedSome w (commands (H.left host.old)) (output (H.trace host.old)) (output (H.trace host.new)) v
         × WroteStopped (opened (H.trace host.old)) w (commands (H.left host.old)) (opened (H.trace host.old)) (H.trace host.new) v) }
-    ensures write_fault { H.tells → result ≡ Status.WriteFault → (w : Accounts) → DiskStands (reads (H.trace host.old)) w
-        → (v : Accounts) × Broken w (commands (H.left host.old)) (output (H.trace host.old)) (output (H.trace host.new)) v
+    ensures write_fault { H.tells → result ≡ Status.WriteFault → (w : World) → DiskStands (reads (H.trace host.old)) w
+        → (v : World) × Broken w (commands (H.left host.old)) (output (H.trace host.old)) (output (H.trace host.new)) v
         × DiskStands (reads (H.trace host.new)) v × WroteBroken (opened (H.trace host.old)) w (commands (H.left host.old)) (opened (H.trace host.old)) (H.trace host.new) v }
 
     // ReadFault: each command whose line feed was taken has its reply, an unfinished line has none and isn't run, and then a
     // take failed.
-    ensures read_fault { H.tells → result ≡ Status.ReadFault → (w : Accounts) → DiskStands (reads (H.trace host.old)) w
-        → (v : Accounts) × (taken : List ℕ) × (told : List Event) × (H.left host.old ≡ taken ++ H.left host.new)
+    ensures read_fault { H.tells → result ≡ Status.ReadFault → (w : World) → DiskStands (reads (H.trace host.old)) w
+        → (v : World) × (taken : List ℕ) × (told : List Event) × (H.left host.old ≡ taken ++ H.left host.new)
         × Finished (opened (H.trace host.old)) w taken (opened (H.trace host.old)) told v × FailsTake told (H.trace host.new) × DiskStands (reads (H.trace host.new)) v }
 
     // InputBound: so of the first 2^40 bytes, and one more was taken. Under Done there were no more than these.
-    ensures bound { H.tells → result ≡ Status.InputBound → (w : Accounts) → DiskStands (reads (H.trace host.old)) w
-        → (v : Accounts) × (taken : List ℕ) × (byte : ℕ) × (length taken ≡ 2 ^ 40) × (H.left host.old ≡ taken ++ byte ∷ H.left host.new)
+    ensures bound { H.tells → result ≡ Status.InputBound → (w : World) → DiskStands (reads (H.trace host.old)) w
+        → (v : World) × (taken : List ℕ) × (byte : ℕ) × (length taken ≡ 2 ^ 40) × (H.left host.old ≡ taken ++ byte ∷ H.left host.new)
         × Finished (opened (H.trace host.old)) w taken (opened (H.trace host.old)) (H.trace host.new) v × DiskStands (reads (H.trace host.new)) v }
     ensures within { H.tells → result ≡ Status.Done → length (H.left host.old) ≤ 2 ^ 40 }
 
     // A crash at any moment of the opening leaves what one might have left when the call began, and from the end of the opening
-    // on tapes that stand for the accounts after the first of the commands: each whose reply line was put, and at most one
+    // on tapes that stand for the World after the first of the commands: each whose reply line was put, and at most one
     // more. What was pending when the call began makes no difference.
-    ensures survives { H.tells → (w : Accounts) → DiskStands (reads (H.trace host.old)) w
+    ensures survives { H.tells → (w : World) → DiskStands (reads (H.trace host.old)) w
         → Survives w (commands (H.left host.old)) (H.trace host.old) (H.trace host.new) }
 
     // A fault is answered only where the count of its kind rose, and a count rose only where its fault is answered.

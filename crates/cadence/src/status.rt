@@ -15,7 +15,7 @@ pub enum Status {
     DiskFault,
     /// Memory ran out.
     Memory,
-    /// The disk stands for no accounts.
+    /// The disk stands for no World.
     BadStore,
     /// The input is longer than the program reads.
     InputBound,

@@ -32,14 +32,17 @@ const FAULTS: [(&str, u16); 10] = [
     ),
     ("{\"kind\":\"script\",\"code\":\"transaction {}\"}", 26),
     (
-        "{\"kind\":\"script\",\"code\":\"access(all) fun main(): Address { return getAccount(0x1).address }\"}",
+        "{\"kind\":\"transaction\",\"code\":\"transaction { prepare(a: auth(Contracts) &Account) { let c = a.contracts } }\"}",
         29,
     ),
-    ("{\"kind\":\"transaction\",\"code\":\"transaction {}\"}", 29),
+    (
+        "{\"kind\":\"transaction\",\"code\":\"transaction {}\",\"signers\":[\"0x9\"]}",
+        26,
+    ),
 ];
 
-// Scripts that run, with their replies.
-const SCRIPTS: [(&str, &str); 4] = [
+// Scripts and a transaction that run, with their replies.
+const SCRIPTS: [(&str, &str); 6] = [
     (
         "{\"kind\":\"script\",\"code\":\"access(all) fun main(): Bool { return 1 < 2 }\"}",
         "{\"reply\":\"ok\",\"result\":{\"type\":\"Bool\",\"value\":true}}\n",
@@ -55,6 +58,14 @@ const SCRIPTS: [(&str, &str); 4] = [
     (
         "{\"kind\":\"script\",\"code\":\"access(all) fun main() { while true {} }\",\"limit\":5}",
         "{\"reply\":\"limit\"}\n",
+    ),
+    (
+        "{\"kind\":\"script\",\"code\":\"access(all) fun main(): Address { return getAccount(0x1).address }\"}",
+        "{\"reply\":\"ok\",\"result\":{\"type\":\"Address\",\"value\":\"0x0000000000000001\"}}\n",
+    ),
+    (
+        "{\"kind\":\"transaction\",\"code\":\"transaction {}\"}",
+        "{\"destroyed\":[],\"events\":[],\"made\":[],\"reply\":\"ok\"}\n",
     ),
 ];
 

@@ -2,7 +2,7 @@
 use Rattle.std.specs.Prelude.{◌≡◌, ℕ, ◌≤◌, ◌^◌, List, [], ◌∷◌, ◌++◌, length}
 use Rattle.cad_host.specs.Disk.{Event, output, reads, FailsTake}
 use Rattle.cad_host.specs.Faults.{Rose}
-use Rattle.cad_accounts.specs.Accounts.{Accounts}
+use Rattle.cad_world.specs.State.{World}
 use Rattle.cadence.specs.Lines.{commands}
 use Rattle.cadence.specs.Served.{Served, ServedSome, Broken, Finished}
 use Rattle.cadence.specs.Writing.{Wrote, WroteSome, WroteBroken, WroteStopped}
@@ -17,23 +17,23 @@ use Rattle.cadence.specs.declared.status.Status.TheVariants.{Done, Usage, ReadFa
 abbrev pub input_bound : ℕ
 input_bound = 2 ^ 40
 
--- Of the input these bytes are left, and the output grew; but for a disk fault the tapes stand for the accounts after the
+-- Of the input these bytes are left, and the output grew; but for a disk fault the tapes stand for the World after the
 -- commands that were replied to. A disk fault ended the commit of the next command.
-abbrev pub Leaves : Status → Accounts → (input left : List ℕ) → (old new : List Event) → Type 0
+abbrev pub Leaves : Status → World → (input left : List ℕ) → (old new : List Event) → Type 0
 Leaves Done w input left old new =
-    (v : Accounts) × (left ≡ []) × (length input ≤ input_bound) × Served w (commands input) (output old) (output new) v × DiskStands (reads new) v × Wrote old w (commands input) old new v
+    (v : World) × (left ≡ []) × (length input ≤ input_bound) × Served w (commands input) (output old) (output new) v × DiskStands (reads new) v × Wrote old w (commands input) old new v
 Leaves Usage w input left old new = ⊥
 Leaves ReadFault w input left old new =
-    (v : Accounts) × (taken : List ℕ) × (told : List Event) × (input ≡ taken ++ left) × Finished old w taken old told v × FailsTake told new × DiskStands (reads new) v
-Leaves WriteFault w input left old new = (v : Accounts) × Broken w (commands input) (output old) (output new) v × DiskStands (reads new) v × WroteBroken old w (commands input) old new v
-Leaves DiskFault w input left old new = (v : Accounts) × ServedSome w (commands input) (output old) (output new) v × WroteStopped old w (commands input) old new v
-Leaves Memory w input left old new = (v : Accounts) × ServedSome w (commands input) (output old) (output new) v × DiskStands (reads new) v × WroteSome old w (commands input) old new v
+    (v : World) × (taken : List ℕ) × (told : List Event) × (input ≡ taken ++ left) × Finished old w taken old told v × FailsTake told new × DiskStands (reads new) v
+Leaves WriteFault w input left old new = (v : World) × Broken w (commands input) (output old) (output new) v × DiskStands (reads new) v × WroteBroken old w (commands input) old new v
+Leaves DiskFault w input left old new = (v : World) × ServedSome w (commands input) (output old) (output new) v × WroteStopped old w (commands input) old new v
+Leaves Memory w input left old new = (v : World) × ServedSome w (commands input) (output old) (output new) v × DiskStands (reads new) v × WroteSome old w (commands input) old new v
 Leaves BadStore w input left old new = ⊥
 Leaves InputBound w input left old new =
-    (v : Accounts) × (taken : List ℕ) × (byte : ℕ) × (length taken ≡ input_bound) × (input ≡ taken ++ byte ∷ left)
+    (v : World) × (taken : List ℕ) × (byte : ℕ) × (length taken ≡ input_bound) × (input ≡ taken ++ byte ∷ left)
     × Finished old w taken old new v × DiskStands (reads new) v
 
-pub record Ends (status : Status) (w : Accounts) (input left : List ℕ) (old new : List Event) : Type 0 where
+pub record Ends (status : Status) (w : World) (input left : List ℕ) (old new : List Event) : Type 0 where
   pub leaves : Leaves status w input left old new
   pub survives : KeepsPrefix w (commands input) old new
 

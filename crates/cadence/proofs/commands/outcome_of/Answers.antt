@@ -1,45 +1,20 @@
-use Rattle.std.proofs.Common.{ap, refl, sym, ◌∙◌, subst}
-use Rattle.std.specs.Prelude.{List, ℕ, map}
-use Rattle.serde_json.specs.View.{view}
+use Rattle.std.proofs.Common.{refl, sym, subst}
 use Rattle.cad_commands.specs.Bounds.{IsBounded}
 use Rattle.cad_commands.specs.Views.{pure_command}
-use Rattle.cad_runs.specs.Commands.{deploy}
+use Rattle.cad_runs.specs.Commands.{bad}
 use Rattle.cad_store.specs.Stores.{held}
-use Rattle.cadence.specs.Answer.{bad, stays, unread, runs}
-use Rattle.cadence.specs.Code.Outcomes.{Comes}
-use Rattle.cadence.proofs.Comings.{if_ok, comes_command, comes_parts, does_command, script_by_parts}
+use Rattle.cad_transaction_replies.specs.Replies.{stays}
+use Rattle.cad_worlds.specs.Standing.{world_of}
+use Rattle.cadence.specs.Answer.{unread}
+use Rattle.cadence.proofs.Comings.{does_command, every_world}
 use Rattle.cadence.proofs.commands.outcome_of.Goals as goal
-
-pub script_reply-requires : goal.script_reply-requires
-script_reply-requires c = (subst IsBounded (sym (sym (ap pure_command c.in-Script.is) ∙ c.requires.bounds.1)) (c.limits_are_bounded.ensures c.requires.bounds.0) c.in-Script.limit refl).1
-
-pub returns-in-Account : goal.returns-in-Account
-returns-in-Account c = comes_command c.account_outcome.result (held c.args.store.now) c.args.command.now _ c.in-Account.is c.account_outcome.ensures
-
-pub returns-in-Deploy : goal.returns-in-Deploy
-returns-in-Deploy c =
-    comes_command c.deploy_outcome.result (held c.args.store.now) c.args.command.now _ c.in-Deploy.is
-    (if_ok c.deploy_outcome.result
-    (λ o h w stands.
-    subst (λ (code : List ℕ). Comes o (held c.args.store.now) w (deploy c.in-Deploy.address c.in-Deploy.name code (map view c.in-Deploy.arguments.items) c.in-Deploy.limit)) c.as_str.ensures
-    (h c.in-Deploy.name (map view c.in-Deploy.arguments.items) c.in-Deploy.limit w stands))
-    c.deploy_outcome.ensures)
-
-pub returns-in-Transaction : goal.returns-in-Transaction
-returns-in-Transaction c =
-    comes_command c.transaction_outcome.result (held c.args.store.now) c.args.command.now _ c.in-Transaction.is
-    (comes_parts c.transaction_outcome.result (held c.args.store.now) c.in-Transaction.code c.as_str-in-Transaction.result.now c.in-Transaction.arguments.items c.deref.result.now
-    c.in-Transaction.signers.items c.deref-in-Transaction.result.now c.in-Transaction.limit c.as_str-in-Transaction.ensures c.deref.ensures.value c.deref-in-Transaction.ensures.value
-    c.transaction_outcome.ensures)
-
-pub returns-in_ok-reply-in-Script : goal.returns-in_ok-reply-in-Script
-returns-in_ok-reply-in-Script c = λ w stands.
-    let h = c.in_ok-reply-in-Script.ensures in (
-      h.0,
-      h.1,
-      does_command w c.args.command.now _ (stays h.0) c.in-Script.is
-          (runs (script_by_parts c.in-Script.code c.as_str-in-Script.result.now c.in-Script.arguments.items c.deref-in-Script.result.now c.in-Script.limit h.0 c.as_str-in-Script.ensures c.deref-in-Script.ensures.value h.2)),
-    )
 
 pub returns-in-Refused : goal.returns-in-Refused
 returns-in-Refused c = λ w stands. (bad c.in-Refused.number, refl, does_command w c.args.command.now _ (stays (bad c.in-Refused.number)) c.in-Refused.is unread)
+
+pub outcome_over-requires-clause-bounds : goal.outcome_over-requires-clause-bounds
+outcome_over-requires-clause-bounds c = subst IsBounded (sym c.requires.bounds.1) (c.limits_are_bounded.ensures c.requires.bounds.0)
+
+pub returns : goal.returns
+returns c =
+    every_world c.outcome_over.result (held c.args.store.now) (world_of c.in_ok-world.world) (pure_command c.args.command.now) c.in_ok-world.ensures c.outcome_over.ensures

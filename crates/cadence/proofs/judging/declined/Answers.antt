@@ -1,5 +1,6 @@
 use Rattle.std.proofs.Common.{refl}
-use Rattle.cadence.specs.Answer.{bad, rejected, refused, accepted}
+use Rattle.cad_runs.specs.Commands.{bad, rejected}
+use Rattle.cadence.specs.Answer.{refused, accepted}
 use Rattle.cadence.proofs.judging.declined.Goals as goal
 
 pub returns-in-Some : goal.returns-in-Some

@@ -1,8 +1,8 @@
 use Rattle.std.proofs.Common.{◌≡◌, false, true, refl, sym, ◌∙◌, ap, subst, Err}
 use Rattle.cad_accounts.specs.Registers.{applied, Leads}
-use Rattle.cad_accounts.specs.Accounts.{StandsFor}
+use Rattle.cad_worlds.specs.Standing.{StandsFor}
 use Rattle.cad_store.specs.Stores.{rows_in, held, room_of, IsOn}
-use Rattle.cadence.specs.Answer.{failed}
+use Rattle.cad_runs.specs.Commands.{failed}
 use Rattle.cadence.proofs.Readies.{commits_fit, commits_full, leads_applied, stands_applied, stands_unchanged}
 use Rattle.cadence.proofs.prepare.commit_of.Goals as goal
 

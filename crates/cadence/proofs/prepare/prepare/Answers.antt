@@ -2,7 +2,7 @@ use Rattle.std.proofs.Common.{◌≡◌, refl, subst}
 use Rattle.cad_commands.specs.Commands.{command_of}
 use Rattle.cad_commands.specs.Views.{pure_command}
 use Rattle.cad_store.specs.Stores.{held}
-use Rattle.cadence.specs.Answer.{bad}
+use Rattle.cad_runs.specs.Commands.{bad}
 use Rattle.cadence.proofs.Readies.{long_line, ready_command}
 use Rattle.cadence.proofs.prepare.prepare.Goals as goal
 

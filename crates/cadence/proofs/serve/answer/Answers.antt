@@ -1,7 +1,7 @@
 use Rattle.std.proofs.Common.{◌∷◌, [], subst, sym}
-use Rattle.cad_accounts.specs.Accounts.{StandsFor}
+use Rattle.cad_worlds.specs.Standing.{StandsFor}
 use Rattle.cad_accounts.specs.Registers.{applied}
-use Rattle.cad_accounts.specs.Worlds.{AreSound}
+use Rattle.cadence.specs.Code.Worlds.{AreSound}
 use Rattle.cad_store.specs.Stores.{held}
 use Rattle.cadence.specs.Code.Progress.{Said, Halted}
 use Rattle.cadence.proofs.Saids.{memory_here, stays_said, stays_broke, on_told}

@@ -1,6 +1,6 @@
 use Rattle.std.proofs.Common.{◌≡◌, take}
 use Rattle.cad_host.specs.Disk.{taken}
-use Rattle.cad_accounts.specs.Worlds.{AreSound}
+use Rattle.cadence.specs.Code.Worlds.{AreSound}
 use Rattle.cad_store.specs.Stores.{held, room_of, IsOn}
 use Rattle.cadence.specs.Code.Progress.{Goes}
 use Rattle.cadence.proofs.serve.feed.Given as goal

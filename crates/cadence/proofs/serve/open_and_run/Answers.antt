@@ -25,11 +25,11 @@ pub returns-in-Ok-clause-bad : goal.returns-in-Ok-clause-bad
 returns-in-Ok-clause-bad g c = λ tell is. absurd (no_bad_store c.run.result _ _ _ _ _ _ c.run.ensures.cause is)
 
 pub returns-in-Ok-clause-opened : goal.returns-in-Ok-clause-opened
-returns-in-Ok-clause-opened g c = λ tell ran. (c.in-Ok.ensures.sound.0, record { map = _; holds = c.in-Ok.ensures.holds tell; stands = c.in-Ok.ensures.sound.1 })
+returns-in-Ok-clause-opened g c = λ tell ran. (c.in-Ok.ensures.accepted.0, record { map = _; holds = c.in-Ok.ensures.holds tell; stands = c.in-Ok.ensures.accepted.1 })
 
 pub returns-in-Ok-clause-unopened : goal.returns-in-Ok-clause-unopened
 returns-in-Ok-clause-unopened g c = λ tell none.
-    absurd (none c.in-Ok.ensures.sound.0 (record { map = _; holds = c.in-Ok.ensures.holds tell; stands = c.in-Ok.ensures.sound.1 }))
+    absurd (none c.in-Ok.ensures.accepted.0 (record { map = _; holds = c.in-Ok.ensures.holds tell; stands = c.in-Ok.ensures.accepted.1 }))
 
 pub returns-in-Ok-clause-run : goal.returns-in-Ok-clause-run
 returns-in-Ok-clause-run g c = no_usage c.run.result _ _ _ _ _ _ c.run.ensures.cause

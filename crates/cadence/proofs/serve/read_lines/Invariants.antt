@@ -1,6 +1,7 @@
 use Rattle.std.proofs.Common.{◌≡◌, ◌≤◌, ◌<◌, ◌+◌, ◌-◌, length}
-use Rattle.cad_accounts.specs.Accounts.{Accounts, StandsFor}
-use Rattle.cad_accounts.specs.Worlds.{AreSound}
+use Rattle.cad_world.specs.State.{World}
+use Rattle.cad_worlds.specs.Standing.{StandsFor}
+use Rattle.cadence.specs.Code.Worlds.{AreSound}
 use Rattle.cad_store.specs.Stores.{held, room_of, IsOn}
 use Rattle.cadence.specs.Code.Progress.{Between}
 use Rattle.cadence.specs.Code.Ending.{input_bound}
@@ -8,7 +9,7 @@ use Rattle.cadence.proofs.serve.read_lines.Given as goal
 
 abbrev pub invariant-loop-taken : goal.invariant-loop-taken
 invariant-loop-taken g l =
-    (g.H.Host.tells → (w : Accounts) → StandsFor (held l.initial.store) w → Between l.line l.store w (g.H.Host.left l.initial.host) (g.H.Host.trace l.initial.host) (g.H.Host.left l.host) (g.H.Host.trace l.host))
+    (g.H.Host.tells → (w : World) → StandsFor (held l.initial.store) w → Between l.line l.store w (g.H.Host.left l.initial.host) (g.H.Host.trace l.initial.host) (g.H.Host.left l.host) (g.H.Host.trace l.host))
     × (g.H.Host.tells → length (g.H.Host.left l.initial.host) ≡ l.taken + length (g.H.Host.left l.host))
     × (g.H.Host.input_faults l.host ≡ g.H.Host.input_faults l.initial.host)
     × (g.H.Host.output_faults l.host ≡ g.H.Host.output_faults l.initial.host)
