@@ -7,8 +7,6 @@ mod places;
 mod positions;
 mod statements;
 mod telling;
-#[cfg(test)]
-mod tests;
 mod tokens;
 
 pub use places::place;

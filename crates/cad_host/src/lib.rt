@@ -22,6 +22,3 @@ pub use laws::{
 };
 pub use memory::MemHost;
 pub use sure::SureHost;
-
-#[cfg(test)]
-mod tests;

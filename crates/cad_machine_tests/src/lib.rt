@@ -1,7 +1,15 @@
-//! Tests of the machine: scripts beside a contract as texts, and what running them comes to.
+//! Tests of the machine: scripts and transactions beside a contract as texts, and what running them comes to.
 #![tactic(auto)]
 
 #[cfg(test)]
+mod accounts;
+#[cfg(test)]
+mod capabilities;
+#[cfg(test)]
+mod rows;
+#[cfg(test)]
 mod running;
+#[cfg(test)]
+mod session;
 #[cfg(test)]
 mod tests;

@@ -1,11 +1,10 @@
 // What running a script beside a contract comes to.
-use cad_calls::FrontEnd;
 use cad_check::check_text;
 use cad_declarations::{Checked, Deployed, Installed};
-use cad_discards::{discard_checked, discard_deployed, discard_installed};
+use cad_discards::{discard_checked, discard_deployed, discard_installed, hold};
 use cad_outcomes::Stop;
 use cad_rows::{Place, Shape, Tree, add_last};
-use cad_scripts::{begin, run_script};
+use cad_scripts::{FrontEnd, begin, run_script};
 use cad_state::{Contract, RunState, discard_contract, discard_state};
 use cad_syntax::{Address, Bytes, Name, Names, Num, Numbers, Text, TypeId};
 use cad_tables::{no_contracts, with_contract};
@@ -16,15 +15,25 @@ use std::process::Abort;
 use std::rc::Rc;
 
 /// The account of the contract.
-const PLACE: Address = Address(1);
+pub(crate) const PLACE: Address = Address(1);
 
 /// A front end by which no contract is added.
-struct Closed;
+pub(crate) struct Closed;
 
 impl FrontEnd for Closed {
     ghost use Rattle.std.specs.Prelude.{None};
 
     ghost front = { λ it contracts address code. None };
+
+    fn accept(
+        &self,
+        alloc: Global,
+        contracts: &[Contract],
+        address: Address,
+        code: &[u8],
+    ) -> Result<Option<Checked>, AllocError> {
+        Ok(None)
+    }
 }
 
 /// What a run comes to: the number that the script gives, and what its state lists.
@@ -49,7 +58,7 @@ fn shared(alloc: Global, checked: Checked) -> Result<Rc<Checked>, AllocError> {
 }
 
 /// The program that a text is. A text that is refused fails the test.
-fn checked(
+pub(crate) fn checked(
     rt: &impl Abort,
     alloc: Global,
     code: &str,
@@ -94,10 +103,10 @@ fn contract_value(rt: &impl Abort, alloc: Global) -> Vec<Place> {
 }
 
 /// The contract as a run has it.
-fn running(rt: &impl Abort, alloc: Global, checked: &Rc<Checked>) -> Vec<Contract> {
+pub(crate) fn running(rt: &impl Abort, alloc: Global, checked: &Rc<Checked>) -> Vec<Contract> {
     let id = contract_id(alloc).expect(rt, "memory");
     let code = Rc::new(alloc, Bytes::new(alloc)).expect(rt, "memory");
-    let own = checked.clone().expect(rt, "memory");
+    let own = hold(checked).expect(rt, "memory");
     let mut contracts = Vec::new(alloc);
     match contracts.push(Contract {
         id,
@@ -113,7 +122,12 @@ fn running(rt: &impl Abort, alloc: Global, checked: &Rc<Checked>) -> Vec<Contrac
 }
 
 /// The contract as a check has it.
-fn deployed(rt: &impl Abort, alloc: Global, none: &Deployed, checked: Rc<Checked>) -> Deployed {
+pub(crate) fn deployed(
+    rt: &impl Abort,
+    alloc: Global,
+    none: &Deployed,
+    checked: Rc<Checked>,
+) -> Deployed {
     let name = contract_name(alloc).expect(rt, "memory");
     let code = Rc::new(alloc, Bytes::new(alloc)).expect(rt, "memory");
     let installed = Installed {
@@ -128,7 +142,7 @@ fn deployed(rt: &impl Abort, alloc: Global, none: &Deployed, checked: Rc<Checked
 }
 
 /// The number that a value is.
-fn number_of(value: &Value) -> Option<Num> {
+pub(crate) fn number_of(value: &Value) -> Option<Num> {
     match value {
         Value::Number(number) => Some(*number),
         _ => None,
@@ -136,7 +150,7 @@ fn number_of(value: &Value) -> Option<Num> {
 }
 
 /// The number in the first field of an event.
-fn number_in(event: &Value) -> Option<Num> {
+pub(crate) fn number_in(event: &Value) -> Option<Num> {
     match event {
         Value::Composite { fields, .. } => match fields.as_slice().first() {
             Some(field) => number_of(&field.value),
@@ -187,7 +201,7 @@ pub(crate) fn ran(
     discard_deployed(none);
     let program = checked(rt, alloc, script, None, &beside);
     discard_deployed(beside);
-    let mut state = begin(alloc, program, contracts, 1, units);
+    let mut state = begin(alloc, program, None, contracts, 1, units);
     let fuel = units.saturating_mul(2).saturating_add(2);
     let given = run_script(fuel, &Closed, Vec::new(alloc), &mut state);
     told(rt, alloc, given, state)

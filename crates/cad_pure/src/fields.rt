@@ -27,7 +27,7 @@ pub fn rules_in(alloc: Global, tables: &Tables, id: &TypeId) -> Result<Vec<Field
 }
 
 /// The rules of the fields among members.
-pub(crate) fn field_rules(
+fn field_rules(
     alloc: Global,
     tables: &Tables,
     members: &[Member],

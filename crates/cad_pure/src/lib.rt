@@ -8,8 +8,6 @@ mod places;
 mod statements;
 mod tables;
 mod terms;
-#[cfg(test)]
-mod tests;
 
 pub use bodies::{impurity, is_pure_event};
 pub use fields::{lacks_initializer, rules_in};

@@ -8,8 +8,6 @@ mod kind;
 pub mod laws;
 mod names;
 mod num;
-#[cfg(test)]
-mod tests;
 mod text;
 mod type_id;
 mod types;

@@ -5,8 +5,6 @@ mod error;
 mod hexadecimal;
 mod normal;
 mod parts;
-#[cfg(test)]
-mod tests;
 
 pub use error::TextError;
 pub use hexadecimal::{decode_hex, encode_hex};

@@ -14,6 +14,3 @@ pub use error::DecodeError;
 pub use laws::{body_both_ways, fields_again, fields_found};
 pub use reader::{Reader, Short};
 pub use writer::Writer;
-
-#[cfg(test)]
-mod tests;

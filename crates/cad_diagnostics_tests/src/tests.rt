@@ -1,6 +1,6 @@
 // Tests of what people are told.
-use crate::diagnostic;
 use cad_declarations::Rejected;
+use cad_diagnostics::diagnostic;
 use cad_grammar::Phase;
 use cad_syntax::{Name, Names, Text};
 use std::alloc::{AllocError, Global};

@@ -1,12 +1,8 @@
 // Worked examples.
-use crate::address::{Address, Domain, Path};
-use crate::items::{Items, Names};
-use crate::kind::Kind;
-use crate::names::is_name;
-use crate::num::Num;
-use crate::text::{Name, Text};
-use crate::type_id::{TypeId, TypeIds};
-use crate::types::{Authorization, Basic, CadType};
+use cad_syntax::{
+    Address, Authorization, Basic, CadType, Domain, Items, Kind, Name, Names, Num, Path, Text,
+    TypeId, TypeIds, is_name,
+};
 use std::alloc::{AllocError, Global};
 use std::test::Fail;
 

@@ -1,5 +1,5 @@
 // Calls that fail, tapes in memory and as files, and what crashes leave.
-use crate::{Failed, FileHost, Host, MemHost, SureHost, Tape};
+use cad_host::{Failed, FileHost, Host, MemHost, SureHost, Tape};
 use std::fs;
 use std::test::Fail;
 

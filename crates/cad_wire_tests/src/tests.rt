@@ -1,6 +1,6 @@
 // Fields and a record's body as bytes and back, and bytes that are none.
-use super::*;
 use cad_syntax::{Bytes, Items};
+use cad_wire::*;
 use std::alloc::{AllocError, Global};
 use std::test::*;
 

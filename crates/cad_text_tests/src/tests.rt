@@ -1,5 +1,5 @@
 // Worked examples. The lengths are those of Unicode's examples of segmentation, the forms those of Python's unicodedata.
-use super::*;
+use cad_text::*;
 use std::cmp::Ordering;
 use std::test::Fail;
 

@@ -1,0 +1,5 @@
+//! Tests of what diagnostics say.
+#![tactic(auto)]
+
+#[cfg(test)]
+mod tests;

@@ -1,0 +1,138 @@
+// Rows of tests over accounts: transactions beside a contract, and what they come to.
+use crate::session::{asked, transacted};
+use cad_outcomes::{RunError, Stop};
+use cad_syntax::{Kind, Num};
+use std::alloc::Global;
+use std::process::Abort;
+
+/// The units of a command, where a test says nothing else.
+const UNITS: u64 = 9999;
+
+/// The contract of account 1.
+const CONTRACT: &str = "access(all) contract C {
+    access(all) entitlement E
+    access(all) entitlement F
+    access(all) event Told(n: Int)
+    access(all) struct S {
+        access(all) var n: Int
+        init(n: Int) { self.n = n }
+        access(all) fun set(n: Int) { self.n = n }
+    }
+    access(all) resource R {
+        access(all) var n: Int
+        init(n: Int) { self.n = n }
+        access(all) fun set(n: Int) { self.n = n }
+        access(E) fun entitled(): Int { return self.n + 1 }
+        access(all) fun place(): Address? { return self.owner?.address }
+    }
+    access(all) resource Outer {
+        access(all) let n: Int
+        access(all) var inner: @R
+        access(all) var all: @[R]
+        init(n: Int) { self.n = n
+            self.inner <- create R(n: n + 1)
+            self.all <- [<-create R(n: n + 2)] }
+    }
+    access(all) fun make(n: Int): @R { return <-create R(n: n) }
+    access(all) fun outer(n: Int): @Outer { return <-create Outer(n: n) }
+    access(all) fun tell(n: Int) { emit Told(n: n) }
+    access(all) fun say(b: Bool) { emit Told(n: b ? 1 : 0) }
+    access(all) fun keep(n: Int) { self.account.storage.save(n, to: /storage/kept) }
+    access(all) fun replace(a: auth(Storage) &Account): Int { let x = a.storage.load<[Int]>(from: /storage/e)!
+        a.storage.save([9], to: /storage/e)
+        return 7 }
+    access(all) fun take(a: auth(Storage) &Account): Int { let x = a.storage.load<[Int]>(from: /storage/e)!
+        return 7 }
+}";
+
+/// What a command is to come to: its numbers, or its error.
+pub(crate) type Wanted<'a> = Result<&'a [u64], RunError>;
+
+/// A number of the kind Int.
+fn int(rt: &impl Abort, value: u64) -> Num {
+    Num::new(Kind::Int, false, value as u128).expect(rt, "in range")
+}
+
+/// A transaction of accounts 1 and 2 whose `prepare` has these statements.
+fn code(rt: &impl Abort, alloc: Global, statements: &str) -> String {
+    format!(in alloc;
+        "import C from 0x1
+        transaction {{ prepare(a: auth(Storage, Capabilities) &Account, b: auth(Storage, Capabilities) &Account) {{ {statements} }} }}"
+    )
+    .expect(rt, "memory")
+}
+
+/// Asserts what transactions with these statements, one behind the other, come to: the numbers that the last one tells, or the
+/// error of one of them.
+pub(crate) fn ends(
+    rt: &impl Abort,
+    alloc: Global,
+    statements: &[&str],
+    units: u64,
+    wanted: Result<&[u64], Stop>,
+) {
+    let mut texts: Vec<String> = Vec::new(alloc);
+    for one in statements {
+        texts.push(code(rt, alloc, one)).expect(rt, "memory");
+    }
+    let mut codes: Vec<&str> = Vec::new(alloc);
+    for text in texts.as_slice() {
+        codes.push(text.as_str()).expect(rt, "memory");
+    }
+    let last = match statements.last() {
+        Some(one) => *one,
+        None => "",
+    };
+    match transacted(rt, alloc, CONTRACT, codes.as_slice(), units) {
+        Ok(told) => {
+            assert_eq!(rt; wanted.is_ok(), true, "{last}");
+            let numbers = wanted.unwrap_or(&[]);
+            assert_eq!(rt; told.len(), numbers.len(), "{last}");
+            for (number, one) in told.as_slice().iter().zip(numbers) {
+                assert_eq!(rt; *number, Some(int(rt, *one)), "{last}");
+            }
+        }
+        Err(stop) => assert_eq!(rt; wanted.err(), Some(stop), "{last}"),
+    }
+}
+
+/// Asserts what each row's transaction comes to.
+pub(crate) fn hold(rt: &impl Abort, alloc: Global, rows: &[(&str, Wanted<'_>)]) {
+    for (statements, wanted) in rows {
+        let stopped = match *wanted {
+            Ok(numbers) => Ok(numbers),
+            Err(error) => Err(Stop::Failed(error)),
+        };
+        ends(rt, alloc, &[*statements], UNITS, stopped);
+    }
+}
+
+/// Asserts what the second of each row's transactions comes to.
+pub(crate) fn follow(rt: &impl Abort, alloc: Global, rows: &[(&str, &str, Wanted<'_>)]) {
+    for (first, second, wanted) in rows {
+        let stopped = match *wanted {
+            Ok(numbers) => Ok(numbers),
+            Err(error) => Err(Stop::Failed(error)),
+        };
+        ends(rt, alloc, &[*first, *second], UNITS, stopped);
+    }
+}
+
+/// Asserts the number that a script with these statements gives behind a transaction.
+pub(crate) fn reads(rt: &impl Abort, alloc: Global, rows: &[(&str, &str, u64)]) {
+    for (first, statements, wanted) in rows {
+        let before = code(rt, alloc, first);
+        let script = format!(in alloc;
+            "import C from 0x1\naccess(all) fun main(): Int {{ {statements} }}"
+        ).expect(rt, "memory");
+        let given = asked(
+            rt,
+            alloc,
+            CONTRACT,
+            &[before.as_str()],
+            script.as_str(),
+            UNITS,
+        );
+        assert_eq!(rt; given, Ok(Some(int(rt, *wanted))), "{statements}");
+    }
+}
