@@ -45,7 +45,7 @@ def spec_key(path, name):
 
 def imports(module, text):
     """Takes the imports of definitions."""
-    for line in re.findall(r"^\s*(?:ghost )?use (Rattle\.[^;\n]*(?:\{[^}]*\})?)", text, re.M):
+    for line in re.findall(r"^\s*(?:ghost |pub )?use (Rattle\.[^;\n]*(?:\{[^}]*\})?)", text, re.M):
         listed = re.match(r"(\S+)\.\{([^}]*)\}", line)
         renamed = re.match(r"(\S+) as (\S+?);?$", line)
         if listed:
@@ -81,7 +81,7 @@ def read_specs(crate, path, name):
     for line in text.split("\n"):
         found = head.match(line)
         starts = found and re.match(r"\s*(?:mutual\s+)?(?:pub )?(?:unfoldable|abbrev|data|record)\b|pub \S+ :", line)
-        if not line.strip() or line.startswith("use ") or line.startswith("pub mod "):
+        if not line.strip() or line.startswith(("use ", "pub use ", "pub mod ")):
             continue
         if starts:
             key = (crate, name, found[2])
@@ -198,9 +198,14 @@ class Reader:
                 key = target.names.get(tail) or target.names.get(tail.split(".")[0])
         if key and key[0] == "rt":
             return next((k for (c, n), m in self.modules.items() if c == key[1] and n.startswith("src/") for k in m.texts if k[2] == key[2]), None)
-        if key and (key[0], key[1]) in self.modules:
-            target = self.modules[key[0], key[1]]
-            return key if key in target.texts else target.names.get(key[2])
+        # a definition that another crate passes on stands where that one names it
+        passed = set()
+        while key and key[:2] in self.modules and key not in passed:
+            target = self.modules[key[:2]]
+            if key in target.texts:
+                return key
+            passed.add(key)
+            key = target.names.get(key[2])
         return None
 
     def rests_on(self, module, text, seen):

@@ -39,6 +39,9 @@ MOVE = model.line_of(("save", 1, "x", [[2], [1]], "y"))
 FIRST = b'{"address":"0x0000000000000001","reply":"ok"}\n'
 
 
+LIMIT = b'{"reply":"limit"}\n'
+
+
 class Tries:
     """Runs the program on folders of their own."""
 
@@ -52,15 +55,16 @@ class Tries:
         return folder
 
     def run(self, what, lines, status, replies, folder=None, **more):
-        """One run: this status, and these replies where they are told."""
+        """One run: this status, or one of these, and these replies where they are told."""
         self.count += 1
         folder = folder or self.folder()
         try:
             done = model.run(self.program, folder, lines, **more)
         except subprocess.TimeoutExpired:
             raise Wrong(f"{what}: the program hangs") from None
-        hold(done.returncode == STATUSES[status], f"{what}: the status is", done.returncode, done.stderr[:200])
-        hold((done.stderr == b"") == (status == "done"), f"{what}: standard error has", done.stderr[:200])
+        ends = [STATUSES[one] for one in ((status,) if isinstance(status, str) else status)]
+        hold(done.returncode in ends, f"{what}: the status is", done.returncode, done.stderr[:200])
+        hold((done.stderr == b"") == (done.returncode == STATUSES["done"]), f"{what}: standard error has", done.stderr[:200])
         hold(replies is None or done.stdout == replies, f"{what}: the replies are", done.stdout[:400])
         return done
 
@@ -154,9 +158,8 @@ def long_lines(tries):
     for many, reply in ((120, result), (150_000, lambda value: rejected("parse", 0))):
         tries.run(f"a sum of {many} terms", model.line_of(("script", [[1]] * many)), "done", reply(many))
         tries.run(f"a product of {many} factors", model.line_of(("script", [[1] * many])), "done", reply(1))
-    many = 150_000
-    folder, saved = tries.folder(), model.line_of(("save", 1, None, [[1]] * many, "x"))
-    tries.run("a saved sum of many terms", ACCOUNT + saved, "done", FIRST + model.DONE, folder)
+        saved = model.line_of(("save", 1, None, [[1]] * many, "x"))
+        tries.run(f"a saved sum of {many} terms", ACCOUNT + saved, "done", FIRST + (model.DONE if many == 120 else reply(many)))
     digits = model.line_of(("script", [[1]])).replace(b" 1 ", b" " + b"0" * 500_000 + b"9 ")
     tries.run("a literal of many digits", digits, "done", result(9))
 
@@ -273,7 +276,7 @@ def equal_fields(tries):
     for order in (("code", "kind", "signers"), ("signers", "code", "kind"), ("kind", "code", "signers"), ("code", "signers", "kind")):
         line = json.dumps({name: fields[name] for name in order}).encode() + b"\n"
         tries.run(f"the order {order}", ACCOUNT + line, "done", FIRST + model.DONE)
-    for more, reply in ((b'"limit": 9999', model.DONE), (b'"arguments": []', model.DONE), (b'"limit": 9998', bad(29)), (b'"arguments": [1]', bad(29))):
+    for more, reply in ((b'"limit": 9999', model.DONE), (b'"arguments": []', model.DONE), (b'"limit": 9998', model.DONE), (b'"limit": 1', LIMIT), (b'"arguments": [1]', bad(25))):
         tries.run(f"a save with {more}", ACCOUNT + SAVE.replace(b'{"kind"', b"{" + more + b', "kind"'), "done", FIRST + reply, preexec_fn=model.usual_stack)
 
 
@@ -283,7 +286,7 @@ def odd_signers(tries):
         '["0x0"]': bad(26), '["0x2"]': bad(26), '["0xFfFFffffFFFFffff"]': bad(26), '["0xabcdef"]': bad(26),
         '["0x00000000000000001"]': bad(22), '["0x"]': bad(22), '["0X1"]': bad(22), '["1"]': bad(22), '[""]': bad(22),
         '["0x1 "]': bad(22), '[" 0x1"]': bad(22), '["0xg"]': bad(22), '["0x-1"]': bad(22), '["0x1_0"]': bad(22),
-        '["0x\u0661"]': bad(22), '["0x1\\u0000"]': bad(22), '["0x1","0x1"]': bad(29), "[]": bad(29), '"0x1"': bad(22),
+        '["0x\u0661"]': bad(22), '["0x1\\u0000"]': bad(22), '["0x1","0x1"]': bad(26), "[]": bad(26), '"0x1"': bad(22),
         "[1]": bad(22), "[null]": bad(22), '[["0x1"]]': bad(22), "null": bad(22), "{}": bad(22),
     }.items():  # fmt: skip
         line = SAVE.replace(b'["0x1"]', signers.encode())
@@ -386,7 +389,7 @@ RUNS = (
     (f"{HEAD}while true {{}} }}", {}, b'{"reply":"limit"}\n'),
     (f"{HEAD}main() }}", {"limit": 100}, b'{"reply":"limit"}\n'),
     (f"{HEAD}main() }}", {}, model.failed(124)),
-    ("access(all) fun main(): Address { return getAccount(0x1).address }", {}, bad(29)),
+    ("access(all) fun main(): Address { return getAccount(0x1).address }", {}, b'{"reply":"ok","result":{"type":"Address","value":"0x0000000000000001"}}\n'),
     ("access(all) fun main(): AnyStruct { return Type<Int>() }", {}, model.failed(134)),
 )
 
@@ -641,17 +644,22 @@ def two_runs(tries):
 
 
 def store_run(tries, what, tape, pick=b"\1", other=None):
-    """A run on these tapes: refused exactly where they stand for no accounts, and they are then as they were."""
+    """A run on these tapes: refused exactly where they stand for no accounts, and they are then as they were. Of registers that the
+    model can't judge it is asked alone that they are refused or opened so."""
     folder = tries.folder()
     for name, data in (("a", tape), ("b", other), ("pick", pick)):
         if data is not None:
             (folder / name).write_bytes(data)
     try:
         accounts = model.accounts_in(folder)
-    except model.Damaged:
-        tries.run(what, ACCOUNT, "store", b"", folder)
-        hold((folder / "a").read_bytes() == tape and (folder / "pick").read_bytes() == pick, f"{what}: the tapes were changed")
-        return True
+    except model.Damaged as damage:
+        can_open = isinstance(damage, model.Unjudged)
+        done = tries.run(what, SCRIPT if can_open else ACCOUNT, ("done", "store") if can_open else "store", None, folder)
+        is_refused = done.returncode == STATUSES["store"]
+        hold(done.stdout == (b"" if is_refused else result(7)), f"{what}: the replies are", done.stdout[:400])
+        if is_refused:
+            hold((folder / "a").read_bytes() == tape and (folder / "pick").read_bytes() == pick, f"{what}: the tapes were changed")
+        return is_refused
     commands = [command for command in model.questions(accounts) if command[1] < 2**64]
     replies = model.replies_to(commands, accounts)[0]
     tries.run(what, b"".join(map(model.line_of, commands)), "done", b"".join(replies), folder)

@@ -150,6 +150,10 @@ class Damaged(Exception):
     """Bytes that no records or no accounts have."""
 
 
+class Unjudged(Damaged):
+    """Registers of kinds that this model doesn't know: values of other types, publications, controllers and contracts."""
+
+
 class Bytes:
     """Bytes that are read from their front."""
 
@@ -217,9 +221,11 @@ def registers_in(folder):
 
 
 def int_of(data):
+    if data[:2] != b"\4\0":
+        raise Unjudged
     bytes_ = Bytes(data)
     kind, sign, magnitude = bytes_.take(2), bytes_.number(1), bytes_.number(16)
-    if bytes_.at != len(data) or kind != b"\4\0" or sign > 1 or magnitude > GREATEST + sign or sign and not magnitude:
+    if bytes_.at != len(data) or sign > 1 or magnitude > GREATEST + sign or sign and not magnitude:
         raise Damaged
     return -magnitude if sign else magnitude
 
@@ -229,13 +235,15 @@ def accounts_in(folder):
     registers = registers_in(folder)
     head = registers.pop(b"\0", None)
     count = 0 if head is None else int.from_bytes(head[:8], "big")
-    if head is not None and (head[8:] != number_field(1) or not 1 <= count <= MOST_ACCOUNTS):
+    if head is not None and (len(head) != 16 or not 1 <= int.from_bytes(head[8:], "big") < 2**64 or not 1 <= count <= MOST_ACCOUNTS):
         raise Damaged
     for address in range(1, count + 1):
         controller = registers.pop(b"\1" + number_field(address), b"")
         if len(controller) != 8 or not any(controller):
             raise Damaged
     stored = {}
+    if any(key[:1] in (b"\2", b"\3", b"\5", b"\6") for key in registers):
+        raise Unjudged
     for key, value in registers.items():
         address = int.from_bytes(key[1:9], "big")
         if key[:1] != b"\4" or len(key) < 9 or not 1 <= address <= count:
