@@ -11,6 +11,8 @@ programs. Each call of each session fails in a run of its own. Then
   where the output failed, the command is there whose reply broke;
 - the next run on the folder finds them.
 
+A third session adds contracts (examples/factory): each allocation fails, and a next run gives the replies that are left.
+
 In other runs all calls from one on fail; reads and writes move one byte of several; and signals cut them short.
 Where there is no `cc` it says so and ends with status 0.
 
@@ -321,6 +323,28 @@ def in_pieces(tries, name, session, before):
         is_whole(f"{name} by single bytes from call {number} on", session, ran, folder)
 
 
+class Example:
+    """The lines of a session of examples/, and the reply to each."""
+
+    def __init__(self, name):
+        folder = pathlib.Path(__file__).resolve().parent.parent / "examples" / name
+        self.lines, self.replies = ((folder / file).read_bytes().splitlines(True) for file in ("session.jsonl", "replies.jsonl"))
+
+
+def additions(tries, empty):
+    """Contracts are added, and an allocation fails: each command is there that was replied to, and nothing of the next one."""
+    session = Example("factory")
+    ran, folder = tries.run(session, empty)
+    hold((ran.status, ran.out) == (0, b"".join(session.replies)), "added contracts:", ran.status, ran.out)
+    for number in tries.numbers(ran.counts[0], 120):
+        ran, folder = tries.run(session, empty, ALLOCATIONS, number)
+        about, told = f"added contracts, allocation {number}:", ran.out.count(b"\n")
+        hold(ran.status == 6 and ran.out == b"".join(session.replies[:told]), about, ran.status, ran.out)
+        done = model.run(tries.program, folder, b"".join(session.lines[told:]))
+        hold((done.returncode, done.stdout) == (0, b"".join(session.replies[told:])), about, "the next run gives", done.stdout)
+    tries.told.append(f"a session that adds contracts {ran.counts[0]} allocations")
+
+
 def all_runs(tries):
     empty = tries.base / "empty"
     empty.mkdir()
@@ -330,6 +354,7 @@ def all_runs(tries):
     each_fails(tries, "the second session", second, filled)
     in_pieces(tries, "the first session", Session(model.Accounts(), FIRST, PROGRAMS[:-1]), empty)
     in_pieces(tries, "the second session", second, filled)
+    additions(tries, empty)
 
 
 def main():

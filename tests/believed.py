@@ -15,7 +15,7 @@ import re
 import sys
 
 CRATES = pathlib.Path(__file__).resolve().parent.parent / "crates"
-ENTRY = ("cadence", "serve", "serve")
+ENTRY = ("cad_serve", "serving", "serve")
 FOR_ABOVE = "// For the crates above alone"
 TOKEN = re.compile(r"[^\s(){}\[\],;<>&|:]+|[<>&|:=]+")
 # ghost members that say what is always true of a type

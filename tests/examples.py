@@ -3,10 +3,14 @@
 
 In each folder of examples/ the session `session.jsonl`, and then `session-2.jsonl` and so on, are given to the program one
 after another on one new folder of accounts; what is put must be `replies.jsonl`, `replies-2.jsonl`, .. byte for byte, and each
-run must end with status 0. Each line of JSON in README.md must stand in one of these files, so that the tour is one of them.
+run must end with status 0.
+
+What pages show is what the sessions have: each line of JSON of a page must stand in one of these files, and each program in
+the code of a line of them, up to white space and `;`. A file NAME.cdc is the code of each deploy of NAME, and of one at least.
 
     tests/examples.py PROGRAM
 """
+import json
 import pathlib
 import re
 import subprocess
@@ -14,6 +18,7 @@ import sys
 import tempfile
 
 TOP = pathlib.Path(__file__).resolve().parent.parent
+PAGES = ["README.md", "docs/TOUR.md", "docs/WALLETS.md", "docs/INDEXERS.md"]
 
 
 def sessions(folder):
@@ -40,11 +45,46 @@ def differences(program, folder):
     return wrong
 
 
-def tour(folders):
-    """The lines of JSON of README.md that stand in no example."""
+def requests(folders):
+    """The lines of all sessions that are JSON objects."""
+    lines = [line for folder in folders for session, _ in sessions(folder) for line in session.read_text().splitlines()]
+    return [json.loads(line) for line in lines if line.startswith('{"kind":')]
+
+
+def contracts(folders, asked):
+    """The files of contracts that are deployed nowhere, or with another text."""
+    wrong = []
+    for file in (file for folder in folders for file in folder.glob("*.cdc")):
+        codes = [line["code"] for line in asked if line["kind"] == "deploy" and line.get("name") == file.stem]
+        if not codes or any(code != file.read_text() for code in codes):
+            wrong.append(f"{file.relative_to(TOP)} isn't what is deployed")
+    return wrong
+
+
+def laid_out(code):
+    """A code without what may differ between a page and a line."""
+    return re.sub(r"[\s;]+", " ", code).strip()
+
+
+def blocks(page):
+    """The programs and parts of contracts that a page shows: indented lines, the first of which begins one."""
+    text = re.sub(r'^    \{".*$', "-", page.read_text() + "\n", flags=re.M)
+    shown = re.findall(r"(?:^    .*\n(?:[ \t]*\n(?=    ))*)+", text, re.M)
+    return [block for block in shown if re.match(r"    (?:access\(|import |transaction\b)", block)]
+
+
+def shown_elsewhere(pages, folders, asked):
+    """The lines of JSON and the programs of pages that stand in no example."""
     known = {line for folder in folders for pair in sessions(folder) for file in pair for line in file.read_text().splitlines()}
-    shown = re.findall(r"^    (?:\$ echo ')?(\{.*\})(?:' \|.*)?$", (TOP / "README.md").read_text(), re.M)
-    return [f"README.md: {line} stands in no example" for line in shown if line not in known]
+    codes = [laid_out(line["code"]) for line in asked if "code" in line]
+    wrong = []
+    for page in pages:
+        lines = re.findall(r"^    (?:\$ echo ')?(\{\".*\})(?:' \|.*)?$", page.read_text(), re.M)
+        wrong += [f"{page.relative_to(TOP)}: {line} stands in no example" for line in lines if line not in known]
+        for block in blocks(page):
+            if not any(laid_out(block) in code for code in codes):
+                wrong.append(f"{page.relative_to(TOP)}: this stands in no example:\n{block}")
+    return wrong
 
 
 def main():
@@ -52,7 +92,9 @@ def main():
         sys.exit(__doc__)
     program = str(pathlib.Path(sys.argv[1]).resolve())
     folders = sorted(folder for folder in (TOP / "examples").iterdir() if folder.is_dir())
-    wrong = tour(folders)
+    pages = [TOP / page for page in PAGES if (TOP / page).exists()] + sorted((TOP / "examples").glob("**/README.md"))
+    asked = requests(folders)
+    wrong = contracts(folders, asked) + shown_elsewhere(pages, folders, asked)
     for folder in folders:
         wrong += differences(program, folder)
     for line in wrong:

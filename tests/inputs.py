@@ -78,7 +78,7 @@ def is_read(reply):
     told = json.loads(reply)
     if told["reply"] == "rejected":
         return told["phase"] not in ("lex", "parse")
-    return told["reply"] != "bad" or reply in (bad(25), bad(26), bad(29))
+    return told["reply"] != "bad" or reply in (bad(25), bad(26))
 
 
 def is_command(line):
@@ -352,7 +352,7 @@ REFUSED_CONTRACTS = (
 
 
 def refused_code(tries):
-    """Code that breaks a rule: the first phase that refuses it, and where. A contract that is accepted is bad 29."""
+    """Code that breaks a rule: the first phase that refuses it, and where. A contract that is accepted is deployed."""
     for code, phase, at, inside in REFUSED:
         tries.run(f"the code {code!r}", code_line(code) + SCRIPT, "done", rejected(phase, at, inside) + result(7))
     for body, phase, at, inside in REFUSED_CONTRACTS:
@@ -361,8 +361,9 @@ def refused_code(tries):
         tries.run(f"the contract {body!r}", ACCOUNT + deploy_line(code) + deploy_line(code, "0x2"), "done", told)
     accepted = BAG[0] + "let r <- self.make(); destroy r" + BAG[1]
     folder, lines = tries.folder(), deploy_line(accepted.join(CONTRACT))
-    tries.run("a contract that nothing refuses", ACCOUNT + lines + lines, "done", FIRST + bad(29) * 2, folder)
-    hold(model.accounts_in(folder) == model.Accounts(1), "a contract that nothing refuses changes the accounts")
+    tries.run("a contract that nothing refuses", ACCOUNT + lines + lines, "done", FIRST + model.DONE + model.failed(118), folder)
+    used = "import C from 0x1 access(all) fun main(): Int { let r <- C.make(); destroy r; return 7 }"
+    tries.run("a contract that is there", code_line(used), "done", result(7), folder)
     for more in ({"name": 1}, {"address": "1"}, {"arguments": {}}, {"limit": -1}):
         tries.run(f"a deploy with {more}", ACCOUNT + deploy_line("fun", **{"address": "0x1", **more}), "done", FIRST + bad(22))
 
@@ -406,10 +407,10 @@ def scripts(tries):
 def nested_code(tries):
     """Code that no phase refuses, as deep as it may nest, and once deeper: the walks of all phases have enough stack."""
     for name in nesting.RIGHT:
-        lines = deploy_line(nesting.right_code(name)) + deploy_line(nesting.right_code(name, 1))
+        lines = deploy_line(nesting.right_code(name, 1)) + deploy_line(nesting.right_code(name))
         refused = rejected("resolve" if name in nesting.HIGH else "parse", 0)
-        tries.run(f"{name} in a contract", ACCOUNT + lines, "done", FIRST + bad(29) + refused, preexec_fn=model.usual_stack)
-    for brackets, signs, reply in ((2, 120, bad(29)), (3, 120, rejected("resolve", 0)), (60, 60, rejected("resolve", 0))):
+        tries.run(f"{name} in a contract", ACCOUNT + lines, "done", FIRST + refused + model.DONE, preexec_fn=model.usual_stack)
+    for brackets, signs, reply in ((2, 120, model.DONE), (3, 120, rejected("resolve", 0)), (60, 60, rejected("resolve", 0))):
         lines = deploy_line(nesting.high_code(brackets, signs))
         tries.run(f"{brackets} sums of {signs} in each other", ACCOUNT + lines, "done", FIRST + reply)
 

@@ -378,7 +378,7 @@ LATER = ("resolve", "types", "conformance", "moves", "purity", "initialisation")
 
 def answer_of(reply):
     told = json.loads(reply)
-    if told["reply"] in ("ok", "failed", "limit") or told["reply"] == "bad" and told["error"] in ("25", "26", "29"):
+    if told["reply"] in ("ok", "failed", "limit") or told["reply"] == "bad" and told["error"] in ("25", "26"):
         return None
     if told["reply"] != "rejected":
         return reply

@@ -5,7 +5,7 @@ ghost use Rattle.cad_grammar.specs.Trees as tree;
 ghost use Rattle.cad_grammar.specs.Views.{composite_member_of, composite_of, contract_member_of, contract_of, decl_of, event_of, function_of as tree_of, init_of, interface_member_of, interface_of, program_of, transaction_of as transaction_tree};
 ghost use Rattle.cad_declarations.specs.Views.{block_of, destroyed_of, function_of, tables_of, transaction_of};
 ghost use Rattle.cad_environment.specs.Views.{scopes_of};
-ghost use Rattle.cad_statements.specs.Views.{conditions_in, judged};
+ghost use Rattle.cad_transactions.specs.Passed.{conditions_in, judged};
 ghost use Rattle.cad_typing.specs.Functions.{type_top_function as top_typing, initializer_routine as initializer_tree};
 ghost use Rattle.cad_typing.specs.Pieces as spec;
 ghost use Rattle.cad_pieces.specs.Views.{piece_of, piece_body_of, pieces_of, result_of};
@@ -28,7 +28,7 @@ use cad_heads::{
 };
 use cad_paths::FieldRule;
 use cad_pieces::{Piece, PieceBody, discard_piece, discard_piece_body, discard_pieces};
-use cad_routines::{destroyed_event, type_function, type_initializer, type_top_function};
+use cad_transactions::{destroyed_event, type_function, type_initializer, type_top_function};
 use cad_scopes::inside;
 use cad_syntax::{Names, TypeId};
 use cad_transactions::{

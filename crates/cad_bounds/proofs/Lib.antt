@@ -10,6 +10,7 @@ pub mod Changing
 pub mod Containers
 pub mod Ending
 pub mod Evaluation
+pub mod Extended
 pub mod Flows
 pub mod Locations
 pub mod Making

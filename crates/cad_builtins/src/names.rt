@@ -114,10 +114,7 @@ pub(crate) const STORAGE_MEMBERS: [(&str, Builtin); 6] = [
     ("type", Builtin::StorageType),
 ];
 
-pub(crate) const CONTRACTS_MEMBERS: [(&str, Builtin); 2] = [
-    ("add", Builtin::ContractsAdd),
-    ("update", Builtin::ContractsUpdate),
-];
+pub(crate) const CONTRACTS_MEMBERS: [(&str, Builtin); 1] = [("add", Builtin::ContractsAdd)];
 
 pub(crate) const CAPABILITIES_MEMBERS: [(&str, Builtin); 6] = [
     ("get", Builtin::CapabilitiesGet),

@@ -152,7 +152,7 @@ storage_members =
     ∷ member_named (codes "check") m.StorageCheck ∷ member_named (codes "type") m.StorageType ∷ []
 
 abbrev pub contracts_members : List MemberName
-contracts_members = member_named (codes "add") m.ContractsAdd ∷ member_named (codes "update") m.ContractsUpdate ∷ []
+contracts_members = member_named (codes "add") m.ContractsAdd ∷ []
 
 abbrev pub capabilities_members : List MemberName
 capabilities_members =

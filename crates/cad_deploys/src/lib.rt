@@ -4,3 +4,6 @@
 mod deploying;
 
 pub use deploying::run_deploy;
+
+// What the crates above use of the ones below.
+pub use cad_installations::{initializer_parameters, is_contract_of, is_taken, new_contract};

@@ -16,6 +16,7 @@ use Rattle.cad_declarations.specs.Tables.{TypeEntry, SignatureType}
 use Rattle.cad_declarations.specs.Typed as e
 use Rattle.cad_declarations.specs.declared.member.MemberAccess.TheVariants as access
 use Rattle.cad_values.specs.Values as v
+use Rattle.cad_world.specs.Fronts as fronts
 use Rattle.cad_world.specs.Begin.{new_account}
 use Rattle.cad_world.specs.Rows.{Tree, alone}
 use Rattle.cad_world.specs.State.{Account, Contract, Program, State, Outcome, ok}
@@ -137,8 +138,8 @@ program_of n =
     else (if n == 3 then Some (d_program (do_it d_n ∷ sets_n ∷ [])) else None))
 
 abbrev pub front : Front
-front contracts address (n ∷ []) = program_of n
-front contracts address code = None
+front contracts address (n ∷ []) = fronts.said (program_of n)
+front contracts address code = fronts.refused
 
 -- `main` over a reference to the account with all rights
 abbrev pub main_body : PureType → List e.StatementTree → e.FunctionBody

@@ -10,6 +10,7 @@ use Rattle.cad_declarations.specs.Tables.{ProgramTables}
 use Rattle.cad_declarations.specs.Typed as e
 use Rattle.cad_values.specs.Values.{PureValue}
 use Rattle.cad_values.specs.Values as v
+use Rattle.cad_world.specs.Fronts as fronts
 use Rattle.cad_world.specs.Rows.{stop, Tree}
 use Rattle.cad_world.specs.State.{State, Account, Program, Contract, Outcome, ok, failed, limit, ill}
 use Rattle.cad_world.specs.Trees.{value_of}
@@ -98,7 +99,7 @@ state accounts contracts program units = record {
 }
 
 abbrev pub no_front : Front
-no_front contracts address code = None
+no_front contracts address code = fronts.refused
 
 -- ---- what is seen
 

@@ -11,11 +11,11 @@ use Rattle.cad_declarations.specs.Tables.{SignatureType, TypeEntry, MemberEntry}
 use Rattle.cad_types.specs.Declarations.{Declaration}
 use Rattle.cad_types.specs.Optionals.{fits}
 use Rattle.cad_world.specs.Declared.{contract_in, types_of, bodies_of}
-use Rattle.cad_world.specs.Fronts.{Front}
+use Rattle.cad_world.specs.Fronts.{Front, judged}
 use Rattle.cad_world.specs.Labels.{value_in}
 use Rattle.cad_world.specs.Rows.{composite, Row, stop, gap, node, Tree, Slot, full, first, back, empty_places, is_full, count_places}
 use Rattle.cad_world.specs.Same.{is_so}
-use Rattle.cad_world.specs.State.{Contract, Program, State, Action, ok, ◌>>=◌, ◌>>◌, give, fail, guard, require, or_fail, with_some}
+use Rattle.cad_world.specs.State.{Contract, Program, State, Action, ok, ◌>>=◌, ◌>>◌, give, fail, guard, require, with_some}
 use Rattle.cad_world.specs.Transfers.{come_to}
 use Rattle.cad_evaluation.specs.Accounts.{there}
 use Rattle.cad_evaluation.specs.Arguments.{argument}
@@ -125,7 +125,7 @@ install_program calls id code r program = λ s.
 abbrev pub add_contract : Front → Calls → TypeId → List ℕ → Row → Action Tree
 add_contract front calls id code r = λ s.
     require 118 (not (is_taken s.contracts id))
-    (or_fail 119 (front (standing s.contracts) id.address code) (install_program calls id code r)) s
+    (judged 119 (front (standing s.contracts) id.address code) (install_program calls id code r)) s
 
 -- the name, the code, and further arguments, which go to the initializer
 abbrev pub add : Front → Calls → Row → Address → Action Tree

@@ -133,7 +133,7 @@ mutual
       let t = and_parts (spec.is_below k v want) (holds k v) r.1 in
       ((tells (type_of_value x) key).0 q.0, holds_so k tells x r.0 a.0.0, (tells (type_of_value v) want).0 t.0, holds_so k tells v t.1 a.0.1, entries_so k tells key want es p.1 a.1)
 
-  fields_so : (k : Shapes) → Tells k → (fs : Fields) (declared : List ShapeField) → fields_fit k declared fs ≡ true → FieldsApart fs → FieldsFit k declared fs
+  pub fields_so : (k : Shapes) → Tells k → (fs : Fields) (declared : List ShapeField) → fields_fit k declared fs ≡ true → FieldsApart fs → FieldsFit k declared fs
   fields_so k tells no_fields [] e a = tt
   fields_so k tells no_fields (f ∷ declared) e a = absurd cc
   fields_so k tells (fields n v fs) [] e a = absurd cc
@@ -189,7 +189,7 @@ mutual
         ((first.1, second.1), rest.1),
       )
 
-  so_fields : (k : Shapes) → Tells k → (fs : Fields) (declared : List ShapeField) → FieldsFit k declared fs → (fields_fit k declared fs ≡ true) × FieldsApart fs
+  pub so_fields : (k : Shapes) → Tells k → (fs : Fields) (declared : List ShapeField) → FieldsFit k declared fs → (fields_fit k declared fs ≡ true) × FieldsApart fs
   so_fields k tells no_fields [] h = (refl, tt)
   so_fields k tells no_fields (f ∷ declared) h = absurd h
   so_fields k tells (fields n v fs) [] h = absurd h

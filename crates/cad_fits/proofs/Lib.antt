@@ -3,3 +3,4 @@ pub mod Below
 pub mod Each
 pub mod Laws
 pub mod Simple
+pub mod Contracts

@@ -1,16 +1,18 @@
 -- Which values are of a type, but for that keys differ, as a test.
 use Rattle.std.specs.Prelude.{ℕ, Bool, true, false, not, ◌&&◌, ◌||◌, ◌==◌, nat_le, nat_lt, List, [], ◌∷◌, length, Option, Some, None}
 use Rattle.std.specs.Str.{is_utf8}
+use Rattle.cad_syntax.specs.TypeIds.{same_id}
 use Rattle.cad_syntax.specs.Types.{PureType}
 use Rattle.cad_syntax.specs.declared.kind.Kind.{Kind}
 use Rattle.cad_syntax.specs.declared.num.Num.{Num}
 use Rattle.cad_syntax.specs.declared.kind.Kind.TheVariants as kind
+use Rattle.cad_syntax.specs.declared.type_id.TypeId.{TypeId}
 use Rattle.cad_text.specs.Texts.{characters, most_bytes}
 use Rattle.cad_types.specs.Below.{below}
 use Rattle.cad_types.specs.declared.declared.Sort.{Sort}
 use Rattle.cad_types.specs.declared.declared.Sort.TheVariants as s
 use Rattle.cad_shapes.specs.Views.{same_name}
-use Rattle.cad_values.specs.Fits.{most_elements, is_value_sort, is_case}
+use Rattle.cad_values.specs.Fits.{most_elements, is_value_sort, is_case, is_contract}
 use Rattle.cad_values.specs.Shapes.{Shape, ShapeField, Shapes, declarations, shape_of, shape_fields, is_type, is_key_type, are_entitlements, is_reference_type, is_enum}
 use Rattle.cad_values.specs.Types.{type_of_value}
 use Rattle.cad_values.specs.Values.{PureValue, PureEntry, PureField, some, number, string, character, meta, capability, array, dictionary, composite, reference, Values, no_values, values, Entries, no_entries, entries, keys, elements, Fields, no_fields, fields}
@@ -93,3 +95,19 @@ field_fits k declared f = same_name f.name declared.name && (is_below k f.value 
 
 abbrev pub fits : Shapes → PureValue → PureType → Bool
 fits k v want = is_below k v want && holds k v
+
+-- ---- the values of contracts
+
+abbrev pub is_contract_of : ℕ → Shape → Bool
+is_contract_of n shape = is_contract shape.sort && (n == 0)
+
+abbrev pub is_contract_shape : ℕ → Option Shape → Bool
+is_contract_shape n None = false
+is_contract_shape n (Some shape) = is_contract_of n shape
+
+abbrev pub contract_fits : Shapes → TypeId → ℕ → Fields → Bool
+contract_fits k id n fs = is_contract_shape n (shape_of k id) && fields_fit k (shape_fields (shape_of k id)) fs
+
+abbrev pub fits_contract : Shapes → PureValue → TypeId → Bool
+fits_contract k (composite own n fs) id = same_id own id && contract_fits k own n fs
+fits_contract k _ id = false

@@ -187,7 +187,7 @@ fn field_fits(
 /// Whether the fields are the declared ones, in order.
 #[cycle(holds)]
 #[tactic(auto, using(crate::proofs::Lengths::differ_fields))]
-fn fields_fit(
+pub fn fields_fit(
     alloc: Global,
     fields: &[CompositeField],
     shapes: &DeclaredShapes,

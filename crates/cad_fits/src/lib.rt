@@ -8,5 +8,5 @@ mod part;
 mod storable;
 mod table;
 
-pub use fit::fits;
+pub use fit::{fits, fits_contract};
 pub use storable::is_storable;

@@ -112,3 +112,17 @@ pub fn is_of(shape: &Shape, identity: u64, fields: &[CompositeField]) -> bool
 {
     is_value_sort(shape.sort) && (has_identity(shape.sort, identity) && has_case(shape, fields))
 }
+
+/// Whether values of contracts are of types of a sort.
+fn is_contract(sort: Sort) -> bool
+    ensures { result ≡ fit.is_contract sort }
+{
+    matches!(sort, Sort::Contract)
+}
+
+/// Whether a composite can be the value of a contract of a shape, if its fields are.
+pub fn is_contract_of(shape: &Shape, identity: u64) -> bool
+    ensures { result ≡ spec.is_contract_of identity (pure_shape shape.now) }
+{
+    is_contract(shape.sort) && identity == 0
+}

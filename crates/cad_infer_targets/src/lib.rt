@@ -8,3 +8,6 @@ mod target;
 pub use emission::{Emission, discard_emission, infer_event};
 pub use moved::{infer_declared, infer_moved, infer_returned};
 pub use target::{Target, discard_target, infer_target, infer_variable};
+
+// What the crates above use of the ones below.
+pub use cad_infer::infer;

@@ -3,6 +3,7 @@ use Rattle.std.proofs.Common.{◌≡◌, ℕ, true, false, refl, sym, ap, subst,
 use Rattle.std.specs.Prelude.{List, not, map, Option, Some, None, option_and_then, option_map, Result, Ok, Err}
 use Rattle.std.specs.Option.{is_some}
 use Rattle.std.specs.declared.alloc.Global.{Global}
+use Rattle.std.specs.declared.rc.Rc.{Rc}
 use Rattle.std.specs.declared.vec.Vec.{Vec}
 use Rattle.cad_evaluation.specs.Adding.{contract_named, is_taken, is_contract_of, new_contract, standing, declarations_with, initializer_types, fitted, install, install_program, add_contract, add}
 use Rattle.cad_evaluation.specs.Arguments.{argument}
@@ -10,7 +11,7 @@ use Rattle.cad_evaluation.specs.Callees.{Calls, Front}
 use Rattle.cad_evaluation.specs.Texts.{text_in, bytes_in}
 use Rattle.cad_installations.specs.Code.Steps.{installed, InstallsOn, code_installed, named_added, there_added}
 use Rattle.cad_installations.specs.Views.{items_row}
-use Rattle.cad_installations.proofs.Alike.{alike, stops_so, required, refused, guarded, unguarded, with_it, without_it, found_or, failed_or}
+use Rattle.cad_installations.proofs.Alike.{alike, stops_so, required, refused, guarded, unguarded, with_it, without_it, judged_well, judged_ill}
 use Rattle.cad_installations.proofs.Coming.{fitted_stay}
 use Rattle.cad_labels.specs.Laws.{AnyOne}
 use Rattle.cad_world.specs.Marks.{AreGivenOnce}
@@ -29,9 +30,11 @@ use Rattle.cad_state.specs.declared.state.RunState.{RunState}
 use Rattle.cad_syntax.specs.declared.address.Address.{Address}
 use Rattle.cad_syntax.specs.declared.type_id.TypeId.{TypeId}
 use Rattle.cad_types.specs.Declarations.{Declaration}
+use Rattle.cad_world.specs.Fronts as fronts
+use Rattle.cad_world.specs.Fronts.{said, judged}
 use Rattle.cad_world.specs.Labels.{account_at}
 use Rattle.cad_world.specs.Rows.{Row, Tree, back}
-use Rattle.cad_world.specs.State.{Contract, Program, State, Account, failed, ill, Action, ◌>>=◌, with_some, or_fail}
+use Rattle.cad_world.specs.State.{Contract, Program, State, Account, failed, ill, Action, ◌>>=◌, with_some}
 
 -- ---- arguments that fit
 
@@ -79,35 +82,38 @@ program_differs calls id code r p x z is = stops_so pure_tree (install_program c
 
 -- ---- the code
 
+abbrev shared_program : Rc Checked Global → Program
+shared_program c = program_of c.value
+
 -- what the front end answered, of the contracts of the state
-pub accepted : (front : Front) (id : TypeId) (all slice : List CodeContract) (code bytes : List ℕ) (o p : Option Checked) → o ≡ p → slice ≡ all → bytes ≡ code
-    → option_map program_of o ≡ front (standing (map contract_of slice)) id.address bytes → front (standing (map contract_of all)) id.address code ≡ option_map program_of p
+pub accepted : (front : Front) (id : TypeId) (all slice : List CodeContract) (code bytes : List ℕ) (o p : Option (Rc Checked Global)) → o ≡ p → slice ≡ all → bytes ≡ code
+    → said (option_map shared_program o) ≡ front (standing (map contract_of slice)) id.address bytes → front (standing (map contract_of all)) id.address code ≡ said (option_map shared_program p)
 accepted front id all slice code bytes o p is same read told =
     ap (λ l. front (standing (map contract_of l)) id.address code) (sym same) ∙ ap (λ b. front (standing (map contract_of slice)) id.address b) (sym read)
-    ∙ sym told ∙ ap (option_map program_of) is
+    ∙ sym told ∙ ap (λ (q : Option (Rc Checked Global)). said (option_map shared_program q)) is
 
 pub code_passes : (front : Front) (calls : Calls) (id : TypeId) (code : List ℕ) (r : Row) (p : Program) (x z : RunState) (q : Result CodeTree Stop)
-    → front (standing (map contract_of x.contracts.items)) id.address code ≡ Some p
+    → front (standing (map contract_of x.contracts.items)) id.address code ≡ fronts.accepted p
     → FindsAndCarriesOut pure_tree (install_program calls id code r p) x z q → FindsAndCarriesOut pure_tree (code_installed front calls id code r) x z q
 code_passes front calls id code r p x z q is h = alike pure_tree (code_installed front calls id code r) (install_program calls id code r p) x z q
-    (λ w. found_or 119 (front (standing (map contract_of x.contracts.items)) id.address code) p (install_program calls id code r) (state_over w x) is) h
+    (λ w. judged_well 119 (front (standing (map contract_of x.contracts.items)) id.address code) p (install_program calls id code r) (state_over w x) is) h
 
-pub code_fails : (front : Front) (calls : Calls) (id : TypeId) (code : List ℕ) (r : Row) (x z : RunState) → front (standing (map contract_of x.contracts.items)) id.address code ≡ None
+pub code_fails : (front : Front) (calls : Calls) (id : TypeId) (code : List ℕ) (r : Row) (x z : RunState) → front (standing (map contract_of x.contracts.items)) id.address code ≡ fronts.refused
     → FindsAndCarriesOut {B = CodeTree} pure_tree (code_installed front calls id code r) x z (Err (Failed ContractRejected))
 code_fails front calls id code r x z is = stops_so pure_tree (code_installed front calls id code r) (failed 119) x z (Failed ContractRejected)
-    (λ w. failed_or 119 (front (standing (map contract_of x.contracts.items)) id.address code) (install_program calls id code r) (state_over w x) is) refl
+    (λ w. judged_ill 119 (front (standing (map contract_of x.contracts.items)) id.address code) (install_program calls id code r) (state_over w x) is) refl
 
 -- ---- the name
 
 pub name_free : (front : Front) (calls : Calls) (id : TypeId) (code : List ℕ) (r : Row) (x z : RunState) (q : Result CodeTree Stop) → is_taken (map contract_of x.contracts.items) id ≡ false
     → FindsAndCarriesOut pure_tree (code_installed front calls id code r) x z q → FindsAndCarriesOut pure_tree (add_contract front calls id code r) x z q
 name_free front calls id code r x z q is h = alike pure_tree (add_contract front calls id code r) (code_installed front calls id code r) x z q
-    (λ w. required 118 (not (is_taken (map contract_of x.contracts.items) id)) (or_fail 119 (front (standing (map contract_of x.contracts.items)) id.address code) (install_program calls id code r)) (state_over w x) (ap not is)) h
+    (λ w. required 118 (not (is_taken (map contract_of x.contracts.items) id)) (judged 119 (front (standing (map contract_of x.contracts.items)) id.address code) (install_program calls id code r)) (state_over w x) (ap not is)) h
 
 pub name_taken : (front : Front) (calls : Calls) (id : TypeId) (code : List ℕ) (r : Row) (x z : RunState) → is_taken (map contract_of x.contracts.items) id ≡ true
     → FindsAndCarriesOut {B = CodeTree} pure_tree (add_contract front calls id code r) x z (Err (Failed ContractExists))
 name_taken front calls id code r x z is = stops_so pure_tree (add_contract front calls id code r) (failed 118) x z (Failed ContractExists)
-    (λ w. refused 118 (not (is_taken (map contract_of x.contracts.items) id)) (or_fail 119 (front (standing (map contract_of x.contracts.items)) id.address code) (install_program calls id code r)) (state_over w x) (ap not is)) refl
+    (λ w. refused 118 (not (is_taken (map contract_of x.contracts.items) id)) (judged 119 (front (standing (map contract_of x.contracts.items)) id.address code) (install_program calls id code r)) (state_over w x) (ap not is)) refl
 
 -- ---- the first two arguments, and the account
 

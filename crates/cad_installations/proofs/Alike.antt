@@ -7,7 +7,9 @@ use Rattle.cad_outcomes.specs.declared.stop.Stop.{Stop}
 use Rattle.cad_state.proofs.Finding.{find_same}
 use Rattle.cad_state.specs.Views.{state_over, IsReady, CarriesOut, FindsAndCarriesOut}
 use Rattle.cad_state.specs.declared.state.RunState.{RunState}
-use Rattle.cad_world.specs.State.{State, Account, Outcome, ok, failed, ill, bind, Action, ◌>>=◌, ◌>>◌, done, guard, require, with_some, or_fail}
+use Rattle.cad_world.specs.Fronts as fronts
+use Rattle.cad_world.specs.Fronts.{Verdict, accepted, judged}
+use Rattle.cad_world.specs.State.{Program, State, Account, Outcome, ok, failed, ill, bind, Action, ◌>>=◌, ◌>>◌, done, guard, require, with_some}
 
 -- ---- in one state
 
@@ -29,11 +31,11 @@ with_it {A = A} o a f s is = ap (λ (x : Option A). with_some x f s) is
 pub without_it : {A B : Type 0} (o : Option A) (f : A → Action B) (s : State) → o ≡ None → with_some o f s ≡ ill
 without_it {A = A} o f s is = ap (λ (x : Option A). with_some x f s) is
 
-pub found_or : {A B : Type 0} (e : ℕ) (o : Option A) (a : A) (f : A → Action B) (s : State) → o ≡ Some a → or_fail e o f s ≡ f a s
-found_or {A = A} e o a f s is = ap (λ (x : Option A). or_fail e x f s) is
+pub judged_well : {A : Type 0} (e : ℕ) (v : Verdict) (p : Program) (f : Program → Action A) (s : State) → v ≡ accepted p → judged e v f s ≡ f p s
+judged_well e v p f s is = ap (λ (x : Verdict). judged e x f s) is
 
-pub failed_or : {A B : Type 0} (e : ℕ) (o : Option A) (f : A → Action B) (s : State) → o ≡ None → or_fail e o f s ≡ failed e
-failed_or {A = A} e o f s is = ap (λ (x : Option A). or_fail e x f s) is
+pub judged_ill : {A : Type 0} (e : ℕ) (v : Verdict) (f : Program → Action A) (s : State) → v ≡ fronts.refused → judged e v f s ≡ failed e
+judged_ill e v f s is = ap (λ (x : Verdict). judged e x f s) is
 
 -- ---- whatever the accounts are
 

@@ -18,12 +18,11 @@ use crate::installing::install;
 use crate::kinds::kinds_with;
 use cad_access::contract_in;
 use cad_declarations::Checked;
-use cad_discards::discard_checked;
 use cad_operators::{bytes_in, text_in};
 use cad_outcomes::{RunError, Stop};
 use cad_rows::{Place, Slot, Tree, discard_place, discard_row, tree_at};
 use cad_run_accounts::is_account;
-use cad_state::{Contract, RunState, discard_contract, discard_shared};
+use cad_state::{Contract, Question, RunState, discard_contract, discard_shared};
 use cad_syntax::{Address, Bytes, Name, Names, Text, TypeId};
 use cad_types::DeclaredTypes;
 use std::alloc::{AllocError, Global};
@@ -119,24 +118,18 @@ fn further(row: Vec<Place>) -> Vec<Place>
 }
 
 /// A contract before its initializer runs. Where memory fails, the program is let go.
-fn new_contract(
+pub fn new_contract(
     alloc: Global,
     id: TypeId,
     code: Bytes,
-    checked: Checked,
+    checked: Rc<Checked>,
 ) -> Result<Contract, AllocError>
-    ensures { IfOk result (λ c. contract_of c ≡ spec.new_contract id code (program_of checked)) }
+    ensures { IfOk result (λ c. contract_of c ≡ spec.new_contract id code (program_of checked.value)) }
 {
-    match Rc::new(alloc, checked) {
-        Ok(shared) => match Rc::new(alloc, code) {
-            Ok(held) => Ok(contract_over(alloc, id, held, shared)),
-            Err(_) => {
-                discard_shared(shared);
-                Err(AllocError)
-            }
-        },
-        Err(refused) => {
-            discard_checked(refused.value);
+    match Rc::new(alloc, code) {
+        Ok(held) => Ok(contract_over(alloc, id, held, checked)),
+        Err(_) => {
+            discard_shared(checked);
             Err(AllocError)
         }
     }
@@ -215,15 +208,15 @@ fn install_program<I: Initializers>(
     by: &I,
     id: TypeId,
     code: Bytes,
-    checked: Checked,
+    checked: Rc<Checked>,
     row: Vec<Place>,
     state: &mut RunState,
 ) -> Result<Tree, Stop>
     requires { I.is_ready by.now }
-    ensures { FindsAndCarriesOut pure_tree (spec.install_program (I.calls by.now) id code (pure_row row.items) (program_of checked)) state.old state.new result }
+    ensures { FindsAndCarriesOut pure_tree (spec.install_program (I.calls by.now) id code (pure_row row.items) (program_of checked.value)) state.old state.new result }
 {
     if !is_contract_of(&id, &checked) {
-        discard_checked(checked);
+        discard_shared(checked);
         discard_row(row);
         return Err(Stop::Failed(RunError::ContractName));
     }
@@ -236,7 +229,7 @@ fn install_program<I: Initializers>(
     }
 }
 
-/// A code whose name is free is installed: 119 where it isn't accepted.
+/// A code whose name is free is installed: 119 where it isn't accepted. Where memory fails of the front end, the state holds the code.
 fn install_code<E: FrontEnd, I: Initializers>(
     end: &E,
     by: &I,
@@ -261,6 +254,10 @@ fn install_code<E: FrontEnd, I: Initializers>(
         }
         Err(_) => {
             discard_row(row);
+            state.asked = Some(Question {
+                address: id.address,
+                code,
+            });
             Err(Stop::Memory)
         }
     }

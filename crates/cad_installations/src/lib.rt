@@ -10,7 +10,7 @@ mod initializers;
 mod installing;
 mod kinds;
 
-pub use adding::{add, is_contract_of, is_taken};
+pub use adding::{add, is_contract_of, is_taken, new_contract};
 pub use fitting::initializer_parameters;
 pub use front_end::FrontEnd;
 pub use initializers::Initializers;

@@ -35,7 +35,7 @@ use Rattle.cad_json_read.specs.declared.form.Form.TheVariants as f
 use Rattle.cad_json_read.proofs.FieldLaws.{field_list, fields_back, absent, own_at, others_read, length_around}
 use Rattle.cad_json_read.proofs.Forming.{typed_again, string_found, optional_found, array_found, struct_found, bool_found, address_found, character_found, dictionary_found, path_found, enum_found, kind_found}
 use Rattle.cad_json_read.proofs.Identifiers.{spells_found}
-use Rattle.cad_json_read.proofs.Known.{Good}
+use Rattle.cad_json_read.proofs.Known.{Enough, Good, enough}
 use Rattle.cad_json_read.proofs.Lists.{items_back}
 use Rattle.cad_json_read.proofs.Numbers.{num_again, not_address}
 use Rattle.cad_json_read.proofs.Options.{pair_again}
@@ -115,7 +115,7 @@ abbrev known : Shapes → (TypeId → Bool) → Known
 known ss importable = record { shapes = ss; importable = importable }
 
 mutual
-  pub complete : (ss : Shapes) (importable : TypeId → Bool) → Good (known ss importable) → {want : PureType} {json : Data} {x : PureValue} → Reads ss want json x → (n : ℕ) → height x ≤ n → value_of (known ss importable) n want json ≡ Some x
+  pub complete : (ss : Shapes) (importable : TypeId → Bool) → Enough (known ss importable) → {want : PureType} {json : Data} {x : PureValue} → Reads ss want json x → (n : ℕ) → height x ≤ n → value_of (known ss importable) n want json ≡ Some x
   complete ss importable good {want} (r.plain p) n low = plain_complete (known ss importable) want p n low
   complete ss importable good (r.nil {want}) n low = let s = at_suc n 0 (omega arith) in by_form (known ss importable) n s.0 0 (optional want) (codes "Optional") f.Optional null v.nil s.1 optional_found refl
   complete ss importable good (r.some {want} {json} {x} p) n low =
@@ -137,21 +137,21 @@ mutual
   complete ss importable good (r.composite {want} {text} {id} {shape} {all} {fs} spells small there is_data allowed p) n low =
       let s = at_suc n (fields_height fs) low in
       let form = data_form shape.sort is_data in
-      let is_importable : importable id ≡ true = (good.tied id).1 allowed in
+      let is_importable : importable id ≡ true = good.allowed id allowed in
       let read = fields_complete ss importable good p (good.named id shape there) s.0 s.2 in
       by_form (known ss importable) n s.0 (fields_height fs) want (sort_word shape.sort) form.form (composite_json (array (items_of all)) text) (v.composite id 0 fs) s.1 form.found
       (form.same (known ss importable) (value_of (known ss importable) s.0) want (composite_json (array (items_of all)) text)
       ∙ rw (pair_again (codes "fields") (codes "id") (array (items_of all)) (string text), spells_found text id small spells, there, form.fits, is_importable, items_back all, eq-eqb (length all) (length shape.fields) read.0, read.1, fields_back fs) refl)
 
-  all_complete : (ss : Shapes) (importable : TypeId → Bool) → Good (known ss importable) → {want : PureType} {all : Items} {vs : Values} → ReadsAll ss want all vs → (n : ℕ) → values_height vs ≤ n → each (value_of (known ss importable) n want) (item_list all) ≡ Some (elements vs)
+  all_complete : (ss : Shapes) (importable : TypeId → Bool) → Enough (known ss importable) → {want : PureType} {all : Items} {vs : Values} → ReadsAll ss want all vs → (n : ℕ) → values_height vs ≤ n → each (value_of (known ss importable) n want) (item_list all) ≡ Some (elements vs)
   all_complete ss importable good r.no_element n low = refl
   all_complete ss importable good (r.element {want} {json} {all} {x} {vs} p ps) n low = rw (complete ss importable good p n (omega arith), all_complete ss importable good ps n (omega arith)) refl
 
-  entries_complete : (ss : Shapes) (importable : TypeId → Bool) → Good (known ss importable) → {key want : PureType} {all : Items} {es : Entries} → ReadsEntries ss key want all es → (n : ℕ) → entries_height es ≤ n → each (entry_at (value_of (known ss importable) n) key want) (item_list all) ≡ Some (entry_list es)
+  entries_complete : (ss : Shapes) (importable : TypeId → Bool) → Enough (known ss importable) → {key want : PureType} {all : Items} {es : Entries} → ReadsEntries ss key want all es → (n : ℕ) → entries_height es ≤ n → each (entry_at (value_of (known ss importable) n) key want) (item_list all) ≡ Some (entry_list es)
   entries_complete ss importable good r.no_entry n low = refl
   entries_complete ss importable good (r.entry {first} {second} p q ps) n low = rw (pair_again (codes "key") (codes "value") first second, complete ss importable good p n (omega arith), complete ss importable good q n (omega arith), entries_complete ss importable good ps n (omega arith)) refl
 
-  fields_complete : (ss : Shapes) (importable : TypeId → Bool) → Good (known ss importable) → {declared : List ShapeField} {all : List Data} {fs : Fields} → ReadsFields ss declared all fs → names_differ declared ≡ true → (n : ℕ) → fields_height fs ≤ n → (length all ≡ length declared) × (each (field_of (value_of (known ss importable) n) all) declared ≡ Some (field_list fs))
+  fields_complete : (ss : Shapes) (importable : TypeId → Bool) → Enough (known ss importable) → {declared : List ShapeField} {all : List Data} {fs : Fields} → ReadsFields ss declared all fs → names_differ declared ≡ true → (n : ℕ) → fields_height fs ≤ n → (length all ≡ length declared) × (each (field_of (value_of (known ss importable) n) all) declared ≡ Some (field_list fs))
   fields_complete ss importable good r.no_field differ n low = (refl, refl)
   fields_complete ss importable good (r.one_field {field} {rest} before behind {json} {x} {fs} p ps) differ n low =
       let parts = and_parts (list_all (λ other. not (same_name other.name field.name)) rest) (names_differ rest) differ in
@@ -160,5 +160,8 @@ mutual
       let others = others_read (value_of (known ss importable) n) field.name json before behind rest parts.0 ∙ later.1 in
       (length_around before behind (field_json field.name.0 json) ∙ ap suc later.0, rw (own, complete ss importable good p n (omega arith), others) refl)
 
+pub found_with : (k : Known) → Enough k → {want : PureType} {json : Data} {x : PureValue} → Reads k.shapes want json x → (n : ℕ) → height x ≤ n → value_of k n want json ≡ Some x
+found_with k asked p n low = complete k.shapes k.importable asked p n low
+
 pub found_by : (k : Known) → Good k → {want : PureType} {json : Data} {x : PureValue} → Reads k.shapes want json x → (n : ℕ) → height x ≤ n → value_of k n want json ≡ Some x
-found_by k good p n low = complete k.shapes k.importable good p n low
+found_by k good p n low = found_with k (enough k good) p n low

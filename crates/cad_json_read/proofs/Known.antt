@@ -22,7 +22,15 @@ pub record Good (k : Known) : Type 0 where
   pub tied : (id : TypeId) → (k.importable id ≡ true) ↔ Importable (declarations k.shapes) (declared id)
   pub named : (id : TypeId) (shape : Shape) → shape_of k.shapes id ≡ Some shape → names_differ shape.fields ≡ true
 
-named_in : (shapes : List Shape) (id : TypeId) (shape : Shape) → all_names_differ shapes ≡ true → shape_in shapes id ≡ Some shape → names_differ shape.fields ≡ true
+-- what is asked where what the relation reads is read: no argument that can be had is missed, and the names of a type's fields differ
+pub record Enough (k : Known) : Type 0 where
+  pub allowed : (id : TypeId) → Importable (declarations k.shapes) (declared id) → k.importable id ≡ true
+  pub named : (id : TypeId) (shape : Shape) → shape_of k.shapes id ≡ Some shape → names_differ shape.fields ≡ true
+
+pub enough : (k : Known) → Good k → Enough k
+enough k good = record { allowed = λ id. (good.tied id).1; named = good.named }
+
+pub named_in : (shapes : List Shape) (id : TypeId) (shape : Shape) → all_names_differ shapes ≡ true → shape_in shapes id ≡ Some shape → names_differ shape.fields ≡ true
 named_in [] id shape all e = absurd cc
 named_in (s ∷ shapes) id shape all e =
     let parts = and_parts (names_differ s.fields) (all_names_differ shapes) all in

@@ -21,9 +21,9 @@ pub(crate) const PLACE: Address = Address(1);
 pub(crate) struct Closed;
 
 impl FrontEnd for Closed {
-    ghost use Rattle.std.specs.Prelude.{None};
+    ghost use Rattle.cad_world.specs.Fronts.{refused};
 
-    ghost front = { λ it contracts address code. None };
+    ghost front = { λ it contracts address code. refused };
 
     fn accept(
         &self,
@@ -31,7 +31,7 @@ impl FrontEnd for Closed {
         contracts: &[Contract],
         address: Address,
         code: &[u8],
-    ) -> Result<Option<Checked>, AllocError> {
+    ) -> Result<Option<Rc<Checked>>, AllocError> {
         Ok(None)
     }
 }

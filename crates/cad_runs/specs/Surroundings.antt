@@ -6,7 +6,7 @@ use Rattle.cad_syntax.specs.declared.address.Address.{Address}
 use Rattle.cad_declarations.specs.Tables.{ProgramTables}
 use Rattle.cad_declarations.specs.declared.stop.Rejected.{Rejected}
 use Rattle.cad_values.specs.Values.{PureValue}
-use Rattle.cad_world.specs.Fronts.{Front}
+use Rattle.cad_world.specs.Fronts.{Front, said}
 use Rattle.cad_world.specs.Registers.{Coding}
 use Rattle.cad_world.specs.State.{Contract, Program}
 
@@ -22,4 +22,4 @@ pub record Surroundings (Json : Type 0) : Type 0 where
 
 -- the front end by which contracts are added: accepted, or not
 abbrev pub front_of : {Json : Type 0} → Surroundings Json → Front
-front_of x contracts address code = result_ok (x.load contracts (Some address) code)
+front_of x contracts address code = said (result_ok (x.load contracts (Some address) code))

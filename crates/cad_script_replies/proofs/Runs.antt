@@ -1,5 +1,5 @@
 -- What a run comes to over a World, and what is told of it.
-use Rattle.std.proofs.Common.{◌≡◌, ℕ, suc, ◌+◌, ◌*◌, ◌≤◌, List, [], Option, Some, None, refl, sym, ap, ◌∙◌, subst, arith}
+use Rattle.std.proofs.Common.{◌≡◌, ℕ, suc, ◌+◌, ◌*◌, ◌≤◌, Option, Some, None, refl, sym, ap, ◌∙◌, subst, arith}
 use Rattle.std.specs.Prelude.{Result, Ok, Err}
 use Rattle.serde_json.specs.Data.{Data}
 use Rattle.cad_labels.proofs.Gone.{found_given}
@@ -11,13 +11,14 @@ use Rattle.cad_runs.specs.Commands.{Reply}
 use Rattle.cad_runs.specs.Run.{bound}
 use Rattle.cad_state.specs.Views.{state_over, AreUnnamed, FindsAndCarriesOut}
 use Rattle.cad_state.specs.declared.state.RunState.{RunState}
-use Rattle.cad_types.specs.Declarations.{Declaration}
+use Rattle.cad_values.specs.Shapes.{declarations}
 use Rattle.cad_values.specs.Values.{PureValue, pure_value}
 use Rattle.cad_values.specs.declared.value.Value.{Value}
 use Rattle.cad_world.specs.Begin.{begun, IsKept}
 use Rattle.cad_world.specs.Labels.{found_in_accounts, found_in_contracts}
 use Rattle.cad_world.specs.Marks.{AreGivenOnce}
 use Rattle.cad_world.specs.Rows.{Found, either}
+use Rattle.cad_world.specs.Shapes.{shapes}
 use Rattle.cad_world.specs.State.{Program, State, World, Action}
 use Rattle.cad_script_replies.specs.Code.{told_of}
 use Rattle.cad_script_replies.specs.Replies.{told_reply}
@@ -46,11 +47,11 @@ ran_so view a p units w x y outcome starts kept carries =
 some_is : {A : Type 0} (a b : A) → Some a ≡ Some b → a ≡ b
 some_is a b e = cc
 
--- what is told of what a run came to
-pub tells : (declared : List Declaration) (a : Action PureValue) (s after : State) (outcome : Result Value Stop) (reply : Reply Data)
-    → Does pure_value a s after outcome → told_of declared outcome ≡ Some reply → told_reply declared (a s) ≡ reply
-tells declared a s after (Ok v) reply does told = ap (told_reply declared) does ∙ some_is _ _ told
-tells declared a s after (Err (Failed error)) reply does told = ap (told_reply declared) does ∙ some_is _ _ told
-tells declared a s after (Err Limit) reply does told = ap (told_reply declared) does ∙ some_is _ _ told
-tells declared a s after (Err IllTyped) reply does told = ap (told_reply declared) does ∙ some_is _ _ told
-tells declared a s after (Err Memory) reply does told = absurd cc
+-- what is told of what a run came to, by what the contracts of the state at the end declare
+pub tells : (a : Action PureValue) (s after : State) (outcome : Result Value Stop) (reply : Reply Data)
+    → Does pure_value a s after outcome → told_of (declarations (shapes after.contracts)) outcome ≡ Some reply → told_reply (a s) ≡ reply
+tells a s after (Ok v) reply does told = ap told_reply does ∙ some_is _ _ told
+tells a s after (Err (Failed error)) reply does told = ap told_reply does ∙ some_is _ _ told
+tells a s after (Err Limit) reply does told = ap told_reply does ∙ some_is _ _ told
+tells a s after (Err IllTyped) reply does told = ap told_reply does ∙ some_is _ _ told
+tells a s after (Err Memory) reply does told = absurd cc

@@ -1,18 +1,16 @@
 -- Arguments, one after another.
-use Rattle.std.proofs.Common.{◌≡◌, ℕ, zero, suc, ◌+◌, ◌-◌, ◌<◌, ◌≤◌, ◌==◌, Bool, true, false, List, [], ◌∷◌, map, length, get_or, take, drop, refl, sym, ap, ◌∙◌, subst, add-one, arith}
+use Rattle.std.proofs.Common.{◌≡◌, Bor, ℕ, zero, suc, ◌+◌, ◌-◌, ◌<◌, ◌≤◌, ◌==◌, Bool, true, false, List, [], ◌∷◌, map, length, get_or, take, drop, refl, sym, ap, ◌∙◌, subst, add-one, arith}
 use Rattle.std.proofs.lemmas.List.{take_rest}
 use lib.Dec.{eqb-suc-zero}
 use Rattle.serde_json.specs.Data.{Data}
 use Rattle.serde_json.specs.View.{view}
 use Rattle.serde_json.specs.declared.value.Value.{Value}
 use Rattle.cad_syntax.specs.Types.{PureType, pure_type}
-use Rattle.cad_declarations.specs.Views.{variable_of}
-use Rattle.cad_declarations.specs.declared.statement.Variable.{Variable}
+use Rattle.cad_syntax.specs.declared.types.CadType.{CadType}
 use Rattle.cad_values.specs.Shapes.{Shapes}
 use Rattle.cad_values.specs.Values.{PureValue}
 use Rattle.cad_json.specs.Read.{JsonOf}
 use Rattle.cad_rows.proofs.CopyLaws.{join_stop}
-use Rattle.cad_runs.specs.Commands.{types_of}
 use Rattle.cad_world.specs.Rows.{Row, stop, gap, node, Tree, first, join, add_last}
 use Rattle.cad_world.specs.Trees.{tree_of}
 use Rattle.cad_script_replies.specs.Code.{Adds, AddsAll}
@@ -64,57 +62,60 @@ one_more k type types json all before next after false added rest = λ r h. let 
 abbrev pub Leads : Shapes → List PureType → List Data → Row → List PureType → List Data → Row → Type 0
 Leads k types all before rest left now = (after : Row) (b : Bool) → AddsAll k rest left now after b → AddsAll k types all before after b
 
-abbrev pub rest_types : List Variable → ℕ → List PureType
-rest_types ps i = types_of (map variable_of (drop i ps))
+abbrev pub type_at : Bor CadType → PureType
+type_at t = pure_type t.now
 
-types_from : (ps : List Variable) (i : ℕ) (p : Variable) → i < length ps → p ≡ get_or ps i p → rest_types ps i ≡ pure_type p.declared ∷ rest_types ps (suc i)
-types_from [] i p inside is = absurd (omega (arith, inside))
-types_from (q ∷ ps) zero p inside is = ap (λ x. pure_type x.declared ∷ types_of (map variable_of ps)) (sym is)
-types_from (q ∷ ps) (suc i) p inside is = types_from ps i p (omega (arith, inside)) is
+abbrev pub rest_types : List (Bor CadType) → ℕ → List PureType
+rest_types ts i = map type_at (drop i ts)
 
-types_past : (ps : List Variable) (i : ℕ) → length ps ≤ i → rest_types ps i ≡ []
+types_from : (ts : List (Bor CadType)) (i : ℕ) (t d : Bor CadType) → i < length ts → t ≡ get_or ts i d → rest_types ts i ≡ type_at t ∷ rest_types ts (suc i)
+types_from [] i t d inside is = absurd (omega (arith, inside))
+types_from (q ∷ ts) zero t d inside is = ap (λ (x : Bor CadType). type_at x ∷ map type_at ts) (sym is)
+types_from (q ∷ ts) (suc i) t d inside is = types_from ts i t d (omega (arith, inside)) is
+
+types_past : (ts : List (Bor CadType)) (i : ℕ) → length ts ≤ i → rest_types ts i ≡ []
 types_past [] zero outside = refl
 types_past [] (suc i) outside = refl
-types_past (q ∷ ps) zero outside = absurd (omega (arith, outside))
-types_past (q ∷ ps) (suc i) outside = types_past ps i (omega (arith, outside))
+types_past (q ∷ ts) zero outside = absurd (omega (arith, outside))
+types_past (q ∷ ts) (suc i) outside = types_past ts i (omega (arith, outside))
 
 -- the first argument and the others
 split : (left : List Value) (json : Value) → 1 ≤ length left → json ≡ get_or left 0 json → map view left ≡ view json ∷ map view (take (length left - 1) (drop 1 left))
 split [] json there is = absurd (omega (arith, there))
 split (x ∷ xs) json there is = ap (λ z. view z ∷ map view xs) (sym is) ∙ ap (λ (zs : List Value). view json ∷ map view zs) (sym (take_rest (x ∷ xs) 1))
 
-module _ (k : Shapes) (types : List PureType) (all : List Data) (before : Row) (ps : List Variable) (i : ℕ) (left : List Value) (now : Row) where
-  pub turn : (p : Variable) (json : Value) (next : Row) → i < length ps → p ≡ get_or ps i p → 1 ≤ length left → json ≡ get_or left 0 json
-      → Leads k types all before (rest_types ps i) (map view left) now → Adds k (pure_type p.declared) (view json) now next true
-      → Leads k types all before (rest_types ps (i + 1)) (map view (take (length left - 1) (drop 1 left))) next
-  turn p json next inside is there here so_far added after b rest =
+module _ (k : Shapes) (types : List PureType) (all : List Data) (before : Row) (ts : List (Bor CadType)) (i : ℕ) (left : List Value) (now : Row) where
+  pub turn : (t d : Bor CadType) (json : Value) (next : Row) → i < length ts → t ≡ get_or ts i d → 1 ≤ length left → json ≡ get_or left 0 json
+      → Leads k types all before (rest_types ts i) (map view left) now → Adds k (type_at t) (view json) now next true
+      → Leads k types all before (rest_types ts (i + 1)) (map view (take (length left - 1) (drop 1 left))) next
+  turn t d json next inside is there here so_far added after b rest =
       let more = take (length left - 1) (drop 1 left) in
-      let step : rest_types ps i ≡ pure_type p.declared ∷ rest_types ps (i + 1) = rw add-one (types_from ps i p inside is) in
-      so_far after b (subst (λ (ts : List PureType). AddsAll k ts (map view left) now after b) (sym step)
-      (subst (λ (js : List Data). AddsAll k (pure_type p.declared ∷ rest_types ps (i + 1)) js now after b) (sym (split left json there here))
-      (one_more k (pure_type p.declared) (rest_types ps (i + 1)) (view json) (map view more) now next after b added rest)))
+      let step : rest_types ts i ≡ type_at t ∷ rest_types ts (i + 1) = rw add-one (types_from ts i t d inside is) in
+      so_far after b (subst (λ (us : List PureType). AddsAll k us (map view left) now after b) (sym step)
+      (subst (λ (js : List Data). AddsAll k (type_at t ∷ rest_types ts (i + 1)) js now after b) (sym (split left json there here))
+      (one_more k (type_at t) (rest_types ts (i + 1)) (view json) (map view more) now next after b added rest)))
 
   -- one that stands for no value
-  pub stands_not : (p : Variable) (json : Value) (next after : Row) → i < length ps → p ≡ get_or ps i p → 1 ≤ length left → json ≡ get_or left 0 json
-      → Leads k types all before (rest_types ps i) (map view left) now → Adds k (pure_type p.declared) (view json) now next false → AddsAll k types all before after false
-  stands_not p json next after inside is there here so_far refused =
-      so_far after false (subst (λ (ts : List PureType). AddsAll k ts (map view left) now after false) (sym (types_from ps i p inside is))
-      (subst (λ (js : List Data). AddsAll k (pure_type p.declared ∷ rest_types ps (suc i)) js now after false) (sym (split left json there here))
+  pub stands_not : (t d : Bor CadType) (json : Value) (next after : Row) → i < length ts → t ≡ get_or ts i d → 1 ≤ length left → json ≡ get_or left 0 json
+      → Leads k types all before (rest_types ts i) (map view left) now → Adds k (type_at t) (view json) now next false → AddsAll k types all before after false
+  stands_not t d json next after inside is there here so_far refused =
+      so_far after false (subst (λ (us : List PureType). AddsAll k us (map view left) now after false) (sym (types_from ts i t d inside is))
+      (subst (λ (js : List Data). AddsAll k (type_at t ∷ rest_types ts (suc i)) js now after false) (sym (split left json there here))
       (λ r h. let parts = parts_of h in refused parts.value parts.stands)))
 
--- a parameter without an argument
-pub lacks : (k : Shapes) (types : List PureType) (all : List Data) (before : Row) (ps : List Variable) (i : ℕ) (left : List Value) (now : Row) (p : Variable) (after : Row)
-    → i < length ps → p ≡ get_or ps i p → length left < 1 → Leads k types all before (rest_types ps i) (map view left) now → AddsAll k types all before after false
-lacks k types all before ps i [] now p after inside is short so_far =
-    so_far after false (subst (λ (ts : List PureType). AddsAll k ts [] now after false) (sym (types_from ps i p inside is)) (λ r h. too_few h))
-lacks k types all before ps i (x ∷ xs) now p after inside is short so_far = absurd (omega (arith, short))
+-- a type without an argument
+pub lacks : (k : Shapes) (types : List PureType) (all : List Data) (before : Row) (ts : List (Bor CadType)) (i : ℕ) (left : List Value) (now : Row) (t d : Bor CadType) (after : Row)
+    → i < length ts → t ≡ get_or ts i d → length left < 1 → Leads k types all before (rest_types ts i) (map view left) now → AddsAll k types all before after false
+lacks k types all before ts i [] now t d after inside is short so_far =
+    so_far after false (subst (λ (us : List PureType). AddsAll k us [] now after false) (sym (types_from ts i t d inside is)) (λ r h. too_few h))
+lacks k types all before ts i (x ∷ xs) now t d after inside is short so_far = absurd (omega (arith, short))
 
--- no parameter is left
-pub ends : (k : Shapes) (types : List PureType) (all : List Data) (before : Row) (ps : List Variable) (i : ℕ) (left : List Value) (now : Row) (b : Bool)
-    → length ps ≤ i → b ≡ (length left == 0) → Leads k types all before (rest_types ps i) (map view left) now → AddsAll k types all before now b
-ends k types all before ps i [] now b outside is so_far =
+-- no type is left
+pub ends : (k : Shapes) (types : List PureType) (all : List Data) (before : Row) (ts : List (Bor CadType)) (i : ℕ) (left : List Value) (now : Row) (b : Bool)
+    → length ts ≤ i → b ≡ (length left == 0) → Leads k types all before (rest_types ts i) (map view left) now → AddsAll k types all before now b
+ends k types all before ts i [] now b outside is so_far =
     subst (AddsAll k types all before now) (sym is)
-    (so_far now true (subst (λ (ts : List PureType). AddsAll k ts [] now now true) (sym (types_past ps i outside)) (stop, none, sym (join_stop now))))
-ends k types all before ps i (x ∷ xs) now b outside is so_far =
+    (so_far now true (subst (λ (us : List PureType). AddsAll k us [] now now true) (sym (types_past ts i outside)) (stop, none, sym (join_stop now))))
+ends k types all before ts i (x ∷ xs) now b outside is so_far =
     subst (AddsAll k types all before now) (sym (is ∙ eqb-suc-zero (length xs)))
-    (so_far now false (subst (λ (ts : List PureType). AddsAll k ts (view x ∷ map view xs) now now false) (sym (types_past ps i outside)) (λ r h. too_many h)))
+    (so_far now false (subst (λ (us : List PureType). AddsAll k us (view x ∷ map view xs) now now false) (sym (types_past ts i outside)) (λ r h. too_many h)))

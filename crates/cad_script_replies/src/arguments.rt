@@ -1,19 +1,19 @@
-// The arguments of a script.
+// Arguments.
 ghost use Rattle.std.specs.Prelude.{◌≡◌, IfOk, OnOk, map, option_map};
 ghost use Rattle.serde_json.specs.View.{view};
-ghost use Rattle.cad_declarations.specs.Views.{variable_of};
+ghost use Rattle.cad_contract_shapes.specs.Arguments.{argument_shapes, HasDistinctFields};
+ghost use Rattle.cad_declarations.specs.Views.{tables_of, variable_of};
 ghost use Rattle.cad_rows.specs.Views.{pure_row};
 ghost use Rattle.cad_runs.specs.Commands.{types_of};
 ghost use Rattle.cad_script_replies.specs.Code.{Adds, AddsAll, IsRow};
-ghost use Rattle.cad_script_replies.specs.Replies.{value_types};
 ghost use Rattle.cad_shapes.specs.Held.{shapes_of};
 ghost use Rattle.cad_syntax.specs.Types.{pure_type};
 ghost use Rattle.cad_values.specs.Values.{pure_value};
 ghost use Rattle.cad_world.specs.Rows.{add_last};
 ghost use Rattle.cad_world.specs.Trees.{tree_of};
 
-use crate::types::value_types;
-use cad_declarations::Variable;
+use cad_contract_shapes::shapes_of_tables;
+use cad_declarations::{Tables, Variable};
 use cad_json_import::import;
 use cad_rows::{Place, add_last, discard_row};
 use cad_shapes::DeclaredShapes;
@@ -52,22 +52,22 @@ fn push_argument(
     }
 }
 
-/// Appends the values that JSON stands for as arguments for parameters. False where there are more or fewer, or one stands for none.
+/// Appends the values that JSON stands for as arguments of types. False where there are more or fewer, or one stands for none.
 fn push_arguments(
     alloc: Global,
     shapes: &DeclaredShapes,
-    parameters: &[Variable],
+    types: &[&CadType],
     arguments: &[Json],
     row: &mut Vec<Place>,
 ) -> Result<bool, AllocError>
-    ensures { IfOk result (λ stand. AddsAll (shapes_of shapes.now) (types_of (map variable_of parameters.now)) (map view arguments.now) (pure_row row.old.items) (pure_row row.new.items) stand) }
+    ensures { IfOk result (λ stand. AddsAll (shapes_of shapes.now) (map (λ t. pure_type t.now) types.now) (map view arguments.now) (pure_row row.old.items) (pure_row row.new.items) stand) }
 {
     let mut left = arguments;
-    for parameter in parameters {
+    for want in types {
         let [json, more @ ..] = left else {
             return Ok(false);
         };
-        if !push_argument(alloc, shapes, &parameter.declared, json, row)? {
+        if !push_argument(alloc, shapes, want, json, row)? {
             return Ok(false);
         }
         left = more;
@@ -75,17 +75,18 @@ fn push_arguments(
     Ok(left.is_empty())
 }
 
-/// The values that JSON stands for as arguments for parameters, in a row. None where there are more or fewer, or one stands for none.
-fn argument_row(
+/// The values that JSON stands for as arguments of types, in a row, by shapes. None where there are more or fewer, or one stands for
+/// none.
+fn row_by(
     alloc: Global,
     shapes: &DeclaredShapes,
-    parameters: &[Variable],
+    types: &[&CadType],
     arguments: &[Json],
 ) -> Result<Option<Vec<Place>>, AllocError>
-    ensures { IfOk result (λ o. IsRow (shapes_of shapes.now) (types_of (map variable_of parameters.now)) (map view arguments.now) (option_map (λ row. pure_row row.items) o)) }
+    ensures { IfOk result (λ o. IsRow (shapes_of shapes.now) (map (λ t. pure_type t.now) types.now) (map view arguments.now) (option_map (λ row. pure_row row.items) o)) }
 {
     let mut row = Vec::<Place>::new(alloc);
-    match push_arguments(alloc, shapes, parameters, arguments, &mut row) {
+    match push_arguments(alloc, shapes, types, arguments, &mut row) {
         Ok(true) => Ok(Some(row)),
         Ok(false) => {
             discard_row(row);
@@ -98,14 +99,42 @@ fn argument_row(
     }
 }
 
-/// The same beside no contracts.
+/// The values that JSON stands for as arguments of types, in a row, by what a program and all that it imports declare. None where there
+/// are more or fewer, or one stands for none.
+pub fn row_of(
+    alloc: Global,
+    tables: &Tables,
+    types: &[&CadType],
+    arguments: &[Json],
+) -> Result<Option<Vec<Place>>, AllocError>
+    ensures row { IfOk result (λ o. IsRow (argument_shapes (tables_of tables.now)) (map (λ t. pure_type t.now) types.now) (map view arguments.now) (option_map (λ row. pure_row row.items) o)) }
+    ensures distinct { IfOk result (λ o. HasDistinctFields (tables_of tables.now)) }
+{
+    let shapes = shapes_of_tables(alloc, tables)?;
+    row_by(alloc, &shapes, types, arguments)
+}
+
+/// The types of parameters.
+fn parameter_types(alloc: Global, parameters: &[Variable]) -> Result<Vec<&CadType>, AllocError>
+    ensures { IfOk result (λ types. map (λ t. pure_type t.now) types.items ≡ types_of (map variable_of parameters.now)) }
+{
+    let mut types = Vec::new(alloc);
+    for parameter in parameters {
+        types.push(&parameter.declared)?;
+    }
+    Ok(types)
+}
+
+/// The same for the parameters of a function or transaction.
 pub fn row_for(
     alloc: Global,
+    tables: &Tables,
     parameters: &[Variable],
     arguments: &[Json],
 ) -> Result<Option<Vec<Place>>, AllocError>
-    ensures { IfOk result (λ o. IsRow value_types (types_of (map variable_of parameters.now)) (map view arguments.now) (option_map (λ row. pure_row row.items) o)) }
+    ensures row { IfOk result (λ o. IsRow (argument_shapes (tables_of tables.now)) (types_of (map variable_of parameters.now)) (map view arguments.now) (option_map (λ row. pure_row row.items) o)) }
+    ensures distinct { IfOk result (λ o. HasDistinctFields (tables_of tables.now)) }
 {
-    let shapes = value_types(alloc)?;
-    argument_row(alloc, &shapes, parameters, arguments)
+    let types = parameter_types(alloc, parameters)?;
+    row_of(alloc, tables, types.as_slice(), arguments)
 }

@@ -7,14 +7,15 @@ mod main_function;
 mod reply;
 mod running;
 mod script;
-mod types;
 
-pub use laws::one_answer;
-pub use reply::ScriptReply;
-pub use running::{NoContracts, begin_over};
+pub use laws::{answers_extend, one_answer};
+pub use reply::{ScriptReply, Unfinished};
+pub use running::begin_over;
 pub use script::answer;
-pub use types::value_types;
 
-// For the crates above alone: rows of arguments and replies to stops, by the definitions that the code follows.
-pub use arguments::row_for;
-pub use running::reply_to_stop;
+// For the crates above alone: rows of arguments and what is told of stops, by the definitions that the code follows.
+pub use arguments::{row_for, row_of};
+pub use running::{reply_to_stop, unfinished};
+
+// What the crates above use of the ones below.
+pub use cad_scripts::FrontEnd;

@@ -1,5 +1,7 @@
-// Replies to scripts.
+// Replies to scripts, and why there is none.
+use cad_state::Unknown;
 use cad_syntax::Text;
+use std::alloc::AllocError;
 
 /// What a script answers.
 #[derive(Debug, Drop, PartialEq, Eq)]
@@ -14,4 +16,18 @@ pub enum ScriptReply {
     Bad(u16),
     /// A value isn't of the type that it should have.
     IllTyped,
+}
+
+/// Why there is no reply. It isn't let go but by its parts.
+pub enum Unfinished {
+    /// Memory ran out.
+    Memory,
+    /// The run asked of a code of which the front end says nothing: the code, and the contracts beside which it was asked.
+    Unknown(Unknown),
+}
+
+impl From<AllocError> for Unfinished {
+    fn from(_: AllocError) -> Self {
+        Unfinished::Memory
+    }
 }

@@ -2,7 +2,7 @@
 use Rattle.std.proofs.Common.{◌≡◌, subst}
 use Rattle.std.specs.Prelude.{Result, Ok, Err}
 use Rattle.cad_evaluation.specs.Callees.{function, Calls}
-use Rattle.cad_expressions.specs.Code.Steps.{called}
+use Rattle.cad_scripts.specs.Code.{called}
 use Rattle.cad_outcomes.proofs.Steps.{gives_here, stopped, then}
 use Rattle.cad_outcomes.specs.Outcomes.{Gives}
 use Rattle.cad_outcomes.specs.declared.stop.Stop.{Stop}

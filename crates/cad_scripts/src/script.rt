@@ -1,7 +1,7 @@
 // The run of a script.
 ghost use Rattle.std.specs.Prelude.{◌≡◌, IfOk, codes};
 ghost use Rattle.cad_evaluation.specs.Evaluation.{calls_to};
-ghost use Rattle.cad_expressions.specs.Code.Steps as steps;
+ghost use Rattle.cad_scripts.specs.Code as steps;
 ghost use Rattle.cad_outcomes.specs.Outcomes.{Gives};
 ghost use Rattle.cad_rows.specs.Views.{pure_row, pure_tree};
 ghost use Rattle.cad_runs.specs.Run as spec;

@@ -39,5 +39,6 @@ pub fn begin(
         units,
         depth: 0,
         hints: Hints::new(alloc),
+        asked: None,
     }
 }

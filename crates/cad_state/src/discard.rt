@@ -1,5 +1,5 @@
 // The state of a run and its parts are let go.
-use crate::state::{Account, Call, Contract, RunState};
+use crate::state::{Account, Call, Contract, RunState, Unknown};
 use cad_declarations::Checked;
 use cad_discards::discard_checked;
 use cad_rows::{Place, Shape, discard_row, discard_shape};
@@ -106,8 +106,18 @@ pub fn discard_contracts(contracts: Vec<Contract>) {
     left.destroy_empty()
 }
 
-/// Lets the state of a run go.
-pub fn discard_state(state: RunState) {
+/// Lets a code go of which a run asked, and the contracts of the run.
+pub fn discard_unknown(unknown: Unknown) {
+    let Unknown {
+        contracts,
+        question,
+    } = unknown;
+    discard_contracts(contracts);
+    drop(question)
+}
+
+/// Lets the state of a run go, but for the code of which it asked, if any.
+pub fn unknown_of(state: RunState) -> Option<Unknown> {
     let RunState {
         calls,
         making,
@@ -123,6 +133,7 @@ pub fn discard_state(state: RunState) {
         units: _,
         depth: _,
         hints,
+        asked,
     } = state;
     discard_calls(calls);
     discard_row(making);
@@ -130,11 +141,28 @@ pub fn discard_state(state: RunState) {
         Some(all) => discard_accounts(all),
         None => {}
     }
-    discard_contracts(contracts);
     discard_shared(checked);
     discard_values(events);
     drop(made);
     drop(destroyed);
     drop(added);
-    drop(hints)
+    drop(hints);
+    match asked {
+        Some(question) => Some(Unknown {
+            contracts,
+            question,
+        }),
+        None => {
+            discard_contracts(contracts);
+            None
+        }
+    }
+}
+
+/// Lets the state of a run go.
+pub fn discard_state(state: RunState) {
+    match unknown_of(state) {
+        Some(unknown) => discard_unknown(unknown),
+        None => {}
+    }
 }

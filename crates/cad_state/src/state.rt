@@ -2,7 +2,7 @@
 use crate::hints::Hints;
 use cad_declarations::Checked;
 use cad_rows::Place;
-use cad_syntax::{Bytes, CadType, Name, Numbers, TypeId, TypeIds};
+use cad_syntax::{Address, Bytes, CadType, Name, Numbers, TypeId, TypeIds};
 use cad_values::Value;
 use std::rc::Rc;
 
@@ -67,6 +67,19 @@ pub struct Account {
     pub next_controller: u64,
 }
 
+/// A code that is to be added at an address, and of which the front end says nothing.
+#[derive(Drop)]
+pub struct Question {
+    pub address: Address,
+    pub code: Bytes,
+}
+
+/// A code of which a run asked and nothing was known, and the contracts of the run.
+pub struct Unknown {
+    pub contracts: Vec<Contract>,
+    pub question: Question,
+}
+
 /// The state of a run.
 pub struct RunState {
     /// The newest last.
@@ -93,4 +106,6 @@ pub struct RunState {
     pub depth: u64,
     /// Where labels were found last. What they say is tried before it is believed.
     pub hints: Hints,
+    /// The code for which the run stopped, where memory failed of it. It isn't a part of what the state is.
+    pub asked: Option<Question>,
 }

@@ -19,3 +19,6 @@ pub use leaves::{
 };
 pub use loops::for_typing;
 pub use switches::switch_typing;
+
+// What the crates above use of the ones below.
+pub use cad_infer_targets::{infer, infer_event};

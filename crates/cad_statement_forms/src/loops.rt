@@ -7,7 +7,7 @@ ghost use Rattle.cad_statement_trees.specs.Views.{for_typing_of};
 
 use cad_environment::{Environment, Position};
 use cad_grammar::Expr;
-use cad_infer::infer;
+use cad_infer_targets::infer;
 use cad_statement_trees::{ForTyping, for_over};
 use cad_syntax::Name;
 use std::alloc::{AllocError, Global};

@@ -17,7 +17,7 @@ ghost use Rattle.cad_statement_forms.specs.Views.{terms_before, terms_in};
 use cad_declarations::{Term, discard_type};
 use cad_environment::{Environment, Position, Typing, discard_typing, is_nil};
 use cad_grammar::{Case, Expr};
-use cad_infer::infer;
+use cad_infer_targets::infer;
 use cad_statement_parts::{may_be_equal, may_be_switched};
 use cad_statement_trees::SwitchTyping;
 use cad_syntax::CadType;

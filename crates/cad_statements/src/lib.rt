@@ -10,3 +10,6 @@ pub use cad_statement_parts::{
 pub use cad_statement_trees::{ForTyping, StatementTyping, SwitchTyping, TestTyping};
 pub use conditions::{condition, type_conditions, values_at_entry};
 pub use statements::{type_block, type_statement};
+
+// What the crates above use of the ones below.
+pub use cad_statement_forms::infer;

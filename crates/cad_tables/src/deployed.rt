@@ -12,6 +12,7 @@ use cad_declarations::{
     Deployed, EntitlementDeclarations, Installed, MappingDeclarations, Tables, TypeDeclarations,
     is_same_name,
 };
+use cad_discards::{discard_deployed, discard_installed, hold};
 use cad_entries::linked_types;
 use cad_syntax::TypeIds;
 use cad_types::DeclaredTypes;
@@ -34,7 +35,7 @@ fn shared(contract: &Installed) -> Result<Installed, AllocError>
         address: contract.address,
         name: contract.name.clone()?,
         code: contract.code.clone()?,
-        checked: contract.checked.clone()?,
+        checked: hold(&contract.checked)?,
     })
 }
 
@@ -45,11 +46,40 @@ fn is_same_place(a: &Installed, b: &Installed) -> bool
     a.address.0 == b.address.0 && is_same_name(&a.name, &b.name)
 }
 
-/// Appends a contract.
+/// Appends a contract. Where memory fails, nothing is appended.
 fn push_shared(all: &mut Vec<Installed>, contract: &Installed) -> Result<(), AllocError>
     ensures { OnOk result (map entry_of all.new.items ≡ map entry_of all.old.items ++ entry_of contract.now ∷ []) }
 {
-    all.push(shared(contract)?)?;
+    match all.push(shared(contract)?) {
+        Ok(()) => Ok(()),
+        Err(refused) => {
+            discard_installed(refused.value);
+            Err(AllocError)
+        }
+    }
+}
+
+/// Appends the contracts with a new one among or behind them.
+fn push_placed(
+    all: &mut Vec<Installed>,
+    contracts: &[Installed],
+    new: &Installed,
+) -> Result<(), AllocError>
+    requires { all.old.items ≡ [] }
+    ensures { OnOk result (map entry_of all.new.items ≡ with_entry (map entry_of contracts.now) (entry_of new.now)) }
+{
+    let mut is_placed = false;
+    for contract in contracts {
+        if !is_placed && is_same_place(contract, new) {
+            push_shared(all, new)?;
+            is_placed = true;
+        } else {
+            push_shared(all, contract)?;
+        }
+    }
+    if !is_placed {
+        push_shared(all, new)?;
+    }
     Ok(())
 }
 
@@ -62,19 +92,13 @@ fn placed(
     ensures { IfOk result (λ all. map entry_of all.items ≡ with_entry (map entry_of contracts.now) (entry_of new.now)) }
 {
     let mut all = Vec::new(alloc);
-    let mut is_placed = false;
-    for contract in contracts {
-        if !is_placed && is_same_place(contract, new) {
-            push_shared(&mut all, new)?;
-            is_placed = true;
-        } else {
-            push_shared(&mut all, contract)?;
+    match push_placed(&mut all, contracts, new) {
+        Ok(()) => Ok(all),
+        Err(error) => {
+            discard_deployed(Deployed { contracts: all });
+            Err(error)
         }
     }
-    if !is_placed {
-        push_shared(&mut all, new)?;
-    }
-    Ok(all)
 }
 
 /// The same contracts with this one in the place of the one with its address and name, or at the end. Their programs are

@@ -1,9 +1,13 @@
 -- What a transaction comes to, case by case.
-use Rattle.std.proofs.Common.{◌≡◌, ℕ, List, Result, Ok, Err, IfOk, sym, subst}
+use Rattle.std.proofs.Common.{◌≡◌, ◌≢◌, ℕ, List, Result, Ok, Err, IfOk, sym, subst}
 use Rattle.serde_json.specs.Data.{Data}
 use Rattle.cad_syntax.specs.declared.address.Address.{Address}
+use Rattle.cad_declarations.specs.Typed.{TransactionBody}
+use Rattle.cad_runs.specs.Commands.{failed}
+use Rattle.cad_world.specs.Fronts.{Front}
+use Rattle.cad_world.specs.Rows.{Row}
 use Rattle.cad_world.specs.State.{Program, World}
-use Rattle.cad_transaction_replies.specs.Replies.{Outcome, Comes}
+use Rattle.cad_transaction_replies.specs.Replies.{Outcome, Comes, Ran, stays}
 use Rattle.cad_transaction_replies.specs.Views.{Tells}
 use Rattle.cad_transaction_replies.specs.declared.outcome.TransactionOutcome.{TransactionOutcome}
 
@@ -12,8 +16,12 @@ if_ok (Ok a) f h = f a h
 if_ok (Err e) f h = tt
 
 -- what is told is what the program comes to
-abbrev pub IsOutcome : World → Program → List Data → List Address → ℕ → TransactionOutcome → Type 0
-IsOutcome w p all signers units it = (o : Outcome) × Comes w p all signers units o × Tells it o
+abbrev pub IsOutcome : Front → World → Program → List Data → List Address → ℕ → TransactionOutcome → Type 0
+IsOutcome front w p all signers units it = (o : Outcome) × Comes front w p all signers units o × (o ≢ stays (failed 0)) × Tells it o
+
+-- what is told is what its run comes to
+abbrev pub RunsTo : Front → World → Program → TransactionBody → Row → List Address → ℕ → TransactionOutcome → Type 0
+RunsTo front w p t r signers units it = (o : Outcome) × Ran front w p t r signers units o × (o ≢ stays (failed 0)) × Tells it o
 
 -- a reply without a run
 pub refused_with : {E : Type 0} (P : TransactionOutcome → Type 0) (r : Result TransactionOutcome E) (it : TransactionOutcome) → r ≡ Ok it → P it → IfOk r P

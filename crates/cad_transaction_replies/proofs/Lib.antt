@@ -2,4 +2,5 @@ pub mod Signing
 pub mod Listing
 pub mod Runs
 pub mod Coming
+pub mod Extending
 pub mod Uniqueness

@@ -1,7 +1,16 @@
-// A transaction comes to one outcome at most.
-ghost use Rattle.cad_transaction_replies.specs.Replies.{OneOutcome};
+// Laws of what transactions come to.
+ghost use Rattle.cad_transaction_replies.specs.Replies.{OneOutcome, OutcomesExtend};
+
+use cad_bounds::transactions_extend;
 
 /// A transaction comes to one outcome at most over a World.
 pub fn one_outcome()
     ensures { OneOutcome }
 {}
+
+/// An outcome under a front end is one under each that says what it says, where the run asked it of no code of which it says nothing.
+pub fn outcomes_extend()
+    ensures { OutcomesExtend }
+{
+    transactions_extend()
+}

@@ -10,7 +10,10 @@ mod signers;
 mod transaction;
 
 pub use events::push_item;
-pub use laws::one_outcome;
+pub use laws::{one_outcome, outcomes_extend};
 pub use outcome::{Receipt, TransactionOutcome};
 pub use signers::has_account;
 pub use transaction::transact;
+
+// For the crates above alone: what a run of another kind comes to.
+pub use running::outcome_of_run;

@@ -1,10 +1,10 @@
 // What a transaction comes to.
-ghost use Rattle.std.specs.Prelude.{◌≡◌, ◌≤◌, IfOk, Ok, Some, length, map, true};
+ghost use Rattle.std.specs.Prelude.{◌≡◌, ◌≢◌, ◌≤◌, IfOk, Ok, Some, length, map, true};
 ghost use Rattle.serde_json.specs.View.{view};
 ghost use Rattle.cad_declarations.specs.Views.{transaction_of};
-ghost use Rattle.cad_runs.specs.Commands.{are_signers};
+ghost use Rattle.cad_runs.specs.Commands.{are_signers, failed};
 ghost use Rattle.cad_state.specs.Views.{program_of};
-ghost use Rattle.cad_transaction_replies.specs.Replies.{Outcome, Comes};
+ghost use Rattle.cad_transaction_replies.specs.Replies.{Outcome, Comes, stays};
 ghost use Rattle.cad_transaction_replies.specs.Views.{Tells};
 ghost use Rattle.cad_world.specs.Begin.{IsKept};
 ghost use Rattle.cad_worlds.specs.Standing.{world_of};
@@ -14,16 +14,16 @@ use crate::running::outcome_of_row;
 use crate::signers::are_signers;
 use cad_declarations::{Checked, TypedTransaction};
 use cad_discards::discard_checked;
-use cad_script_replies::{ScriptReply, row_for};
+use cad_script_replies::{FrontEnd, ScriptReply, Unfinished, row_for};
 use cad_state::discard_shared;
 use cad_syntax::Address;
 use cad_worlds::{World, discard_world};
 use serde_json::Value as Json;
-use std::alloc::{AllocError, Global};
+use std::alloc::Global;
 use std::rc::Rc;
 
 /// A refusal by its number. The World is let go.
-fn refuse(world: World, number: u16) -> Result<TransactionOutcome, AllocError>
+fn refuse(world: World, number: u16) -> Result<TransactionOutcome, Unfinished>
     ensures { result ≡ Ok (TransactionOutcome.Stays (ScriptReply.Bad number)) }
 {
     discard_world(world);
@@ -32,28 +32,43 @@ fn refuse(world: World, number: u16) -> Result<TransactionOutcome, AllocError>
 
 /// What a transaction comes to, with its signers, on as many arguments as it has parameters: bad 24 where they aren't of their
 /// types, else what its run comes to.
-fn outcome_of_arguments(
+fn outcome_of_arguments<E: FrontEnd>(
     alloc: Global,
+    end: &E,
     checked: &Rc<Checked>,
     transaction: &TypedTransaction,
     world: World,
     arguments: &[Json],
     signers: &[Address],
     limit: u64,
-) -> Result<TransactionOutcome, AllocError>
+) -> Result<TransactionOutcome, Unfinished>
     requires units { limit ≤ 1000000 }
     requires kept { IsKept (world_of world) }
     requires is { (program_of checked.now.value).bodies.transaction ≡ Some (transaction_of transaction.now) }
     requires signed { are_signers (world_of world) (transaction_of transaction.now) signers.now ≡ true }
     requires counted { length arguments.now ≡ length transaction.now.parameters.items }
-    ensures { IfOk result (λ it. (o : Outcome) × Comes (world_of world) (program_of checked.now.value) (map view arguments.now) signers.now limit o × Tells it o) }
+    ensures { IfOk result (λ it. (o : Outcome) × Comes (E.front end.now) (world_of world) (program_of checked.now.value) (map view arguments.now) signers.now limit o × (o ≢ stays (failed 0)) × Tells it o) }
 {
-    match row_for(alloc, transaction.parameters.as_slice(), arguments) {
-        Ok(Some(row)) => outcome_of_row(alloc, checked, transaction, world, row, signers, limit),
+    match row_for(
+        alloc,
+        &checked.tables,
+        transaction.parameters.as_slice(),
+        arguments,
+    ) {
+        Ok(Some(row)) => outcome_of_row(
+            alloc,
+            end,
+            checked,
+            transaction,
+            world,
+            row,
+            signers,
+            limit,
+        ),
         Ok(None) => refuse(world, 24),
-        Err(error) => {
+        Err(_) => {
             discard_world(world);
-            Err(error)
+            Err(Unfinished::Memory)
         }
     }
 }
@@ -61,19 +76,20 @@ fn outcome_of_arguments(
 /// What a transaction comes to: bad 26 where a signer has no account, and where there are more or fewer signers than parameters
 /// of `prepare`; 25 where the arguments are more or fewer than its parameters, 24 where they aren't of their types; else what its
 /// run comes to.
-fn outcome_of_transaction(
+fn outcome_of_transaction<E: FrontEnd>(
     alloc: Global,
+    end: &E,
     checked: &Rc<Checked>,
     transaction: &TypedTransaction,
     world: World,
     arguments: &[Json],
     signers: &[Address],
     limit: u64,
-) -> Result<TransactionOutcome, AllocError>
+) -> Result<TransactionOutcome, Unfinished>
     requires units { limit ≤ 1000000 }
     requires kept { IsKept (world_of world) }
     requires is { (program_of checked.now.value).bodies.transaction ≡ Some (transaction_of transaction.now) }
-    ensures { IfOk result (λ it. (o : Outcome) × Comes (world_of world) (program_of checked.now.value) (map view arguments.now) signers.now limit o × Tells it o) }
+    ensures { IfOk result (λ it. (o : Outcome) × Comes (E.front end.now) (world_of world) (program_of checked.now.value) (map view arguments.now) signers.now limit o × (o ≢ stays (failed 0)) × Tells it o) }
 {
     if !are_signers(&world, transaction, signers) {
         return refuse(world, 26);
@@ -83,6 +99,7 @@ fn outcome_of_transaction(
     }
     outcome_of_arguments(
         alloc,
+        end,
         checked,
         transaction,
         world,
@@ -93,22 +110,24 @@ fn outcome_of_transaction(
 }
 
 /// What a program that others may hold comes to as a transaction.
-fn outcome_of_shared(
+fn outcome_of_shared<E: FrontEnd>(
     alloc: Global,
+    end: &E,
     checked: &Rc<Checked>,
     world: World,
     arguments: &[Json],
     signers: &[Address],
     limit: u64,
-) -> Result<TransactionOutcome, AllocError>
+) -> Result<TransactionOutcome, Unfinished>
     requires units { limit ≤ 1000000 }
     requires kept { IsKept (world_of world) }
-    ensures { IfOk result (λ it. (o : Outcome) × Comes (world_of world) (program_of checked.now.value) (map view arguments.now) signers.now limit o × Tells it o) }
+    ensures { IfOk result (λ it. (o : Outcome) × Comes (E.front end.now) (world_of world) (program_of checked.now.value) (map view arguments.now) signers.now limit o × (o ≢ stays (failed 0)) × Tells it o) }
 {
     match &checked.bodies.transaction {
         Some(transaction) => {
             outcome_of_transaction(
                 alloc,
+                end,
                 checked,
                 transaction,
                 world,
@@ -121,32 +140,34 @@ fn outcome_of_shared(
     }
 }
 
-/// What a program comes to as a transaction over a World without contracts, with JSON as its arguments, these signers and so many
-/// units. Bad 26 where it is no transaction, where a signer has no account, and where there are more or fewer signers than
-/// parameters of `prepare`; 25 where the arguments are more or fewer than its parameters, 24 where they aren't of their types;
-/// else the number of its error, that the units were too few, or its receipt and the World that it leaves.
-pub fn transact(
+/// What a program comes to as a transaction over a World, with JSON as its arguments, these signers and so many units, under a front end
+/// that is asked of the codes that it adds. Bad 26 where it is no transaction, where a signer has no account, and where there are more
+/// or fewer signers than parameters of `prepare`; 25 where the arguments are more or fewer than its parameters, 24 where they aren't of
+/// their types; else the number of its error, that the units were too few, or its receipt and the World that it leaves. Unknown where the
+/// run asked of a code of which the front end says nothing.
+pub fn transact<E: FrontEnd>(
     alloc: Global,
+    end: &E,
     checked: Checked,
     world: World,
     arguments: &[Json],
     signers: &[Address],
     limit: u64,
-) -> Result<TransactionOutcome, AllocError>
+) -> Result<TransactionOutcome, Unfinished>
     requires units { limit ≤ 1000000 }
     requires kept { IsKept (world_of world) }
-    ensures { IfOk result (λ it. (o : Outcome) × Comes (world_of world) (program_of checked) (map view arguments.now) signers.now limit o × Tells it o) }
+    ensures { IfOk result (λ it. (o : Outcome) × Comes (E.front end.now) (world_of world) (program_of checked) (map view arguments.now) signers.now limit o × (o ≢ stays (failed 0)) × Tells it o) }
 {
     match Rc::new(alloc, checked) {
         Ok(shared) => {
-            let outcome = outcome_of_shared(alloc, &shared, world, arguments, signers, limit);
+            let outcome = outcome_of_shared(alloc, end, &shared, world, arguments, signers, limit);
             discard_shared(shared);
             outcome
         }
         Err(refused) => {
             discard_checked(refused.value);
             discard_world(world);
-            Err(AllocError)
+            Err(Unfinished::Memory)
         }
     }
 }

@@ -145,7 +145,9 @@ fn parts_of(state: RunState) -> Option<Left>
         units: _,
         depth: _,
         hints,
+        asked,
     } = state;
+    drop(asked);
     discard_rest(calls, making, checked, hints);
     match accounts {
         Some(accounts) => Some(Left {

@@ -2,7 +2,7 @@
 use Rattle.std.specs.Prelude.{option_map, map}
 use Rattle.cad_declarations.specs.Views as typed
 use Rattle.cad_environment.specs.Views.{local_of}
-use Rattle.cad_statements.specs.Views.{judged, conditions_in}
+use Rattle.cad_routines.specs.Passed.{judged, conditions_in}
 use Rattle.cad_transactions.specs.Code.Parts as parts
 use Rattle.cad_transactions.specs.declared.transaction.TransactionLocals.{TransactionLocals}
 use Rattle.cad_transactions.specs.declared.transaction.TransactionTyping.{TransactionTyping}

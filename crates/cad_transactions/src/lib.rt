@@ -9,3 +9,6 @@ pub use transaction::{
     Standing, TransactionLocals, TransactionTyping, discard_transaction_typing, transaction_body,
     transaction_locals, type_parts,
 };
+
+// What the crates above use of the ones below.
+pub use cad_routines::{destroyed_event, type_function, type_initializer, type_top_function};

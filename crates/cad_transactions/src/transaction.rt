@@ -6,7 +6,7 @@ ghost use Rattle.cad_declarations.specs.Entries as entries;
 ghost use Rattle.cad_declarations.specs.Views.{before_of, block_of, condition_of, tables_of, transaction_of, variable_of};
 ghost use Rattle.cad_environment.specs.Views.{environment_of, local_of, part_of, scopes_of};
 ghost use Rattle.cad_scopes.specs.Views.{scope_of};
-ghost use Rattle.cad_statements.specs.Views.{conditions_in, judged};
+ghost use Rattle.cad_routines.specs.Passed.{conditions_in, judged};
 ghost use Rattle.cad_typing.specs.Conditions as conditions;
 ghost use Rattle.cad_typing.specs.Functions as functions;
 ghost use Rattle.cad_typing.specs.Locals as locals;
@@ -26,7 +26,7 @@ use cad_heads::{
 use cad_paths::FieldRule;
 use cad_routines::{parameter_locals, type_body};
 use cad_scopes::Scope;
-use cad_statements::{
+use cad_routines::{
     Surroundings, count_all, entries_of, is_var_word, type_conditions, values_at_entry,
 };
 use cad_syntax::{Basic, CadType};

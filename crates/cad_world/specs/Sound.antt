@@ -13,7 +13,7 @@ use Rattle.cad_world.specs.Rows.{Row, stop, gap, node, Tree, alone}
 use Rattle.cad_world.specs.State.{Publication, Controller, Account, Contract, Program, World}
 use Rattle.cad_world.specs.Trees.{value_of}
 use Rattle.cad_world.specs.Fits.{FitsItself, Lasts}
-use Rattle.cad_world.specs.Fronts.{Front}
+use Rattle.cad_world.specs.Fronts.{Front, accepted}
 use Rattle.cad_world.specs.Live.{live}
 use Rattle.cad_world.specs.Orders.{rises, name_before, publication_before, controller_before, contract_before}
 use Rattle.cad_world.specs.Registers.{Coding, map_of}
@@ -85,7 +85,7 @@ abbrev pub Accepts : Type 1
 Accepts = List Contract → Address → List ℕ → Program → Type 0
 
 abbrev pub accepted_by : Front → Accepts
-accepted_by front contracts address code p = front contracts address code ≡ Some p
+accepted_by front contracts address code p = front contracts address code ≡ accepted p
 
 -- its code is one contract of the name under which it stands, accepted beside the others
 pub record SoundContract (accepts : Accepts) (w : World) (c : Contract) : Type 0 where

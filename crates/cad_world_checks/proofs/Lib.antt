@@ -1,5 +1,8 @@
 pub mod OfValues
 pub mod Soundness
+pub mod WholeWorld
+pub mod Resources
+pub mod Numbers
 pub mod ReadBack
 pub mod AllOf
 pub mod Pairs

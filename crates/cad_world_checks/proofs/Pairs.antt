@@ -1,10 +1,12 @@
 -- Lists of which each item is compared with the next.
 use Rattle.std.proofs.Common.{◌≡◌, ◌<◌, ◌≤◌, ℕ, zero, suc, Bool, true, false, List, [], ◌∷◌, map, length, drop, get_or, refl, sym, ap, subst, ◌∙◌, arith}
 use Rattle.std.specs.Prelude.{◌&&◌}
-use Rattle.cad_state.specs.Views.{controller_of, publication_of}
+use Rattle.cad_state.specs.Views.{contract_of, controller_of, publication_of}
+use Rattle.cad_state.specs.declared.state.Contract.{Contract}
 use Rattle.cad_state.specs.declared.state.Controller.{Controller}
 use Rattle.cad_state.specs.declared.state.Publication.{Publication}
 use Rattle.cad_world.specs.Orders.{rises, name_before, publication_before, controller_before}
+use Rattle.cad_world_checks.specs.Checks.{named_before}
 
 -- the test is that each item stands near the next
 pub record Chained {X : Type 0} (near : X → X → Bool) (test : List X → Bool) : Type 0 where
@@ -42,7 +44,7 @@ last near test t (x ∷ xs) (suc k) le = last near test t xs k (omega (arith, le
 pub pair_end : {X : Type 0} (near : X → X → Bool) (test : List X → Bool) → Chained near test → (xs : List X) (k : ℕ) (all : Bool) → length xs ≤ suc k → test (drop k xs) ≡ all → true ≡ all
 pair_end near test t xs k all le so = sym (last near test t xs k le) ∙ so
 
--- ---- names, publications and controllers
+-- ---- names, publications, controllers and contracts
 
 pub names_chained : Chained name_before (rises name_before)
 names_chained = record { none = refl; one = λ x. refl; more = λ x y xs. refl }
@@ -64,3 +66,12 @@ controlled_rise cs = rises controller_before (map controller_of cs)
 
 pub controlled_chained : Chained controlled_near controlled_rise
 controlled_chained = record { none = refl; one = λ x. refl; more = λ x y xs. refl }
+
+abbrev pub named_near : Contract → Contract → Bool
+named_near c d = named_before (contract_of c) (contract_of d)
+
+abbrev pub named_rise : List Contract → Bool
+named_rise cs = rises named_before (map contract_of cs)
+
+pub named_chained : Chained named_near named_rise
+named_chained = record { none = refl; one = λ x. refl; more = λ x y xs. refl }

@@ -1,11 +1,13 @@
 -- What is read again from its bytes has bytes of its own.
-use Rattle.std.proofs.Common.{◌≡◌, ◌↔◌, IsTrue, Bool, true, false, Some, None, refl, sym, subst, ◌∙◌}
+use Rattle.std.proofs.Common.{◌≡◌, ◌↔◌, IsTrue, Bool, true, false, List, [], ◌∷◌, length, get_or, Some, None, refl, sym, subst, ◌∙◌, arith}
 use Rattle.std.specs.Prelude.{◌&&◌}
 use Rattle.std.specs.List.{AllByRecursion}
+use Rattle.std.specs.Str.{IsUtf8}
 use Rattle.std.proofs.lemmas.Bool.{false≢true}
 use Rattle.cad_accounts.proofs.Order.{both}
 use Rattle.cad_codec.specs.Forms.{HasBytes, IsForm, AreForms, EntriesAreForms, FieldsAreForms}
 use Rattle.cad_rows.specs.Views.{PlaceView, vacant, taken, before}
+use Rattle.cad_syntax.specs.declared.text.Name.{Name}
 use Rattle.cad_values.specs.Forms.{has_no_reference, is_plain_lasting, all_values, all_entries, all_fields}
 use Rattle.cad_values.specs.Values.{PureValue, Values, no_values, values, Entries, no_entries, entries, Fields, no_fields, fields}
 use Rattle.cad_values.specs.Values as v
@@ -14,7 +16,7 @@ use Rattle.cad_world.specs.Registers.{row_values}
 use Rattle.cad_world.specs.Rows.{Row}
 use Rattle.cad_world.specs.State as s
 use Rattle.cad_world_checks.specs.Checks.{PlaceHasBytes, LentHasBytes, BorrowedHasBytes}
-use Rattle.cad_worlds.specs.Standing.{AccountHasBytes}
+use Rattle.cad_worlds.specs.Standing.{AccountHasBytes, AreOneText, ContractHasBytes, WorldHasBytes}
 
 -- ---- no reference is in what has bytes
 
@@ -67,3 +69,19 @@ not_stored a refuses = ((λ h. absurd (false≢true h)), (λ has. absurd (refuse
 
 pub not_lent : (a : s.Account) → (AllByRecursion LentHasBytes a.published → ⊥) → IsTrue false ↔ AccountHasBytes a
 not_lent a refuses = ((λ h. absurd (false≢true h)), (λ has. absurd (refuses has.lent)))
+
+pub contract_has : (b : Bool) (c : s.Contract) → AreOneText c.id.names → (IsTrue b ↔ AllByRecursion HasBytes (row_values c.value)) → IsTrue b ↔ ContractHasBytes c
+contract_has b c name tells = ((λ h. record { name = name; value = tells.0 h }), (λ has. tells.1 has.value))
+
+pub world_has : (b : Bool) (w : s.World) → AllByRecursion AccountHasBytes w.accounts → (IsTrue b ↔ AllByRecursion ContractHasBytes w.contracts) → IsTrue b ↔ WorldHasBytes w
+world_has b w accounts tells = ((λ h. record { accounts = accounts; contracts = tells.0 h }), (λ has. tells.1 has.contracts))
+
+pub one_text : (ns : List Name) → AreOneText ns → length ns ≡ 1
+one_text [] t = absurd t
+one_text (n ∷ []) t = refl
+one_text (n ∷ m ∷ ns) t = absurd t
+
+pub text_so : (ns : List Name) (n : Name) → length ns ≡ 1 → n ≡ get_or ns 0 n → IsUtf8 n.0 → IsTrue true ↔ AreOneText ns
+text_so [] n one is text = absurd (omega (arith, one))
+text_so (m ∷ k ∷ ns) n one is text = absurd (omega (arith, one))
+text_so (m ∷ []) n one is text = ((λ h. subst (λ (x : Name). IsUtf8 x.0) is text), (λ t. refl))

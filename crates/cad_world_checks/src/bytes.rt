@@ -3,19 +3,19 @@ ghost use Rattle.std.specs.Prelude.{◌≡◌, ◌↔◌, IsTrue, IfOk, map};
 ghost use Rattle.std.specs.List.{AllByRecursion};
 ghost use Rattle.cad_codec.specs.Forms.{HasBytes, TypeHasBytes};
 ghost use Rattle.cad_rows.specs.Views.{pure_place, pure_row, pure_tree};
-ghost use Rattle.cad_state.specs.Views.{account_of, controller_of, publication_of};
+ghost use Rattle.cad_state.specs.Views.{account_of, contract_of, controller_of, publication_of};
 ghost use Rattle.cad_syntax.specs.Types.{pure_type};
 ghost use Rattle.cad_values.specs.Values.{pure_value};
 ghost use Rattle.cad_world.specs.Registers.{row_values};
 ghost use Rattle.cad_world.specs.Trees.{value_of};
 ghost use Rattle.cad_world_checks.specs.Checks.{PlaceHasBytes, LentHasBytes, BorrowedHasBytes};
-ghost use Rattle.cad_worlds.specs.Standing.{AccountHasBytes, WorldHasBytes, world_of};
+ghost use Rattle.cad_worlds.specs.Standing.{AccountHasBytes, AreOneText, ContractHasBytes, WorldHasBytes, world_of};
 
 use cad_codec::{DecodeError, decode, decode_type, encode, encode_type};
 use cad_declarations::discard_type;
 use cad_rows::{Place, Tree};
-use cad_state::{Account, Controller, Publication, discard_value};
-use cad_syntax::CadType;
+use cad_state::{Account, Contract, Controller, Publication, discard_value};
+use cad_syntax::{CadType, Name};
 use cad_value_trees::value_from_tree;
 use cad_values::{Value, has_no_reference, same};
 use cad_worlds::World;
@@ -178,11 +178,52 @@ fn accounts_have_bytes(alloc: Global, accounts: &[Account]) -> Result<bool, Allo
     Ok(true)
 }
 
+/// Whether there is one name, which is a text.
+fn are_one_text(names: &[Name]) -> bool
+    ensures { IsTrue result ↔ AreOneText names.now }
+{
+    match names {
+        [name] => {
+            let _text = name.0.as_str();
+            true
+        }
+        _ => false,
+    }
+}
+
+/// Whether the name and the value of a contract have bytes of their own.
+fn contract_has_bytes(alloc: Global, contract: &Contract) -> Result<bool, AllocError>
+    ensures { IfOk result (λ b. IsTrue b ↔ ContractHasBytes (contract_of contract.now)) }
+{
+    if !are_one_text(contract.id.names.as_slice()) {
+        return Ok(false);
+    }
+    let places = contract.value.as_slice();
+    row_has_bytes(alloc, places)
+}
+
+/// Whether those of all contracts have.
+fn contracts_have_bytes(alloc: Global, contracts: &[Contract]) -> Result<bool, AllocError>
+    ensures { IfOk result (λ b. IsTrue b ↔ AllByRecursion ContractHasBytes (map contract_of contracts.now)) }
+{
+    for contract in contracts {
+        if !contract_has_bytes(alloc, contract)? {
+            return Ok(false);
+        }
+    }
+    Ok(true)
+}
+
 /// Whether the values and types in a World have bytes that no others have. AllocError where memory runs out, or where a text
 /// or a list has 2^32 items or more.
 pub fn has_bytes(alloc: Global, world: &World) -> Result<bool, AllocError>
     ensures { IfOk result (λ b. IsTrue b ↔ WorldHasBytes (world_of world.now)) }
 {
     let accounts = world.accounts.as_slice();
-    accounts_have_bytes(alloc, accounts)
+    let held = accounts_have_bytes(alloc, accounts)?;
+    if !held {
+        return Ok(false);
+    }
+    let contracts = world.contracts.as_slice();
+    contracts_have_bytes(alloc, contracts)
 }

@@ -2,8 +2,11 @@
 #![tactic(auto)]
 
 mod bytes;
+mod contracts;
+mod identities;
 mod of_values;
 mod sound;
 
 pub use bytes::has_bytes;
+pub use identities::live_identities;
 pub use sound::is_sound;

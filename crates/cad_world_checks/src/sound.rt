@@ -10,9 +10,12 @@ ghost use Rattle.cad_world.specs.Fits.{FitsItself, Lasts};
 ghost use Rattle.cad_world.specs.Orders as orders;
 ghost use Rattle.cad_world.specs.Sound as spec;
 ghost use Rattle.cad_world.specs.Sound.{most_accounts};
+ghost use Rattle.cad_world.specs.Shapes as known;
 ghost use Rattle.cad_world_checks.specs.Checks as checks;
-ghost use Rattle.cad_worlds.specs.Standing.{IsSound, no_shapes, world_of};
+ghost use Rattle.cad_worlds.specs.Standing.{IsSoundButCode, world_of};
 
+use crate::contracts::are_sound_contracts;
+use crate::identities::{are_own, has_identities};
 use crate::of_values::is_of_value;
 use cad_declarations::discard_type;
 use cad_fits::{fits, is_storable};
@@ -93,7 +96,7 @@ fn controllers_rise(controllers: &[Controller]) -> bool
 // ---- what is stored
 
 /// Whether a value can be stored, and isn't too high.
-fn can_last(value: &Value) -> bool
+pub(crate) fn can_last(value: &Value) -> bool
     ensures { IsTrue result ↔ checks.CanLast (pure_value value.now) }
 {
     if !is_storable(value) {
@@ -122,12 +125,21 @@ fn is_kept_value(alloc: Global, shapes: &DeclaredShapes, value: &Value) -> Resul
     fits_itself(alloc, shapes, value)
 }
 
-/// Whether a tree is a value that can stand in an account between commands.
-fn is_kept_tree(alloc: Global, shapes: &DeclaredShapes, tree: &Tree) -> Result<bool, AllocError>
-    requires { shapes_of shapes.now ≡ no_shapes }
-    ensures { IfOk result (λ b. IsTrue b ↔ (FitsItself no_shapes (pure_tree tree.now) × Lasts no_shapes (pure_tree tree.now))) }
+/// Whether a tree is that of a value whose resources have identities.
+pub(crate) fn can_stand(shapes: &DeclaredShapes, tree: &Tree) -> bool
+    ensures { IsTrue result ↔ checks.CanStand (shapes_of shapes.now) (pure_tree tree.now) }
 {
     if !is_of_value(tree) {
+        return false;
+    }
+    has_identities(tree, shapes)
+}
+
+/// Whether a tree is a value that can stand in an account between commands.
+fn is_kept_tree(alloc: Global, shapes: &DeclaredShapes, tree: &Tree) -> Result<bool, AllocError>
+    ensures { IfOk result (λ b. IsTrue b ↔ (FitsItself (shapes_of shapes.now) (pure_tree tree.now) × Lasts (shapes_of shapes.now) (pure_tree tree.now))) }
+{
+    if !can_stand(shapes, tree) {
         return Ok(false);
     }
     let value = value_from_tree(alloc, tree)?;
@@ -144,8 +156,7 @@ fn is_kept_node(
     labels: &Numbers,
     tree: &Tree,
 ) -> Result<bool, AllocError>
-    requires { shapes_of shapes.now ≡ no_shapes }
-    ensures { IfOk result (λ b. IsTrue b ↔ checks.IsKept name.now (taken labels.now (pure_tree tree.now))) }
+    ensures { IfOk result (λ b. IsTrue b ↔ checks.IsKept (shapes_of shapes.now) name.now (taken labels.now (pure_tree tree.now))) }
 {
     let _text = name.0.as_str();
     if !labels.is_empty() {
@@ -161,8 +172,7 @@ fn is_kept_place(
     name: &Name,
     place: &Place,
 ) -> Result<bool, AllocError>
-    requires { shapes_of shapes.now ≡ no_shapes }
-    ensures { IfOk result (λ b. IsTrue b ↔ checks.IsKept name.now (pure_place place.now)) }
+    ensures { IfOk result (λ b. IsTrue b ↔ checks.IsKept (shapes_of shapes.now) name.now (pure_place place.now)) }
 {
     match place {
         Place::Empty => Ok(false),
@@ -184,8 +194,7 @@ fn are_stored(
     names: &[Name],
     places: &[Place],
 ) -> Result<bool, AllocError>
-    requires { shapes_of shapes.now ≡ no_shapes }
-    ensures { IfOk result (λ b. IsTrue b ↔ spec.AreStored no_shapes names.now (pure_row places.now)) }
+    ensures { IfOk result (λ b. IsTrue b ↔ spec.AreStored (shapes_of shapes.now) names.now (pure_row places.now)) }
 {
     if !are_as_many(names, places) {
         return Ok(false);
@@ -301,8 +310,7 @@ fn is_sound_account(
     shapes: &DeclaredShapes,
     account: &Account,
 ) -> Result<bool, AllocError>
-    requires { shapes_of shapes.now ≡ no_shapes }
-    ensures { IfOk result (λ b. IsTrue b ↔ spec.SoundAccount no_shapes (account_of account.now)) }
+    ensures { IfOk result (λ b. IsTrue b ↔ spec.SoundAccount (shapes_of shapes.now) (account_of account.now)) }
 {
     let next = account.next_controller;
     if next < 1 {
@@ -330,8 +338,7 @@ fn are_sound_accounts(
     shapes: &DeclaredShapes,
     accounts: &[Account],
 ) -> Result<bool, AllocError>
-    requires { shapes_of shapes.now ≡ no_shapes }
-    ensures { IfOk result (λ b. IsTrue b ↔ All (spec.SoundAccount no_shapes) (map account_of accounts.now)) }
+    ensures { IfOk result (λ b. IsTrue b ↔ All (spec.SoundAccount (shapes_of shapes.now)) (map account_of accounts.now)) }
 {
     for account in accounts {
         if !is_sound_account(alloc, shapes, account)? {
@@ -358,13 +365,13 @@ fn can_be_next(count: usize, identity: u64) -> bool
     identity == 1
 }
 
-/// Whether a World is sound, judged by what is known of types beside no contracts. No resource is a value there, so no identity
-/// lives.
+/// Whether a World is sound, whatever programs the codes of its contracts are: judged by what these programs declare.
 pub fn is_sound(alloc: Global, shapes: &DeclaredShapes, world: &World) -> Result<bool, AllocError>
-    requires { shapes_of shapes.now ≡ no_shapes }
-    ensures { IfOk result (λ b. IsTrue b ↔ IsSound (world_of world.now)) }
+    requires { shapes_of shapes.now ≡ known.shapes (world_of world.now).contracts }
+    ensures { IfOk result (λ b. IsTrue b ↔ IsSoundButCode (world_of world.now)) }
 {
     let accounts = world.accounts.as_slice();
+    let contracts = world.contracts.as_slice();
     let count = accounts.len();
     let identity = world.next_identity;
     if !are_few(count) {
@@ -376,5 +383,13 @@ pub fn is_sound(alloc: Global, shapes: &DeclaredShapes, world: &World) -> Result
     if !can_be_next(count, identity) {
         return Ok(false);
     }
-    are_sound_accounts(alloc, shapes, accounts)
+    let contracts_sound = are_sound_contracts(alloc, shapes, count, contracts)?;
+    if !contracts_sound {
+        return Ok(false);
+    }
+    let accounts_sound = are_sound_accounts(alloc, shapes, accounts)?;
+    if !accounts_sound {
+        return Ok(false);
+    }
+    are_own(alloc, identity, accounts, contracts)
 }

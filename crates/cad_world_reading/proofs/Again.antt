@@ -15,8 +15,11 @@ use Rattle.cad_codec.specs.Forms.{HasBytes, TypeHasBytes}
 use Rattle.cad_codec.specs.Ranges.{TextInRange}
 use Rattle.cad_codec.specs.TypeBytes.{type_bytes}
 use Rattle.cad_codec.specs.ValueBytes.{value_bytes}
+use Rattle.cad_declarations.specs.Imports.{contract_id}
 use Rattle.cad_syntax.specs.Types.{PureType, pure_type}
+use Rattle.cad_syntax.specs.declared.address.Address.{Address}
 use Rattle.cad_syntax.specs.declared.text.Name.{Name}
+use Rattle.cad_syntax.specs.declared.type_id.TypeId.{TypeId}
 use Rattle.cad_syntax.specs.declared.types.CadType.{CadType}
 use Rattle.cad_values.specs.Values.{PureValue, pure_value, capability}
 use Rattle.cad_values.specs.declared.value.Value.{Value}
@@ -24,9 +27,11 @@ use Rattle.cad_wire.proofs.FieldLaws.{number_again, bytes_again}
 use Rattle.cad_wire.specs.Fields.{◌>>=◌, AreBytes, number_field, bytes_field, number_at, bytes_at}
 use Rattle.cad_wire.specs.declared.error.DecodeError.{DecodeError}
 use Rattle.cad_wire.specs.declared.error.DecodeError.TheVariants.{Damaged, Memory}
-use Rattle.cad_world.specs.State.{Publication, Controller, World}
-use Rattle.cad_worlds.specs.Items.{Item, head, next, stored, published, controlled, told, IsTold, put, put_all}
-use Rattle.cad_world_reading.specs.Told.{number_in, name_in, value_in, type_in, lent_by, lent_in, head_in, next_in, stored_in, published_in, controller_in, controlled_in, item_in, made, all_made}
+use Rattle.cad_world.specs.Orders.{contract_name}
+use Rattle.cad_world.specs.State.{Publication, Controller}
+use Rattle.cad_worlds.specs.Items.{Item, head, next, code, fields, stored, published, controlled, told, IsTold, Draft, put, put_all}
+use Rattle.cad_worlds.specs.Standing.{AreOneText}
+use Rattle.cad_world_reading.specs.Told.{number_in, name_in, value_in, type_in, lent_by, lent_in, contract_at, head_in, next_in, code_in, fields_in, stored_in, published_in, controller_in, controlled_in, item_in, made, all_made}
 
 -- a step that gives something, and what is done with it
 then_is : {A B : Type 0} {o : Option A} {a : A} {r : Option B} → o ≡ Some a → (f : A → Option B) → f a ≡ r → (o >>= f) ≡ r
@@ -92,6 +97,25 @@ next_again n number a b =
     then_is (number_all n a) (λ m. number_in (number_field number) >>= λ i. Some (next m i))
     (then_is (number_all number b) (λ i. Some (next n i)) refl)
 
+named_again : (address : Address) (names : List Name) → address.0 < 2 ^ 64 → AreOneText names → contract_at (number_field address.0 ++ contract_name (record { address = address; names = names })) ≡ Some (record { address = address; names = names })
+named_again address [] a text = absurd text
+named_again address (n ∷ []) a text =
+    ap (λ (l : List ℕ). contract_at (number_field address.0 ++ l)) (append-nil n.0)
+    ∙ then_is (number_again address.0 n.0 a) (λ m. name_in m.1 >>= λ i. Some (contract_id m.0 i))
+    (then_is (name_all n text) (λ i. Some (contract_id address.0 i)) refl)
+named_again address (n ∷ m ∷ names) a text = absurd text
+
+contract_again : (id : TypeId) → id.address.0 < 2 ^ 64 → AreOneText id.names → contract_at (number_field id.address.0 ++ contract_name id) ≡ Some id
+contract_again id a text = named_again id.address id.names a text
+
+code_again : (id : TypeId) (bytes : List ℕ) → id.address.0 < 2 ^ 64 → AreOneText id.names → code_in (number_field id.address.0 ++ contract_name id) bytes ≡ Some (code id bytes)
+code_again id bytes a text = then_is (contract_again id a text) (λ c. Some (code c bytes)) refl
+
+fields_again : (id : TypeId) (v : PureValue) → id.address.0 < 2 ^ 64 → AreOneText id.names → HasBytes v → fields_in (number_field id.address.0 ++ contract_name id) (value_bytes v) ≡ Some (fields id v)
+fields_again id v a text has =
+    then_is (contract_again id a text) (λ c. value_in (value_bytes v) >>= λ x. Some (fields c x))
+    (then_is (value_all v has) (λ x. Some (fields id x)) refl)
+
 stored_again : (n : ℕ) (i : Name) (v : PureValue) → n < 2 ^ 64 → IsUtf8 i.0 → HasBytes v → stored_in (number_field n ++ i.0) (value_bytes v) ≡ Some (stored n i v)
 stored_again n i v a text has =
     then_is (number_again n i.0 a) (λ m. name_in m.1 >>= λ j. value_in (value_bytes v) >>= λ x. Some (stored m.0 j x))
@@ -126,12 +150,14 @@ controlled_again n c a b target tag has =
 again : (x : Item) → IsTold x → item_in (told x).key (told x).bytes ≡ Some x
 again (head count identity) t = head_again count identity t.0 t.1
 again (next n number) t = next_again n number t.0 t.1
+again (code id bytes) t = code_again id bytes t.0 t.1
+again (fields id v) t = fields_again id v t.0 t.1 t.2
 again (stored n i v) t = stored_again n i v t.0 t.1 t.2
 again (published n p) t = published_again n p t.0 t.1 t.2
 again (controlled n c) t = controlled_again n c t.0 t.1 t.2 t.3 t.4
 
 -- ---- all of them
 
-pub made_again : (xs : List Item) (w : World) → AllByRecursion IsTold xs → all_made (map told xs) w ≡ Some (put_all xs w)
-made_again [] w t = refl
-made_again (x ∷ xs) w t = then_is (ap (λ o. made o w) (again x t.0)) (λ v. all_made (map told xs) v) (made_again xs (put x w) t.1)
+pub made_again : (xs : List Item) (d : Draft) → AllByRecursion IsTold xs → all_made (map told xs) d ≡ Some (put_all xs d)
+made_again [] d t = refl
+made_again (x ∷ xs) d t = then_is (ap (λ o. made o d) (again x t.0)) (λ e. all_made (map told xs) e) (made_again xs (put x d) t.1)

@@ -2,16 +2,19 @@
 use Rattle.std.proofs.Common.{◌≡◌, ◌<◌, ◌≤◌, ℕ, zero, suc, List, [], ◌∷◌, ◌++◌, map, length, get_or, refl, sym, ap, ◌∙◌, arith}
 use Rattle.std.proofs.lemmas.List.{map-append}
 use Rattle.std.specs.Prelude.{slice_set}
+use Rattle.cad_loading.specs.Views.{source_of}
+use Rattle.cad_loading.specs.declared.loading.Source.{Source}
+use Rattle.cad_values.specs.declared.value.Value.{Value}
 use Rattle.cad_world.specs.Labels.{change_account}
 use Rattle.cad_world.specs.State as s
 use Rattle.cad_state.specs.Views.{account_of, controller_of, publication_of}
 use Rattle.cad_state.specs.declared.state.Account.{Account}
 use Rattle.cad_state.specs.declared.state.Controller.{Controller}
 use Rattle.cad_state.specs.declared.state.Publication.{Publication}
-use Rattle.cad_world_reading.specs.Meaning.{item_at, changed_by}
+use Rattle.cad_world_reading.specs.Meaning.{item_at, changed_by, value_row}
 use Rattle.cad_world_reading.specs.declared.saying.Change.{Change}
 use Rattle.cad_world_reading.specs.declared.saying.Change.TheVariants as change
-use Rattle.cad_worlds.specs.Items.{put, on_account_at}
+use Rattle.cad_worlds.specs.Items.{Draft, put, on_account_at}
 
 pub changed_there : (g : s.Account → s.Account) (all : List Account) (n i : ℕ) (old new : Account) → n ≡ suc i → i < length all → old ≡ get_or all i old → account_of new ≡ g (account_of old)
     → map account_of (slice_set all i new) ≡ change_account n g (map account_of all)
@@ -43,7 +46,13 @@ controlled_more cs c = map-append controller_of cs (c ∷ [])
 pub accounts_more : (all : List Account) (a : Account) → map account_of (all ++ a ∷ []) ≡ map account_of all ++ account_of a ∷ []
 accounts_more all a = map-append account_of all (a ∷ [])
 
-pub put_at : (n : ℕ) (c : Change) (w : s.World) → put (item_at n c) w ≡ on_account_at n (changed_by c) w
-put_at n (change.Stored i v) w = refl
-put_at n (change.Published p) w = refl
-put_at n (change.Controlled c) w = refl
+pub sources_more : (ss : List Source) (s : Source) → map source_of (ss ++ s ∷ []) ≡ map source_of ss ++ source_of s ∷ []
+sources_more ss s = map-append source_of ss (s ∷ [])
+
+pub values_more : (vs : List Value) (v : Value) → map value_row (vs ++ v ∷ []) ≡ map value_row vs ++ value_row v ∷ []
+values_more vs v = map-append value_row vs (v ∷ [])
+
+pub put_at : (n : ℕ) (c : Change) (d : Draft) → put (item_at n c) d ≡ on_account_at n (changed_by c) d
+put_at n (change.Stored i v) d = refl
+put_at n (change.Published p) d = refl
+put_at n (change.Controlled c) d = refl

@@ -3,14 +3,16 @@ use Rattle.std.specs.Prelude.{ℕ, ◌==◌, List, [], ◌∷◌, Option, Some, 
 use Rattle.std.specs.Str.{is_utf8}
 use Rattle.cad_codec.specs.Code.Fields.{name_of}
 use Rattle.cad_codec.specs.Code.Values.{value_at, whole, whole_type_at}
+use Rattle.cad_declarations.specs.Imports.{contract_id}
 use Rattle.cad_syntax.specs.Types.{PureType}
 use Rattle.cad_syntax.specs.declared.text.Name.{Name}
+use Rattle.cad_syntax.specs.declared.type_id.TypeId.{TypeId}
 use Rattle.cad_values.specs.Sizes.{most_high}
 use Rattle.cad_values.specs.Values.{PureValue, capability}
 use Rattle.cad_wire.specs.Fields.{◌>>=◌, number_at, bytes_at}
 use Rattle.cad_world.specs.Registers.{Register}
-use Rattle.cad_world.specs.State.{Controller, World}
-use Rattle.cad_worlds.specs.Items.{Item, head, next, stored, published, controlled, put}
+use Rattle.cad_world.specs.State.{Controller}
+use Rattle.cad_worlds.specs.Items.{Item, head, next, code, fields, stored, published, controlled, Draft, put}
 
 -- ---- what all of the bytes are
 
@@ -34,6 +36,10 @@ lent_by _ = None
 abbrev pub lent_in : List ℕ → Option (ℕ × PureType)
 lent_in bytes = value_in bytes >>= lent_by
 
+-- the contract of an address and a name
+abbrev pub contract_at : List ℕ → Option TypeId
+contract_at place = number_at place >>= λ n. name_in n.1 >>= λ i. Some (contract_id n.0 i)
+
 -- ---- registers of each kind, by what stands behind the kind in their keys, and their bytes
 
 abbrev pub head_in : List ℕ → Option Item
@@ -41,6 +47,12 @@ head_in bytes = number_at bytes >>= λ count. number_in count.1 >>= λ identity.
 
 abbrev pub next_in : List ℕ → List ℕ → Option Item
 next_in place bytes = number_in place >>= λ n. number_in bytes >>= λ number. Some (next n number)
+
+abbrev pub code_in : List ℕ → List ℕ → Option Item
+code_in place bytes = contract_at place >>= λ id. Some (code id bytes)
+
+abbrev pub fields_in : List ℕ → List ℕ → Option Item
+fields_in place bytes = contract_at place >>= λ id. value_in bytes >>= λ v. Some (fields id v)
 
 abbrev pub stored_in : List ℕ → List ℕ → Option Item
 stored_in place bytes = number_at place >>= λ n. name_in n.1 >>= λ i. value_in bytes >>= λ v. Some (stored n.0 i v)
@@ -58,20 +70,22 @@ abbrev pub of_kind : ℕ → List ℕ → List ℕ → Option Item
 of_kind kind place bytes =
     if kind == 0 then head_in bytes
     else (if kind == 1 then next_in place bytes
+    else (if kind == 2 then code_in place bytes
+    else (if kind == 3 then fields_in place bytes
     else (if kind == 4 then stored_in place bytes
     else (if kind == 5 then published_in place bytes
-    else (if kind == 6 then controlled_in place bytes else None))))
+    else (if kind == 6 then controlled_in place bytes else None))))))
 
 -- by its key and its bytes
 abbrev pub item_in : List ℕ → List ℕ → Option Item
 item_in [] bytes = None
 item_in (kind ∷ place) bytes = of_kind kind place bytes
 
--- ---- the World that they make
+-- ---- what they make
 
-abbrev pub made : Option Item → World → Option World
-made o w = option_map (λ x. put x w) o
+abbrev pub made : Option Item → Draft → Option Draft
+made o d = option_map (λ x. put x d) o
 
-abbrev pub all_made : List Register → World → Option World
-all_made [] w = Some w
-all_made (r ∷ rs) w = made (item_in r.key r.bytes) w >>= λ v. all_made rs v
+abbrev pub all_made : List Register → Draft → Option Draft
+all_made [] d = Some d
+all_made (r ∷ rs) d = made (item_in r.key r.bytes) d >>= λ e. all_made rs e

@@ -1,13 +1,12 @@
 // Whether registers are those of a World.
 ghost use Rattle.std.specs.Prelude.{◌≡◌, ◌↔◌, IsTrue, IfOk, map};
-ghost use Rattle.cad_shapes.specs.Held.{shapes_of};
 ghost use Rattle.cad_world.specs.Registers.{registers};
 ghost use Rattle.cad_world_reading.specs.Meaning as spec;
 ghost use Rattle.cad_world_reading.specs.Meaning.{Stands};
-ghost use Rattle.cad_worlds.specs.Standing.{coding, no_shapes, register_of, world_of};
+ghost use Rattle.cad_worlds.specs.Standing.{coding, IsSoundButCode, register_of, world_of};
 
 use cad_accounts::Row;
-use cad_shapes::DeclaredShapes;
+use cad_contract_shapes::shapes_of_contracts;
 use cad_world_checks::{has_bytes, is_sound};
 use cad_worlds::{World, registers_of};
 use std::alloc::{AllocError, Global};
@@ -42,17 +41,21 @@ fn are_registers(alloc: Global, world: &World, rows: &[Row]) -> Result<bool, All
     Ok(are_same_rows(own.as_slice(), rows))
 }
 
-/// Whether rows are the registers of a World that is sound and whose values have bytes of their own.
-pub(crate) fn stand_for(
-    alloc: Global,
-    shapes: &DeclaredShapes,
-    world: &World,
-    rows: &[Row],
-) -> Result<bool, AllocError>
-    requires { shapes_of shapes.now ≡ no_shapes }
+/// Whether a World is sound, whatever programs the codes of its contracts are: judged by what these programs declare.
+fn is_sound_world(alloc: Global, world: &World) -> Result<bool, AllocError>
+    ensures { IfOk result (λ b. IsTrue b ↔ IsSoundButCode (world_of world.now)) }
+{
+    let shapes = shapes_of_contracts(alloc, world.contracts.as_slice())?;
+    let sound = is_sound(alloc, &shapes, world);
+    drop(shapes);
+    sound
+}
+
+/// Whether rows are the registers of a World that is sound but for its codes, and whose values have bytes of their own.
+pub(crate) fn stand_for(alloc: Global, world: &World, rows: &[Row]) -> Result<bool, AllocError>
     ensures { IfOk result (λ b. IsTrue b ↔ Stands rows.now (world_of world.now)) }
 {
-    if !is_sound(alloc, shapes, world)? {
+    if !is_sound_world(alloc, world)? {
         return Ok(false);
     }
     if !has_bytes(alloc, world)? {

@@ -1,6 +1,7 @@
 // Parts of keys and of bytes.
-ghost use Rattle.std.specs.Prelude.{ℕ, List};
+ghost use Rattle.std.specs.Prelude.{◌≡◌, ℕ, List, IfOk};
 ghost use Rattle.cad_codec.specs.Answers.{GivesAs};
+ghost use Rattle.cad_declarations.specs.Imports as imports;
 ghost use Rattle.cad_syntax.specs.Types.{PureType, pure_type};
 ghost use Rattle.cad_values.specs.Values.{pure_value};
 ghost use Rattle.cad_wire.specs.Fields.{number_at, bytes_at};
@@ -8,10 +9,10 @@ ghost use Rattle.cad_world_reading.specs.Told as spec;
 
 use cad_codec::{DecodeError, decode, decode_type};
 use cad_state::discard_value;
-use cad_syntax::{CadType, Name, Text};
+use cad_syntax::{Address, CadType, Name, Names, Text, TypeId};
 use cad_values::Value;
 use cad_wire::Reader;
-use std::alloc::Global;
+use std::alloc::{AllocError, Global};
 
 /// The number that 8 bytes at the front are, and the bytes behind it.
 pub(crate) fn split_number(bytes: &[u8]) -> Result<(u64, &[u8]), DecodeError>
@@ -59,6 +60,28 @@ pub(crate) fn name_in(alloc: Global, bytes: &[u8]) -> Result<Name, DecodeError>
         Ok(text) => Ok(Name(Text::from_str(alloc, text)?)),
         Err(_) => Err(DecodeError::Damaged),
     }
+}
+
+/// The identifier of the contract of a name at an address.
+fn contract_id(alloc: Global, address: u64, name: Name) -> Result<TypeId, AllocError>
+    ensures { IfOk result (λ id. id ≡ imports.contract_id address name) }
+{
+    let mut names = Names::new(alloc);
+    names.push(name)?;
+    Ok(TypeId {
+        address: Address(address),
+        names,
+    })
+}
+
+/// The contract of an address and a name.
+pub(crate) fn contract_at(alloc: Global, place: &[u8]) -> Result<TypeId, DecodeError>
+    ensures { GivesAs (λ id. id) result (spec.contract_at place.now) }
+{
+    let (address, rest) = split_number(place)?;
+    let name = name_in(alloc, rest)?;
+    let id = contract_id(alloc, address, name)?;
+    Ok(id)
 }
 
 /// The value that has these bytes.

@@ -2,9 +2,13 @@
 #![tactic(auto)]
 
 mod comparing;
+mod contracts;
 mod fields;
+mod laws;
 mod making;
+mod parts;
 mod reading;
 mod saying;
 
+pub use laws::one_world;
 pub use reading::read_world;

@@ -1,28 +1,30 @@
-// The World that registers make, one behind another.
+// What registers make, one behind another.
 ghost use Rattle.std.specs.Prelude.{◌≡◌, ◌<◌, ◌≤◌, ◌++◌, ◌∷◌, [], ℕ, suc, MatchOption, OnOk, map};
 ghost use Rattle.cad_codec.specs.Answers.{GivesAs};
 ghost use Rattle.cad_rows.specs.Views.{pure_tree};
+ghost use Rattle.cad_loading.specs.Views.{source_of};
 ghost use Rattle.cad_state.specs.Views.{account_of, controller_of, publication_of};
 ghost use Rattle.cad_values.specs.Values.{pure_value};
-ghost use Rattle.cad_world.specs.Begin as begun;
 ghost use Rattle.cad_world.specs.Labels as labels;
 ghost use Rattle.cad_world.specs.Rows as nodes;
-ghost use Rattle.cad_world_reading.specs.Meaning.{changed_by, item_of};
+ghost use Rattle.cad_world_reading.specs.Meaning.{changed_by, item_of, parts_of, value_row};
 ghost use Rattle.cad_world_reading.specs.Told as spec;
 ghost use Rattle.cad_worlds.specs.Items as items;
-ghost use Rattle.cad_worlds.specs.Standing.{register_of, world_of};
+ghost use Rattle.cad_worlds.specs.Standing.{register_of};
 
+use crate::parts::{Parts, discard_parts};
 use crate::saying::{Change, Said, read_row};
 use cad_accounts::Row;
 use cad_codec::DecodeError;
 use cad_declarations::discard_type;
+use cad_loading::Source;
 use cad_rows::{Tree, add_last, discard_tree};
 use cad_state::{Account, Controller, Publication, discard_account, discard_value};
-use cad_syntax::Name;
+use cad_syntax::{Bytes, Name, TypeId};
 use cad_value_trees::tree_from_value;
 use cad_values::Value;
-use cad_worlds::{World, discard_world};
 use std::alloc::{AllocError, Global};
+use std::rc::Rc;
 
 // ---- one account
 
@@ -192,67 +194,109 @@ fn change_at(
     }
 }
 
-// ---- the World
+// ---- contracts
 
-/// Puts into a World what a register says.
+/// Adds the code of a contract.
+#[tactic(auto, using(crate::proofs::Found::sources_more))]
+fn push_source(
+    alloc: Global,
+    id: TypeId,
+    code: Bytes,
+    sources: &mut Vec<Source>,
+) -> Result<(), AllocError>
+    ensures { OnOk result (map source_of sources.new.items ≡ map source_of sources.old.items ++ (record { id = id; code = code }) ∷ []) }
+{
+    let code = Rc::new(alloc, code)?;
+    sources.push(Source { id, code })?;
+    Ok(())
+}
+
+/// Adds the value of a contract.
+#[tactic(auto, using(crate::proofs::Found::values_more))]
+fn push_value(value: Value, values: &mut Vec<Value>) -> Result<(), AllocError>
+    ensures { OnOk result (map value_row values.new.items ≡ map value_row values.old.items ++ value_row value ∷ []) }
+{
+    match values.push(value) {
+        Ok(()) => Ok(()),
+        Err(refused) => {
+            discard_value(refused.value);
+            Err(AllocError)
+        }
+    }
+}
+
+// ---- all of it
+
+/// Puts what a register says behind what others said.
 #[tactic(auto, using(crate::proofs::Found::put_at))]
-fn put(alloc: Global, world: &mut World, said: Said) -> Result<(), AllocError>
-    ensures { OnOk result (world_of world.new ≡ items.put (item_of said) (world_of world.old)) }
+fn put(alloc: Global, parts: &mut Parts, said: Said) -> Result<(), AllocError>
+    ensures { OnOk result (parts_of parts.new ≡ items.put (item_of said) (parts_of parts.old)) }
 {
     match said {
         Said::Head { count: _, identity } => {
-            world.next_identity = identity;
+            parts.next_identity = identity;
             Ok(())
         }
         Said::Next { address: _, number } => {
-            push_account(alloc, number, &mut world.accounts)?;
+            push_account(alloc, number, &mut parts.accounts)?;
+            Ok(())
+        }
+        Said::Code { id, code } => {
+            push_source(alloc, id, code, &mut parts.sources)?;
+            Ok(())
+        }
+        Said::Fields { id, value } => {
+            drop(id);
+            push_value(value, &mut parts.values)?;
             Ok(())
         }
         Said::Has { address, change } => {
-            change_at(alloc, &mut world.accounts, address, change)?;
+            change_at(alloc, &mut parts.accounts, address, change)?;
             Ok(())
         }
     }
 }
 
-/// Puts into a World what a register says.
-fn take_row(alloc: Global, world: &mut World, row: &Row) -> Result<(), DecodeError>
-    ensures { GivesAs (λ done. world_of world.new) result (spec.made (spec.item_in row.now.key.0 row.now.value) (world_of world.old)) }
+/// Puts what a row says behind what others said.
+fn take_row(alloc: Global, parts: &mut Parts, row: &Row) -> Result<(), DecodeError>
+    ensures { GivesAs (λ done. parts_of parts.new) result (spec.made (spec.item_in row.now.key.0 row.now.value) (parts_of parts.old)) }
 {
     let said = read_row(alloc, row)?;
-    put(alloc, world, said)?;
+    put(alloc, parts, said)?;
     Ok(())
 }
 
-/// Puts into a World what registers say.
-fn take_rows(alloc: Global, world: &mut World, rows: &[Row]) -> Result<(), DecodeError>
-    ensures { GivesAs (λ done. world_of world.new) result (spec.all_made (map register_of rows.now) (world_of world.old)) }
+/// Puts what rows say behind what others said.
+fn take_rows(alloc: Global, parts: &mut Parts, rows: &[Row]) -> Result<(), DecodeError>
+    ensures { GivesAs (λ done. parts_of parts.new) result (spec.all_made (map register_of rows.now) (parts_of parts.old)) }
 {
     for row in rows {
-        take_row(alloc, world, row)?;
+        take_row(alloc, parts, row)?;
     }
     Ok(())
 }
 
-/// A World in which no account is.
-fn empty_world(alloc: Global) -> World
-    ensures { world_of result ≡ begun.empty_world }
+/// What no register makes.
+fn empty_parts(alloc: Global) -> Parts
+    ensures { parts_of result ≡ items.empty_draft }
 {
-    World {
+    Parts {
         accounts: Vec::new(alloc),
+        sources: Vec::new(alloc),
+        values: Vec::new(alloc),
         next_identity: 1,
     }
 }
 
-/// The World that registers make.
-pub(crate) fn make(alloc: Global, rows: &[Row]) -> Result<World, DecodeError>
-    ensures { GivesAs world_of result (spec.all_made (map register_of rows.now) begun.empty_world) }
+/// What registers make.
+pub(crate) fn make(alloc: Global, rows: &[Row]) -> Result<Parts, DecodeError>
+    ensures { GivesAs parts_of result (spec.all_made (map register_of rows.now) items.empty_draft) }
 {
-    let mut world = empty_world(alloc);
-    match take_rows(alloc, &mut world, rows) {
-        Ok(()) => Ok(world),
+    let mut parts = empty_parts(alloc);
+    match take_rows(alloc, &mut parts, rows) {
+        Ok(()) => Ok(parts),
         Err(error) => {
-            discard_world(world);
+            discard_parts(parts);
             Err(error)
         }
     }

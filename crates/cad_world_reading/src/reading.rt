@@ -1,31 +1,31 @@
 // The World for which registers stand.
-ghost use Rattle.std.specs.Prelude.{◌≡◌, Some, true, IfOk, IfSome, option_map};
+ghost use Rattle.std.specs.Prelude.{◌≡◌, ◌↔◌, Some, true, IsTrue, IfOk, IfSome, length, map, option_map};
 ghost use Rattle.cad_accounts.specs.Registers.{at, are_rising};
-ghost use Rattle.cad_shapes.specs.Held.{shapes_of};
+ghost use Rattle.cad_loading.specs.Views.{programs_of};
+ghost use Rattle.cad_loads.specs.Loads.{Loads, loaded_of};
 ghost use Rattle.cad_world.specs.State as s;
-ghost use Rattle.cad_world_reading.specs.Meaning.{Stands};
-ghost use Rattle.cad_worlds.specs.Standing.{no_shapes, StandsFor, world_of};
+ghost use Rattle.cad_world_reading.specs.Meaning.{Stands, parts_of};
+ghost use Rattle.cad_worlds.specs.Items as items;
+ghost use Rattle.cad_worlds.specs.Standing.{IsSound, StandsFor, world_of};
 
 use crate::comparing::stand_for;
+use crate::contracts::world_from;
 use crate::making::make;
+use crate::parts::{Parts, discard_parts};
 use cad_accounts::Row;
 use cad_codec::DecodeError;
-use cad_shapes::DeclaredShapes;
+use cad_declarations::Checked;
+use cad_loading::{load, one_loading};
 use cad_worlds::{World, discard_world};
 use std::alloc::{AllocError, Global};
+use std::rc::Rc;
 
 /// A World, where rows stand for it; else it is let go.
-fn kept(
-    alloc: Global,
-    shapes: &DeclaredShapes,
-    world: World,
-    rows: &[Row],
-) -> Result<Option<World>, AllocError>
-    requires { shapes_of shapes.now ≡ no_shapes }
-    ensures found { IfOk result (λ o. IfSome o (λ w. Stands rows.now (world_of w))) }
+fn kept(alloc: Global, world: World, rows: &[Row]) -> Result<Option<World>, AllocError>
+    ensures found { IfOk result (λ o. IfSome o (λ w. (world_of w ≡ world_of world) × Stands rows.now (world_of w))) }
     ensures only { Stands rows.now (world_of world) → IfOk result (λ o. option_map world_of o ≡ Some (world_of world)) }
 {
-    match stand_for(alloc, shapes, &world, rows) {
+    match stand_for(alloc, &world, rows) {
         Ok(true) => Ok(Some(world)),
         Ok(false) => {
             discard_world(world);
@@ -38,24 +38,69 @@ fn kept(
     }
 }
 
-/// The World for which registers stand, judged by what is known of types beside no contracts. None where they stand for none.
-/// AllocError where memory runs out.
-pub fn read_world(
+/// The World of what registers made and of the programs of its contracts, where rows stand for it.
+fn with_programs(
     alloc: Global,
-    shapes: &DeclaredShapes,
+    parts: Parts,
+    programs: Vec<Rc<Checked>>,
     rows: &[Row],
 ) -> Result<Option<World>, AllocError>
-    requires rising { are_rising rows.now ≡ true }
-    requires shapes { shapes_of shapes.now ≡ no_shapes }
+    requires programs { length programs.items ≡ length parts.sources.items }
+    requires values { length parts.values.items ≡ length parts.sources.items }
+    ensures found { IfOk result (λ o. IfSome o (λ w. (world_of w ≡ items.world_from (parts_of parts) (programs_of programs)) × Stands rows.now (world_of w))) }
+    ensures only { Stands rows.now (items.world_from (parts_of parts) (programs_of programs)) → IfOk result (λ o. option_map world_of o ≡ Some (items.world_from (parts_of parts) (programs_of programs))) }
+{
+    match world_from(alloc, parts, programs) {
+        Ok(world) => kept(alloc, world, rows),
+        Err(error) => Err(error),
+    }
+}
+
+/// Whether there are as many values as codes.
+fn are_as_many(parts: &Parts) -> bool
+    ensures { IsTrue result ↔ (length parts.now.values.items ≡ length parts.now.sources.items) }
+{
+    parts.values.len() == parts.sources.len()
+}
+
+/// The World of what registers made, where its contracts were deployed one after another, and rows stand for it.
+fn loaded(alloc: Global, parts: Parts, rows: &[Row]) -> Result<Option<World>, AllocError>
+    ensures found { IfOk result (λ o. IfSome o (λ w. Stands rows.now (world_of w) × Loads (map loaded_of (world_of w).contracts))) }
+    ensures only { (v : s.World) → parts_of parts ≡ items.draft_of v → IsSound v → Stands rows.now v → IfOk result (λ o. option_map world_of o ≡ Some v) }
+{
+    one_loading();
+    if !are_as_many(&parts) {
+        discard_parts(parts);
+        return Ok(None);
+    }
+    match load(alloc, parts.sources.as_slice()) {
+        Ok(Some(programs)) => with_programs(alloc, parts, programs, rows),
+        Ok(None) => {
+            discard_parts(parts);
+            Ok(None)
+        }
+        Err(error) => {
+            discard_parts(parts);
+            Err(error)
+        }
+    }
+}
+
+/// The World for which rows stand; None where they stand for none. Its contracts are read and checked again, one after another.
+/// AllocError where memory runs out; also where the contracts declare two fields of a type by one name, or lack an interface of an interface
+/// that a type has: of contracts that were accepted one beside the other neither is so, which isn't proved here.
+pub fn read_world(alloc: Global, rows: &[Row]) -> Result<Option<World>, AllocError>
+    // Where a World is read, the rows are in byte order of their keys.
+    ensures rising { IfOk result (λ o. IfSome o (λ _. are_rising rows.now ≡ true)) }
 
     // What is read stands there.
     ensures found { IfOk result (λ o. IfSome o (λ w. StandsFor (at rows.now) (world_of w))) }
 
-    // What stands there is read.
-    ensures only { (v : s.World) → StandsFor (at rows.now) v → IfOk result (λ o. option_map world_of o ≡ Some v) }
+    // What stands there is read, of rows in that order.
+    ensures only { are_rising rows.now ≡ true → (v : s.World) → StandsFor (at rows.now) v → IfOk result (λ o. option_map world_of o ≡ Some v) }
 {
     match make(alloc, rows) {
-        Ok(world) => kept(alloc, shapes, world, rows),
+        Ok(parts) => loaded(alloc, parts, rows),
         Err(DecodeError::Damaged) => Ok(None),
         Err(DecodeError::Memory) => Err(AllocError),
     }

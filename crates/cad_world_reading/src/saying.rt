@@ -4,17 +4,23 @@ ghost use Rattle.cad_state.specs.Views as views;
 ghost use Rattle.cad_world_reading.specs.Meaning.{item_of};
 ghost use Rattle.cad_world_reading.specs.Told as spec;
 
-use crate::fields::{lent_in, name_in, number_in, split_number, split_text, type_in, value_in};
+use crate::fields::{
+    contract_at, lent_in, name_in, number_in, split_number, split_text, type_in, value_in,
+};
 use cad_accounts::Row;
 use cad_codec::DecodeError;
 use cad_state::{Controller, Publication};
-use cad_syntax::{Items, Name};
+use cad_syntax::{Bytes, Items, Name, TypeId};
 use cad_values::Value;
 use std::alloc::Global;
 
 const HEAD: u8 = 0;
 
 const NEXT: u8 = 1;
+
+const CODE: u8 = 2;
+
+const FIELDS: u8 = 3;
 
 const STORED: u8 = 4;
 
@@ -36,6 +42,10 @@ pub(crate) enum Said {
     Head { count: u64, identity: u64 },
     /// The number of an account's next controller.
     Next { address: u64, number: u64 },
+    /// The code of a contract.
+    Code { id: TypeId, code: Bytes },
+    /// The value of a contract.
+    Fields { id: TypeId, value: Value },
     /// That an account has something.
     Has { address: u64, change: Change },
 }
@@ -56,6 +66,24 @@ fn read_next(place: &[u8], bytes: &[u8]) -> Result<Said, DecodeError>
     let address = number_in(place)?;
     let number = number_in(bytes)?;
     Ok(Said::Next { address, number })
+}
+
+/// The code of a contract.
+fn read_code(alloc: Global, place: &[u8], bytes: &[u8]) -> Result<Said, DecodeError>
+    ensures { GivesAs item_of result (spec.code_in place.now bytes.now) }
+{
+    let id = contract_at(alloc, place)?;
+    let code = Items::from_slice(alloc, bytes)?;
+    Ok(Said::Code { id, code })
+}
+
+/// The value of a contract.
+fn read_fields(alloc: Global, place: &[u8], bytes: &[u8]) -> Result<Said, DecodeError>
+    ensures { GivesAs item_of result (spec.fields_in place.now bytes.now) }
+{
+    let id = contract_at(alloc, place)?;
+    let value = value_in(alloc, bytes)?;
+    Ok(Said::Fields { id, value })
 }
 
 /// What an account stores under an identifier.
@@ -128,6 +156,12 @@ fn read_kind(alloc: Global, kind: u8, place: &[u8], bytes: &[u8]) -> Result<Said
     if kind == NEXT {
         return read_next(place, bytes);
     }
+    if kind == CODE {
+        return read_code(alloc, place, bytes);
+    }
+    if kind == FIELDS {
+        return read_fields(alloc, place, bytes);
+    }
     if kind == STORED {
         return read_stored(alloc, place, bytes);
     }
@@ -140,8 +174,8 @@ fn read_kind(alloc: Global, kind: u8, place: &[u8], bytes: &[u8]) -> Result<Said
     Err(DecodeError::Damaged)
 }
 
-/// What a register says. Damaged where no register of a World without contracts is so; what some are that aren't is left to who
-/// compares the registers.
+/// What a register says. Damaged where no register of a World is so; what some are that aren't is left to who compares the
+/// registers.
 pub(crate) fn read_row(alloc: Global, row: &Row) -> Result<Said, DecodeError>
     ensures { GivesAs item_of result (spec.item_in row.now.key.0 row.now.value) }
 {

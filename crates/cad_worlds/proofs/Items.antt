@@ -1,28 +1,22 @@
--- What registers say: of one World, and by one item each.
-use Rattle.std.proofs.Common.{◌≡◌, ◌≢◌, ℕ, suc, ◌+◌, ◌^◌, ◌<◌, ◌≤◌, Bool, true, false, cond, List, [], ◌∷◌, ◌++◌, map, length, refl, sym, ap, ◌∙◌, arith}
+-- What registers say: of one World.
+use Rattle.std.proofs.Common.{◌≡◌, ℕ, suc, ◌+◌, ◌^◌, ◌<◌, ◌≤◌, Bool, true, false, cond, List, [], ◌∷◌, ◌++◌, map, length, refl, ap, ◌∙◌, arith}
 use Rattle.std.specs.Prelude.{◌==◌}
-use Rattle.std.specs.List.{AllByRecursion}
+use Rattle.std.specs.List.{AllByRecursion, flat_map}
 use Rattle.std.proofs.lemmas.List.{map-append}
 use Rattle.std.proofs.lemmas.List.Elements.{recursion_from_All}
-use Rattle.cad_codec.proofs.Decoded.{one}
-use Rattle.cad_codec.proofs.TypeFormats.{whole_types}
-use Rattle.cad_codec.proofs.ValueFormats.{values_with_bytes}
 use Rattle.cad_codec.specs.Forms.{HasBytes, TypeHasBytes}
-use Rattle.cad_codec.specs.TypeBytes.{type_bytes}
-use Rattle.cad_syntax.specs.Types.{PureType}
 use Rattle.cad_syntax.specs.declared.text.Name.{Name}
+use Rattle.cad_syntax.specs.declared.type_id.TypeId.{TypeId}
 use Rattle.cad_values.specs.Shapes.{Shapes}
-use Rattle.cad_values.specs.Values.{PureValue, capability}
-use Rattle.cad_wire.proofs.FieldLaws.{number_again, bytes_again, some_is}
-use Rattle.cad_wire.specs.Fields.{number_field, bytes_field, number_at, bytes_at}
-use Rattle.cad_world.specs.Registers.{Register, of_accounts, next_register, stored_registers, published_registers, controller_registers, row_values, registers}
+use Rattle.cad_values.specs.Values.{PureValue}
+use Rattle.cad_world.specs.Registers.{Register, head_registers, of_accounts, next_register, code_register, fields_registers, stored_registers, published_registers, controller_registers, row_values, registers}
 use Rattle.cad_world.specs.Registers as spec
 use Rattle.cad_world.specs.Rows.{Row, stop, gap, node}
 use Rattle.cad_world.specs.Sound.{AreStored, SoundAccount, SoundPublication, SoundController, most_next, most_accounts}
-use Rattle.cad_world.specs.State.{Publication, Controller, Account, World}
-use Rattle.cad_worlds.specs.Items.{Item, head, next, stored, published, controlled, told, IsTold, each, head_items, next_items, stored_from, stored_items, published_items, controlled_items, items_of}
-use Rattle.cad_worlds.specs.Standing.{coding, AccountHasBytes, WorldHasBytes}
-use Rattle.cad_worlds.proofs.Rising.{registers_are}
+use Rattle.cad_world.specs.State.{Publication, Controller, Account, Contract, World}
+use Rattle.cad_worlds.specs.Items.{Item, head, fields, stored, published, controlled, told, IsTold, each, head_items, next_items, code_item, fields_items, stored_from, stored_items, published_items, controlled_items, items_of}
+use Rattle.cad_worlds.specs.Standing.{coding, AccountHasBytes, AreOneText, ContractHasBytes, WorldHasBytes}
+use Rattle.cad_worlds.proofs.Known.{IsKnown}
 
 -- ---- the registers are those of the items
 
@@ -43,128 +37,23 @@ told_head : (b : Bool) (x : Item) → map told (cond b [] (x ∷ [])) ≡ cond b
 told_head true x = refl
 told_head false x = refl
 
-pub told_items : (w : World) → w.contracts ≡ [] → map told (items_of w) ≡ registers coding w
-told_items w bare =
-    let a = told_head (length w.accounts == 0) (head (length w.accounts) w.next_identity) in
-    let b = told_each next_items next_register (λ n x. refl) 1 w.accounts in
-    let c = told_each stored_items (stored_registers coding) (λ n x. told_stored n x.identifiers (row_values x.stored)) 1 w.accounts in
-    let d = told_each published_items (published_registers coding) (λ n x. told_map (published n) x.published) 1 w.accounts in
-    let e = told_each controlled_items (controller_registers coding) (λ n x. told_map (controlled n) x.controllers) 1 w.accounts in
-    map-append told (head_items w) (each next_items 1 w.accounts ++ (each stored_items 1 w.accounts ++ (each published_items 1 w.accounts ++ each controlled_items 1 w.accounts)))
-    ∙ ap (λ (xs : List Register). map told (head_items w) ++ xs) (map-append told (each next_items 1 w.accounts) (each stored_items 1 w.accounts ++ (each published_items 1 w.accounts ++ each controlled_items 1 w.accounts))
-    ∙ ap (λ (xs : List Register). map told (each next_items 1 w.accounts) ++ xs) (map-append told (each stored_items 1 w.accounts) (each published_items 1 w.accounts ++ each controlled_items 1 w.accounts)
-    ∙ ap (λ (xs : List Register). map told (each stored_items 1 w.accounts) ++ xs) (map-append told (each published_items 1 w.accounts) (each controlled_items 1 w.accounts))))
-    ∙ (λ i. a i ++ (b i ++ (c i ++ (d i ++ e i))))
-    ∙ sym (registers_are w bare)
+told_fields : (cs : List Contract) → map told (flat_map fields_items cs) ≡ flat_map (fields_registers coding) cs
+told_fields [] = refl
+told_fields (c ∷ cs) = map-append told (fields_items c) (flat_map fields_items cs) ∙ (λ i. told_map (fields c.id) (row_values c.value) i ++ told_fields cs i)
 
--- ---- one item has a register
+joined : (xs ys : List Item) (us vs : List Register) → map told xs ≡ us → map told ys ≡ vs → map told (xs ++ ys) ≡ us ++ vs
+joined xs ys us vs e f = map-append told xs ys ∙ (λ i. e i ++ f i)
 
-abbrev kind_of : List ℕ → ℕ
-kind_of [] = 0
-kind_of (k ∷ name) = k
-
-apart : (x y : ℕ) (xs ys : List ℕ) → x ∷ xs ≡ y ∷ ys → x ≢ y → ⊥
-apart x y xs ys e n = n (ap kind_of e)
-
-two_again : (a b : ℕ) (x y : List ℕ) → a < 2 ^ 64 → b < 2 ^ 64 → number_field a ++ x ≡ number_field b ++ y → (a ≡ b) × (x ≡ y)
-two_again a b x y f g e =
-    let same : (a, x) ≡ (b, y) = some_is (a, x) (b, y) (sym (number_again a x f) ∙ ap number_at e ∙ number_again b y g) in
-    (ap (λ (p : ℕ × List ℕ). p.0) same, ap (λ (p : ℕ × List ℕ). p.1) same)
-
-number_one : (a b : ℕ) → a < 2 ^ 64 → b < 2 ^ 64 → number_field a ≡ number_field b → a ≡ b
-number_one a b f g e = (two_again a b [] [] f g (ap (λ (l : List ℕ). l ++ []) e)).0
-
-text_again : (a b x y : List ℕ) → length a < 2 ^ 32 → length b < 2 ^ 32 → bytes_field a ++ x ≡ bytes_field b ++ y → (a ≡ b) × (x ≡ y)
-text_again a b x y f g e =
-    let same : (a, x) ≡ (b, y) = some_is (a, x) (b, y) (sym (bytes_again a x f) ∙ ap bytes_at e ∙ bytes_again b y g) in
-    (ap (λ (p : List ℕ × List ℕ). p.0) same, ap (λ (p : List ℕ × List ℕ). p.1) same)
-
--- what stands behind the kind in a key
-behind_kind : (k : ℕ) (x y : List ℕ) → k ∷ x ≡ k ∷ y → x ≡ y
-behind_kind k x y e = cc
-
-key_of : {x y : Register} → x ≡ y → x.key ≡ y.key
-key_of e = ap (λ (r : Register). r.key) e
-
-bytes_of : {x y : Register} → x ≡ y → x.bytes ≡ y.bytes
-bytes_of e = ap (λ (r : Register). r.bytes) e
-
-one_head : (count identity count' identity' : ℕ) → IsTold (head count identity) → IsTold (head count' identity') → told (head count identity) ≡ told (head count' identity') → head count identity ≡ head count' identity'
-one_head count identity count' identity' a b e =
-    let both = two_again count count' (number_field identity) (number_field identity') a.0 b.0 (bytes_of e) in
-    let second = number_one identity identity' a.1 b.1 both.1 in
-    λ i. head (both.0 i) (second i)
-
-one_next : (n number n' number' : ℕ) → IsTold (next n number) → IsTold (next n' number') → told (next n number) ≡ told (next n' number') → next n number ≡ next n' number'
-one_next n number n' number' a b e =
-    let first = number_one n n' a.0 b.0 (behind_kind 1 (number_field n) (number_field n') (key_of e)) in
-    let second = number_one number number' a.1 b.1 (bytes_of e) in
-    λ i. next (first i) (second i)
-
-one_stored : (n : ℕ) (i : Name) (v : PureValue) (n' : ℕ) (i' : Name) (v' : PureValue) → IsTold (stored n i v) → IsTold (stored n' i' v') → told (stored n i v) ≡ told (stored n' i' v') → stored n i v ≡ stored n' i' v'
-one_stored n i v n' i' v' a b e =
-    let both = two_again n n' i.0 i'.0 a.0 b.0 (behind_kind 4 (number_field n ++ i.0) (number_field n' ++ i'.0) (key_of e)) in
-    let value : v ≡ v' = one values_with_bytes v v' a.2 b.2 (bytes_of e) in
-    λ j. stored (both.0 j) (record { 0 = both.1 j }) (value j)
-
-same_lent : (a a' : ℕ) (n n' : ℕ) (t t' : PureType) → capability (record { 0 = a }) n t ≡ capability (record { 0 = a' }) n' t' → (n ≡ n') × (t ≡ t')
-same_lent a a' n n' t t' e = (cc, cc)
-
-one_published : (n : ℕ) (p : Publication) (n' : ℕ) (p' : Publication) → IsTold (published n p) → IsTold (published n' p') → told (published n p) ≡ told (published n' p') → published n p ≡ published n' p'
-one_published n p n' p' a b e =
-    let both = two_again n n' p.identifier.0 p'.identifier.0 a.0 b.0 (behind_kind 5 (number_field n ++ p.identifier.0) (number_field n' ++ p'.identifier.0) (key_of e)) in
-    let value = one values_with_bytes (capability (record { 0 = n }) p.number p.lent) (capability (record { 0 = n' }) p'.number p'.lent) a.2 b.2 (bytes_of e) in
-    let parts = same_lent n n' p.number p'.number p.lent p'.lent value in
-    λ j. published (both.0 j) (record { identifier = record { 0 = both.1 j }; number = parts.0 j; lent = parts.1 j })
-
-one_controlled : (n : ℕ) (c : Controller) (n' : ℕ) (c' : Controller) → IsTold (controlled n c) → IsTold (controlled n' c') → told (controlled n c) ≡ told (controlled n' c') → controlled n c ≡ controlled n' c'
-one_controlled n c n' c' a b e =
-    let both = two_again n n' (number_field c.number) (number_field c'.number) a.0 b.0 (behind_kind 6 (number_field n ++ number_field c.number) (number_field n' ++ number_field c'.number) (key_of e)) in
-    let number = number_one c.number c'.number a.1 b.1 both.1 in
-    let targets = text_again c.target.0 c'.target.0 (bytes_field c.tag ++ type_bytes c.borrow) (bytes_field c'.tag ++ type_bytes c'.borrow) a.2.1 b.2.1 (bytes_of e) in
-    let tags = text_again c.tag c'.tag (type_bytes c.borrow) (type_bytes c'.borrow) a.3.1 b.3.1 targets.1 in
-    let types : c.borrow ≡ c'.borrow = one whole_types c.borrow c'.borrow a.4 b.4 tags.1 in
-    λ j. controlled (both.0 j) (record { number = number j; borrow = types j; tag = tags.0 j; target = record { 0 = targets.0 j } })
-
-pub told_one : (x y : Item) → IsTold x → IsTold y → told x ≡ told y → x ≡ y
-told_one (head count identity) (head count' identity') a b e = one_head count identity count' identity' a b e
-told_one (head count identity) (next n' number') a b e = absurd (apart 0 1 _ _ (ap (λ (x : Register). x.key) e) (omega arith))
-told_one (head count identity) (stored n' i' v') a b e = absurd (apart 0 4 _ _ (ap (λ (x : Register). x.key) e) (omega arith))
-told_one (head count identity) (published n' p') a b e = absurd (apart 0 5 _ _ (ap (λ (x : Register). x.key) e) (omega arith))
-told_one (head count identity) (controlled n' c') a b e = absurd (apart 0 6 _ _ (ap (λ (x : Register). x.key) e) (omega arith))
-told_one (next n number) (head count' identity') a b e = absurd (apart 1 0 _ _ (ap (λ (x : Register). x.key) e) (omega arith))
-told_one (next n number) (next n' number') a b e = one_next n number n' number' a b e
-told_one (next n number) (stored n' i' v') a b e = absurd (apart 1 4 _ _ (ap (λ (x : Register). x.key) e) (omega arith))
-told_one (next n number) (published n' p') a b e = absurd (apart 1 5 _ _ (ap (λ (x : Register). x.key) e) (omega arith))
-told_one (next n number) (controlled n' c') a b e = absurd (apart 1 6 _ _ (ap (λ (x : Register). x.key) e) (omega arith))
-told_one (stored n i v) (head count' identity') a b e = absurd (apart 4 0 _ _ (ap (λ (x : Register). x.key) e) (omega arith))
-told_one (stored n i v) (next n' number') a b e = absurd (apart 4 1 _ _ (ap (λ (x : Register). x.key) e) (omega arith))
-told_one (stored n i v) (stored n' i' v') a b e = one_stored n i v n' i' v' a b e
-told_one (stored n i v) (published n' p') a b e = absurd (apart 4 5 _ _ (ap (λ (x : Register). x.key) e) (omega arith))
-told_one (stored n i v) (controlled n' c') a b e = absurd (apart 4 6 _ _ (ap (λ (x : Register). x.key) e) (omega arith))
-told_one (published n p) (head count' identity') a b e = absurd (apart 5 0 _ _ (ap (λ (x : Register). x.key) e) (omega arith))
-told_one (published n p) (next n' number') a b e = absurd (apart 5 1 _ _ (ap (λ (x : Register). x.key) e) (omega arith))
-told_one (published n p) (stored n' i' v') a b e = absurd (apart 5 4 _ _ (ap (λ (x : Register). x.key) e) (omega arith))
-told_one (published n p) (published n' p') a b e = one_published n p n' p' a b e
-told_one (published n p) (controlled n' c') a b e = absurd (apart 5 6 _ _ (ap (λ (x : Register). x.key) e) (omega arith))
-told_one (controlled n c) (head count' identity') a b e = absurd (apart 6 0 _ _ (ap (λ (x : Register). x.key) e) (omega arith))
-told_one (controlled n c) (next n' number') a b e = absurd (apart 6 1 _ _ (ap (λ (x : Register). x.key) e) (omega arith))
-told_one (controlled n c) (stored n' i' v') a b e = absurd (apart 6 4 _ _ (ap (λ (x : Register). x.key) e) (omega arith))
-told_one (controlled n c) (published n' p') a b e = absurd (apart 6 5 _ _ (ap (λ (x : Register). x.key) e) (omega arith))
-told_one (controlled n c) (controlled n' c') a b e = one_controlled n c n' c' a b e
-
-cons_parts : (x y : Register) (xs ys : List Register) → x ∷ xs ≡ y ∷ ys → (x ≡ y) × (xs ≡ ys)
-cons_parts x y xs ys e = (cc, cc)
-
-pub told_all : (xs ys : List Item) → AllByRecursion IsTold xs → AllByRecursion IsTold ys → map told xs ≡ map told ys → xs ≡ ys
-told_all [] [] a b e = refl
-told_all [] (y ∷ ys) a b e = absurd cc
-told_all (x ∷ xs) [] a b e = absurd cc
-told_all (x ∷ xs) (y ∷ ys) a b e =
-    let parts = cons_parts (told x) (told y) (map told xs) (map told ys) e in
-    let first = told_one x y a.0 b.0 parts.0 in
-    let others = told_all xs ys a.1 b.1 parts.1 in
-    λ i. first i ∷ others i
+pub told_items : (w : World) → map told (items_of w) ≡ registers coding w
+told_items w =
+    joined (head_items w) _ (head_registers w) _ (told_head (length w.accounts == 0) (head (length w.accounts) w.next_identity))
+    (joined (each next_items 1 w.accounts) _ (of_accounts next_register 1 w.accounts) _ (told_each next_items next_register (λ n x. refl) 1 w.accounts)
+    (joined (map code_item w.contracts) _ (map code_register w.contracts) _ (told_map code_item w.contracts)
+    (joined (flat_map fields_items w.contracts) _ (flat_map (fields_registers coding) w.contracts) _ (told_fields w.contracts)
+    (joined (each stored_items 1 w.accounts) _ (of_accounts (stored_registers coding) 1 w.accounts) _ (told_each stored_items (stored_registers coding) (λ n x. told_stored n x.identifiers (row_values x.stored)) 1 w.accounts)
+    (joined (each published_items 1 w.accounts) (each controlled_items 1 w.accounts) (of_accounts (published_registers coding) 1 w.accounts) (of_accounts (controller_registers coding) 1 w.accounts)
+    (told_each published_items (published_registers coding) (λ n x. told_map (published n) x.published) 1 w.accounts)
+    (told_each controlled_items (controller_registers coding) (λ n x. told_map (controlled n) x.controllers) 1 w.accounts))))))
 
 -- ---- the items of a sound World, whose values have bytes of their own
 
@@ -207,13 +96,27 @@ head_told : (b : Bool) (x : Item) → IsTold x → AllByRecursion IsTold (cond b
 head_told true x t = tt
 head_told false x t = (t, tt)
 
-pub items_told : (k : Shapes) (w : World) → length w.accounts ≤ most_accounts → w.next_identity ≤ most_next → AllByRecursion (SoundAccount k) w.accounts → WorldHasBytes w → AllByRecursion IsTold (items_of w)
-items_told k w few low s b =
-    let said = all_said k w.accounts s b in
+codes_told : (cs : List Contract) → AllByRecursion IsKnown cs → AllByRecursion ContractHasBytes cs → AllByRecursion IsTold (map code_item cs)
+codes_told [] s b = tt
+codes_told (c ∷ cs) s b = ((s.0.fits, b.0.name), codes_told cs s.1 b.1)
+
+values_told : (id : TypeId) (vs : List PureValue) → id.address.0 < 2 ^ 64 → AreOneText id.names → AllByRecursion HasBytes vs → AllByRecursion IsTold (map (fields id) vs)
+values_told id [] fits name b = tt
+values_told id (v ∷ vs) fits name b = ((fits, name, b.0), values_told id vs fits name b.1)
+
+fields_told : (cs : List Contract) → AllByRecursion IsKnown cs → AllByRecursion ContractHasBytes cs → AllByRecursion IsTold (flat_map fields_items cs)
+fields_told [] s b = tt
+fields_told (c ∷ cs) s b = both_told (fields_items c) (flat_map fields_items cs) (values_told c.id (row_values c.value) s.0.fits b.0.name b.0.value) (fields_told cs s.1 b.1)
+
+pub items_told : (k : Shapes) (w : World) → length w.accounts ≤ most_accounts → w.next_identity ≤ most_next → AllByRecursion (SoundAccount k) w.accounts → AllByRecursion IsKnown w.contracts → WorldHasBytes w → AllByRecursion IsTold (items_of w)
+items_told k w few low s known b =
+    let said = all_said k w.accounts s b.accounts in
     let fits : 1 + length w.accounts ≤ 2 ^ 64 = omega arith in
     both_told (head_items w) _ (head_told (length w.accounts == 0) (head (length w.accounts) w.next_identity) (omega arith, omega arith))
     (both_told (each next_items 1 w.accounts) _ (each_told (IsSaid k) next_items (λ n a lt p. ((lt, let le = p.sound.next in omega arith), tt)) 1 w.accounts fits said)
+    (both_told (map code_item w.contracts) _ (codes_told w.contracts known b.contracts)
+    (both_told (flat_map fields_items w.contracts) _ (fields_told w.contracts known b.contracts)
     (both_told (each stored_items 1 w.accounts) _ (each_told (IsSaid k) stored_items (λ n a lt p. stored_told k n a.identifiers a.stored lt p.sound.stored p.bytes.stored) 1 w.accounts fits said)
     (both_told (each published_items 1 w.accounts) (each controlled_items 1 w.accounts)
     (each_told (IsSaid k) published_items (λ n a lt p. published_told k n a.published lt (recursion_from_All (SoundPublication k) a.published p.sound.published) p.bytes.lent) 1 w.accounts fits said)
-    (each_told (IsSaid k) controlled_items (λ n a lt p. controlled_told k n a.next_controller a.controllers lt p.sound.next (recursion_from_All (SoundController k a.next_controller) a.controllers p.sound.controllers) p.bytes.borrowed) 1 w.accounts fits said))))
+    (each_told (IsSaid k) controlled_items (λ n a lt p. controlled_told k n a.next_controller a.controllers lt p.sound.next (recursion_from_All (SoundController k a.next_controller) a.controllers p.sound.controllers) p.bytes.borrowed) 1 w.accounts fits said))))))

@@ -2,7 +2,11 @@ pub mod Lists
 pub mod Sections
 pub mod Leading
 pub mod Numbers
+pub mod Parts
+pub mod Known
+pub mod ContractParts
 pub mod Rising
+pub mod OneItem
 pub mod Items
 pub mod Making
 pub mod OneWorld

@@ -1,21 +1,23 @@
--- What the items of a World make, one behind another, is that World.
+-- What the items of a World make, one behind another, is its draft.
 use Rattle.std.proofs.Common.{◌≡◌, ℕ, suc, Bool, cond, List, [], ◌∷◌, ◌++◌, map, length, refl, sym, ap, subst, ◌∙◌, append_assoc, append-nil, arith, inl, inr}
 use Rattle.std.proofs.lemmas.Bool.{cases_Bool, eqb-true}
 use Rattle.std.specs.Prelude.{◌==◌}
-use Rattle.std.specs.List.{AllByRecursion}
+use Rattle.std.specs.List.{AllByRecursion, flat_map}
+use Rattle.cad_loads.specs.Loads.{Source, loaded_of, source_of}
 use Rattle.cad_rows.proofs.CopyLaws.{join_stop, join_join}
 use Rattle.cad_syntax.specs.declared.text.Name.{Name}
 use Rattle.cad_values.specs.Shapes.{Shapes}
-use Rattle.cad_world.specs.Begin.{empty_world}
+use Rattle.cad_values.specs.Values.{PureValue}
 use Rattle.cad_world.specs.Labels.{change_account}
 use Rattle.cad_world.specs.Registers.{row_values}
 use Rattle.cad_world.specs.Rows.{Row, Tree, stop, gap, node, first, add_last, join}
 use Rattle.cad_world.specs.Sound.{AreStored, SoundAccount}
-use Rattle.cad_world.specs.State.{Publication, Controller, Account, World}
+use Rattle.cad_world.specs.State.{Publication, Controller, Account, Contract, World}
 use Rattle.cad_world.specs.Trees.{tree_of, value_of}
-use Rattle.cad_worlds.specs.Items.{Item, head, stored, published, controlled, with_value, with_publication, with_controller, begun_account, put, put_all, each, head_items, next_items, stored_from, stored_items, published_items, controlled_items, items_of}
+use Rattle.cad_worlds.specs.Items.{Item, head, fields, stored, published, controlled, Draft, empty_draft, with_value, with_publication, with_controller, begun_account, put, put_all, draft_of, programs_of, contracts_from, world_from, each, head_items, next_items, code_item, fields_items, stored_from, stored_items, published_items, controlled_items, items_of}
+use Rattle.cad_worlds.proofs.Known.{IsKnown}
 
-put_both : (xs ys : List Item) (w : World) → put_all (xs ++ ys) w ≡ put_all ys (put_all xs w)
+put_both : (xs ys : List Item) (w : Draft) → put_all (xs ++ ys) w ≡ put_all ys (put_all xs w)
 put_both [] ys w = refl
 put_both (x ∷ xs) ys w = put_both xs ys (put x w)
 
@@ -26,21 +28,21 @@ there : (g : Account → Account) (done : List Account) (a : Account) (all : Lis
 there g [] a all = refl
 there g (d ∷ done) a all = ap (λ (xs : List Account). d ∷ xs) (there g done a all)
 
-abbrev with_accounts : World → List Account → World
+abbrev with_accounts : Draft → List Account → Draft
 with_accounts w accounts = record w { accounts = accounts }
 
 -- what the items of an account make of it, where it stands among others
-record Makes (w : World) (xs : ℕ → List Item) (a b : Account) : Type 0 where
+record Makes (w : Draft) (xs : ℕ → List Item) (a b : Account) : Type 0 where
   pub is : (done all : List Account) → put_all (xs (suc (length done))) (with_accounts w (done ++ a ∷ all)) ≡ with_accounts w (done ++ b ∷ all)
 
-makes_more : (w : World) (x : ℕ → Item) (xs : ℕ → List Item) (g : Account → Account) (a b : Account) → ((n : ℕ) (v : World) → put (x n) v ≡ record v { accounts = change_account n g v.accounts }) → Makes w xs (g a) b → Makes w (λ n. x n ∷ xs n) a b
+makes_more : (w : Draft) (x : ℕ → Item) (xs : ℕ → List Item) (g : Account → Account) (a b : Account) → ((n : ℕ) (v : Draft) → put (x n) v ≡ record v { accounts = change_account n g v.accounts }) → Makes w xs (g a) b → Makes w (λ n. x n ∷ xs n) a b
 makes_more w x xs g a b h m = record {
   is = λ done all.
       ap (put_all (xs (suc (length done)))) (h (suc (length done)) (with_accounts w (done ++ a ∷ all)) ∙ ap (with_accounts w) (there g done a all))
       ∙ m.is done all;
 }
 
-makes_none : (w : World) (a b : Account) → a ≡ b → Makes w (λ n. []) a b
+makes_none : (w : Draft) (a b : Account) → a ≡ b → Makes w (λ n. []) a b
 makes_none w a b e = record { is = λ done all. ap (λ (c : Account). with_accounts w (done ++ c ∷ all)) e }
 
 -- ---- all accounts of one section
@@ -52,7 +54,7 @@ longer : (done : List Account) (b : Account) → length (done ++ b ∷ []) ≡ s
 longer [] b = refl
 longer (d ∷ done) b = ap suc (longer done b)
 
-module _ (w : World) (f : ℕ → Account → List Item) (g h : Account → Account) (P : Account → Type 0) (one : (a : Account) → P a → Makes w (λ n. f n a) (g a) (h a)) where
+module _ (w : Draft) (f : ℕ → Account → List Item) (g h : Account → Account) (P : Account → Type 0) (one : (a : Account) → P a → Makes w (λ n. f n a) (g a) (h a)) where
   section : (done all : List Account) → AllByRecursion P all → put_all (each f (suc (length done)) all) (with_accounts w (done ++ map g all)) ≡ with_accounts w (done ++ map h all)
   section done [] p = refl
   section done (a ∷ all) p =
@@ -92,7 +94,7 @@ grown_more a i t is r =
     let places = ap (λ (q : Row). join q r) (add_last_is t a.stored) ∙ join_join a.stored (first t stop) r in
     λ j. record a { identifiers = names j; stored = places j }
 
-module _ (w : World) (k : Shapes) where
+module _ (w : Draft) (k : Shapes) where
   stores : (is : List Name) (r : Row) (a : Account) → AreStored k is r → Makes w (λ n. stored_from n is (row_values r)) a (grown a is r)
   stores [] stop a s = makes_none w a (grown a [] stop) (grown_none a)
   stores [] (gap r) a s = absurd s
@@ -125,9 +127,9 @@ module _ (w : World) (k : Shapes) where
       makes_more w (λ n. controlled n c) (λ n. map (controlled n) cs) (with_controller c) a (record a { controllers = a.controllers ++ c ∷ cs }) (λ n v. refl)
       (subst (Makes w (λ n. map (controlled n) cs) b) (λ i. record a { controllers = append_assoc a.controllers (c ∷ []) cs i }) (controls cs b))
 
--- ---- the whole World
+-- ---- the draft
 
-begins : (w : World) (done : List Account) (n : ℕ) (all : List Account) → put_all (each next_items n all) (with_accounts w done) ≡ with_accounts w (done ++ map bare_one all)
+begins : (w : Draft) (done : List Account) (n : ℕ) (all : List Account) → put_all (each next_items n all) (with_accounts w done) ≡ with_accounts w (done ++ map bare_one all)
 begins w done n [] = ap (with_accounts w) (sym (append-nil done))
 begins w done n (a ∷ all) = begins w (done ++ bare_one a ∷ []) (suc n) all ∙ ap (with_accounts w) (append_assoc done (bare_one a ∷ []) (map bare_one all))
 
@@ -136,33 +138,74 @@ map_same [] = refl
 map_same (a ∷ all) = ap (λ (xs : List Account). a ∷ xs) (map_same all)
 
 -- the head says the next identity, where there is an account
-headed : (all : List Account) (identity : ℕ) → (all ≡ [] → identity ≡ 1) → put_all (cond (length all == 0) [] (head (length all) identity ∷ [])) empty_world ≡ record { accounts = []; contracts = []; next_identity = identity }
-headed [] identity h = λ i. record { accounts = []; contracts = []; next_identity = sym (h refl) i }
+headed : (all : List Account) (identity : ℕ) → (all ≡ [] → identity ≡ 1) → put_all (cond (length all == 0) [] (head (length all) identity ∷ [])) empty_draft ≡ record empty_draft { next_identity = identity }
+headed [] identity h = λ i. record empty_draft { next_identity = sym (h refl) i }
 headed (a ∷ all) identity h =
     elim (cases_Bool (length (a ∷ all) == 0)) [
       | inl t ↦ absurd (let none = eqb-true (length (a ∷ all)) 0 t in omega arith)
-      | inr f ↦ ap (λ (b : Bool). put_all (cond b [] (head (length (a ∷ all)) identity ∷ [])) empty_world) f
+      | inr f ↦ ap (λ (b : Bool). put_all (cond b [] (head (length (a ∷ all)) identity ∷ [])) empty_draft) f
     ]
 
-module _ (k : Shapes) (w : World) (s : AllByRecursion (SoundAccount k) w.accounts) (bare : w.contracts ≡ []) where
-  all_made : put_all (each next_items 1 w.accounts ++ (each stored_items 1 w.accounts ++ (each published_items 1 w.accounts ++ each controlled_items 1 w.accounts))) (with_accounts w []) ≡ w
-  all_made =
-      let a = each next_items 1 w.accounts in
+abbrev source_in : Contract → Source
+source_in c = source_of (loaded_of c)
+
+abbrev value_in : Contract → Row
+value_in c = c.value
+
+codes_made : (cs : List Contract) (d : Draft) → put_all (map code_item cs) d ≡ record d { sources = d.sources ++ map source_in cs }
+codes_made [] d = λ i. record d { sources = sym (append-nil d.sources) i }
+codes_made (c ∷ cs) d = codes_made cs (put (code_item c) d) ∙ (λ i. record d { sources = append_assoc d.sources (source_in c ∷ []) (map source_in cs) i })
+
+values_made : (cs : List Contract) (d : Draft) → AllByRecursion IsKnown cs → put_all (flat_map fields_items cs) d ≡ record d { values = d.values ++ map value_in cs }
+values_made [] d s = λ i. record d { values = sym (append-nil d.values) i }
+values_made (c ∷ cs) d s =
+    let others = flat_map fields_items cs in
+    put_both (fields_items c) others d
+    ∙ ap (λ (vs : List PureValue). put_all others (put_all (map (fields c.id) vs) d)) s.0.has.only
+    ∙ ap (λ (r : Row). put_all others (record d { values = d.values ++ r ∷ [] })) s.0.has.alone_is
+    ∙ values_made cs (record d { values = d.values ++ c.value ∷ [] }) s.1
+    ∙ (λ i. record d { values = append_assoc d.values (c.value ∷ []) (map value_in cs) i })
+
+module _ (k : Shapes) (w : World) (s : AllByRecursion (SoundAccount k) w.accounts) (known : AllByRecursion IsKnown w.contracts) where
+  abbrev with_codes : Draft
+  with_codes = record { accounts = map bare_one w.accounts; sources = map source_in w.contracts; values = []; next_identity = w.next_identity }
+
+  accounts_made : put_all (each stored_items 1 w.accounts ++ (each published_items 1 w.accounts ++ each controlled_items 1 w.accounts)) (with_accounts (draft_of w) (map bare_one w.accounts)) ≡ draft_of w
+  accounts_made =
       let b = each stored_items 1 w.accounts in
       let c = each published_items 1 w.accounts in
       let d = each controlled_items 1 w.accounts in
-      put_both a (b ++ (c ++ d)) (with_accounts w [])
-      ∙ ap (put_all (b ++ (c ++ d))) (begins w [] 1 w.accounts)
-      ∙ put_both b (c ++ d) (with_accounts w (map bare_one w.accounts))
-      ∙ ap (put_all (c ++ d)) (section w stored_items bare_one storing_one (SoundAccount k) (stores_all w k) [] w.accounts s)
-      ∙ put_both c d (with_accounts w (map storing_one w.accounts))
-      ∙ ap (put_all d) (section w published_items storing_one publishing_one (SoundAccount k) (λ x p. publishes w k x.published (storing_one x)) [] w.accounts s)
-      ∙ section w controlled_items publishing_one (λ x. x) (SoundAccount k) (λ x p. controls w k x.controllers (publishing_one x)) [] w.accounts s
-      ∙ ap (with_accounts w) (map_same w.accounts)
+      let draft = draft_of w in
+      put_both b (c ++ d) (with_accounts draft (map bare_one w.accounts))
+      ∙ ap (put_all (c ++ d)) (section draft stored_items bare_one storing_one (SoundAccount k) (stores_all draft k) [] w.accounts s)
+      ∙ put_both c d (with_accounts draft (map storing_one w.accounts))
+      ∙ ap (put_all d) (section draft published_items storing_one publishing_one (SoundAccount k) (λ x p. publishes draft k x.published (storing_one x)) [] w.accounts s)
+      ∙ section draft controlled_items publishing_one (λ x. x) (SoundAccount k) (λ x p. controls draft k x.controllers (publishing_one x)) [] w.accounts s
+      ∙ ap (with_accounts draft) (map_same w.accounts)
 
-  pub made : (w.accounts ≡ [] → w.next_identity ≡ 1) → put_all (items_of w) empty_world ≡ w
+  pub made : (w.accounts ≡ [] → w.next_identity ≡ 1) → put_all (items_of w) empty_draft ≡ draft_of w
   made h =
-      let others = each next_items 1 w.accounts ++ (each stored_items 1 w.accounts ++ (each published_items 1 w.accounts ++ each controlled_items 1 w.accounts)) in
-      put_both (head_items w) others empty_world
-      ∙ ap (put_all others) (headed w.accounts w.next_identity h ∙ (λ i. record { accounts = []; contracts = sym bare i; next_identity = w.next_identity }))
-      ∙ all_made
+      let of_accounts = each stored_items 1 w.accounts ++ (each published_items 1 w.accounts ++ each controlled_items 1 w.accounts) in
+      let of_values = flat_map fields_items w.contracts ++ of_accounts in
+      let of_codes = map code_item w.contracts ++ of_values in
+      let others = each next_items 1 w.accounts ++ of_codes in
+      let headless : Draft = record empty_draft { next_identity = w.next_identity } in
+      put_both (head_items w) others empty_draft
+      ∙ ap (put_all others) (headed w.accounts w.next_identity h)
+      ∙ put_both (each next_items 1 w.accounts) of_codes headless
+      ∙ ap (put_all of_codes) (begins headless [] 1 w.accounts)
+      ∙ put_both (map code_item w.contracts) of_values (with_accounts headless (map bare_one w.accounts))
+      ∙ ap (put_all of_values) (codes_made w.contracts (with_accounts headless (map bare_one w.accounts)))
+      ∙ put_both (flat_map fields_items w.contracts) of_accounts with_codes
+      ∙ ap (put_all of_accounts) (values_made w.contracts with_codes known)
+      ∙ accounts_made
+
+-- ---- the World again
+
+contracts_again : (cs : List Contract) → AllByRecursion IsKnown cs → contracts_from (map source_in cs) (map (λ c. c.program) cs) (map value_in cs) ≡ cs
+contracts_again [] s = refl
+contracts_again (c ∷ cs) s = λ i. record c { is_running = sym s.0.stands i } ∷ contracts_again cs s.1 i
+
+-- a World is that of its draft and its programs
+pub again : (w : World) → AllByRecursion IsKnown w.contracts → world_from (draft_of w) (programs_of w) ≡ w
+again w known = λ i. record w { contracts = contracts_again w.contracts known i }

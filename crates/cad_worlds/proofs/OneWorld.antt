@@ -1,24 +1,27 @@
 -- One map of registers stands for one World, and rows in order that stand for it are its registers.
-use Rattle.std.proofs.Common.{◌≡◌, ℕ, true, cond, List, [], ◌∷◌, map, Some, None, refl, sym, ap, ◌∙◌}
+use Rattle.std.proofs.Common.{◌≡◌, ℕ, true, cond, List, [], ◌∷◌, map, Some, refl, sym, ap, ◌∙◌}
 use Rattle.std.specs.Prelude.{◌&&◌, ◌+◌, length}
 use Rattle.std.specs.List.{AllByRecursion}
 use Rattle.std.proofs.lemmas.List.Elements.{recursion_from_All}
 use Rattle.cad_accounts.proofs.OneSize.{one_list}
 use Rattle.cad_accounts.specs.KeyOrder.{before, rise}
-use Rattle.cad_accounts.specs.Registers.{same_key, at, are_rising, entry_of}
+use Rattle.cad_accounts.specs.Registers.{Map, same_key, at, are_rising, entry_of}
 use Rattle.cad_accounts.specs.declared.row.Row.{Row}
 use Rattle.cad_wire.specs.Body.{body_bytes}
-use Rattle.cad_world.specs.Begin.{empty_world}
+use Rattle.cad_loads.specs.Loads.{Loaded, loaded_of, source_of}
 use Rattle.cad_world.specs.Registers.{Register, registers, bytes_under, entry}
 use Rattle.cad_world.specs.Shapes.{shapes}
 use Rattle.cad_world.specs.Sound.{SoundAccount}
-use Rattle.cad_world.specs.State.{World}
-use Rattle.cad_worlds.specs.Items.{items_of, IsTold, put_all}
-use Rattle.cad_worlds.specs.Laws.{register_key, RowsAreRegisters, OneWorldWithoutContracts}
-use Rattle.cad_worlds.specs.Standing.{coding, IsSound, StandsFor, WorldHasBytes, register_of}
-use Rattle.cad_worlds.proofs.Items.{told_items, told_all, items_told}
-use Rattle.cad_worlds.proofs.Making.{made}
+use Rattle.cad_world.specs.State.{Contract, Program, World}
+use Rattle.cad_worlds.specs.Items.{items_of, IsTold, Draft, empty_draft, put_all, draft_of, programs_of, world_from}
+use Rattle.cad_worlds.specs.Laws.{register_key, RowsAreRegisters, OneWorld}
+use Rattle.cad_worlds.specs.Standing.{coding, IsSoundButCode, StandsFor, WorldHasBytes, register_of}
+use Rattle.cad_worlds.proofs.Items.{told_items, items_told}
+use Rattle.cad_worlds.proofs.Known.{are_known}
+use Rattle.cad_worlds.proofs.Making.{made, again}
+use Rattle.cad_worlds.proofs.OneItem.{told_all}
 use Rattle.cad_worlds.proofs.Rising.{registers_rise_lem}
+use Rattle.cad_worlds.proofs.Sections.{map_both}
 
 -- ---- rows and registers
 
@@ -50,7 +53,7 @@ one_map rows xs a b same =
     ap (map register_of) (one_list rows (map row_of xs) a (rise_as_rows xs ∙ b) (λ key. same key ∙ sym (at_registers xs key))) ∙ registers_again xs
 
 pub rows_are : (rows : List Row) (w : World) → are_rising rows ≡ true → StandsFor (at rows) w → map register_of rows ≡ registers coding w
-rows_are rows w a s = one_map rows (registers coding w) a (registers_rise_lem w s.sound s.bare) s.are
+rows_are rows w a s = one_map rows (registers coding w) a (registers_rise_lem w s.sound.0) s.are
 
 entries_are : (rows : List Row) → map entry_of rows ≡ map entry (map register_of rows)
 entries_are [] = refl
@@ -63,19 +66,38 @@ rows_are_registers_lem rows w a s =
 
 -- ---- one World
 
-pub made_of : (w : World) → IsSound w → w.contracts ≡ [] → put_all (items_of w) empty_world ≡ w
-made_of w sound bare =
-    let s = sound (λ cs a code. None) in
-    made (shapes w.contracts) w (recursion_from_All (SoundAccount (shapes w.contracts)) w.accounts s.accounts) bare s.first
+pub made_of : (w : World) → IsSoundButCode w → put_all (items_of w) empty_draft ≡ draft_of w
+made_of w s = made (shapes w.contracts) w (recursion_from_All (SoundAccount (shapes w.contracts)) w.accounts s.accounts) (are_known w s) s.first
 
-pub told_by : (w : World) → IsSound w → WorldHasBytes w → AllByRecursion IsTold (items_of w)
-told_by w sound bytes =
-    let s = sound (λ cs a code. None) in
-    items_told (shapes w.contracts) w s.few s.next (recursion_from_All (SoundAccount (shapes w.contracts)) w.accounts s.accounts) bytes
+pub told_by : (w : World) → IsSoundButCode w → WorldHasBytes w → AllByRecursion IsTold (items_of w)
+told_by w s bytes = items_told (shapes w.contracts) w s.few s.next (recursion_from_All (SoundAccount (shapes w.contracts)) w.accounts s.accounts) (are_known w s) bytes
 
-pub one_world_lem : OneWorldWithoutContracts
-one_world_lem m w v s t =
-    let rises = registers_rise_lem w s.sound s.bare in
-    let same : registers coding w ≡ registers coding v = sym (registers_again (registers coding w)) ∙ one_map (map row_of (registers coding w)) (registers coding v) (rise_as_rows (registers coding w) ∙ rises) (registers_rise_lem v t.sound t.bare) (λ key. at_registers (registers coding w) key ∙ sym (s.are key) ∙ t.are key) in
-    let items = told_all (items_of w) (items_of v) (told_by w s.sound s.has_bytes) (told_by v t.sound t.has_bytes) (told_items w s.bare ∙ same ∙ sym (told_items v t.bare)) in
-    sym (made_of w s.sound s.bare) ∙ ap (λ xs. put_all xs empty_world) items ∙ made_of v t.sound t.bare
+pub world_again : (w : World) → IsSoundButCode w → world_from (draft_of w) (programs_of w) ≡ w
+world_again w s = again w (are_known w s)
+
+-- ---- two that stand for one map
+
+same_registers : (m : Map) (w v : World) → StandsFor m w → StandsFor m v → registers coding w ≡ registers coding v
+same_registers m w v s t =
+    let rises = rise_as_rows (registers coding w) ∙ registers_rise_lem w s.sound.0 in
+    sym (registers_again (registers coding w))
+    ∙ one_map (map row_of (registers coding w)) (registers coding v) rises (registers_rise_lem v t.sound.0) (λ key. at_registers (registers coding w) key ∙ sym (s.are key) ∙ t.are key)
+
+pub same_drafts : (m : Map) (w v : World) → StandsFor m w → StandsFor m v → draft_of w ≡ draft_of v
+same_drafts m w v s t =
+    let items = told_all (items_of w) (items_of v) (told_by w s.sound.0 s.has_bytes) (told_by v t.sound.0 t.has_bytes) (told_items w ∙ same_registers m w v s t ∙ sym (told_items v)) in
+    sym (made_of w s.sound.0) ∙ ap (λ xs. put_all xs empty_draft) items ∙ made_of v t.sound.0
+
+abbrev program_in : Loaded → Program
+program_in c = c.program
+
+loaded_programs : (cs : List Contract) → map program_in (map loaded_of cs) ≡ map (λ c. c.program) cs
+loaded_programs cs = sym (map_both program_in loaded_of cs)
+
+pub one_world_lem : OneWorld
+one_world_lem known m w v s t =
+    let drafts = same_drafts m w v s t in
+    let sources = sym (map_both source_of loaded_of w.contracts) ∙ ap (λ (d : Draft). d.sources) drafts ∙ map_both source_of loaded_of v.contracts in
+    let loaded = known (map loaded_of w.contracts) (map loaded_of v.contracts) s.sound.1 t.sound.1 sources in
+    let programs : programs_of w ≡ programs_of v = sym (loaded_programs w.contracts) ∙ ap (map program_in) loaded ∙ loaded_programs v.contracts in
+    sym (world_again w s.sound.0) ∙ (λ i. world_from (drafts i) (programs i)) ∙ world_again v t.sound.0

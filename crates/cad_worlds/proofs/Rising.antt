@@ -1,142 +1,30 @@
 -- The registers of a sound World stand in byte order of their keys.
-use Rattle.std.proofs.Common.{◌≡◌, ℕ, suc, ◌+◌, ◌*◌, ◌^◌, ◌<◌, ◌≤◌, Bool, true, false, cond, List, [], ◌∷◌, ◌++◌, map, length, None, refl, sym, ap, ◌∙◌, append-nil, arith, inl, inr, ◌⊎◌}
+use Rattle.std.proofs.Common.{◌≡◌, ℕ, suc, ◌+◌, ◌*◌, ◌^◌, ◌<◌, ◌≤◌, Bool, true, false, cond, List, [], ◌∷◌, ◌++◌, map, length, refl, sym, ap, ◌∙◌, append-nil, arith, inl}
 use Rattle.std.specs.Prelude.{◌==◌}
 use Rattle.std.specs.List.{AllByRecursion, flat_map}
-use Rattle.std.specs.Ordering.{nat_cmp, is_lt, ordering_then}
-use Rattle.std.specs.Cmp.Lexicographic.{slice_cmp}
-use Rattle.std.specs.declared.cmp.Ordering.{Ordering}
-use Rattle.std.specs.declared.cmp.Ordering.TheVariants.{Less, Equal, Greater}
-use Rattle.std.proofs.lemmas.Bool.{cases_lt, ltb-true}
+use Rattle.std.specs.Ordering.{is_lt}
+use Rattle.std.proofs.lemmas.Bool.{ltb-true}
 use Rattle.std.proofs.lemmas.List.Elements.{recursion_from_All}
 use Rattle.cad_accounts.specs.Code.Places.{AllBehind}
 use Rattle.cad_accounts.specs.KeyOrder.{before, rise}
-use Rattle.cad_accounts.proofs.Order.{both, both_left, both_right, tail_rises, first_before, join}
+use Rattle.cad_accounts.proofs.Order.{both, both_left, both_right, join}
 use Rattle.cad_syntax.specs.declared.text.Name.{Name}
 use Rattle.cad_values.specs.Shapes.{Shapes}
 use Rattle.cad_values.specs.Values.{PureValue}
 use Rattle.cad_wire.specs.Fields.{number_field}
-use Rattle.cad_world.specs.Orders.{rises, name_before, publication_before, controller_before}
-use Rattle.cad_world.specs.Registers.{Register, register, head_key, code_register, fields_registers, head_registers, of_accounts, next_register, stored_from, stored_registers, published_register, published_registers, controller_register, controller_registers, row_values, registers}
+use Rattle.cad_world.specs.Orders.{rises, name_before, publication_before, controller_before, contract_before}
+use Rattle.cad_world.specs.Registers.{Register, register, head_key, code_register, fields_registers, of_accounts, next_register, stored_from, stored_registers, published_register, published_registers, controller_register, controller_registers, row_values}
 use Rattle.cad_world.specs.Shapes.{shapes}
 use Rattle.cad_world.specs.Sound.{SoundAccount, SoundPublication, SoundController, most_next, most_accounts}
 use Rattle.cad_world.specs.State.{Publication, Controller, Account, Contract, World}
 use Rattle.cad_worlds.specs.Laws.{register_key, RegistersRise}
 use Rattle.cad_worlds.specs.Standing.{coding}
-use Rattle.cad_worlds.proofs.Numbers.{tied, less_step, number_before}
+use Rattle.cad_worlds.proofs.ContractParts.{codes_part, values_part}
+use Rattle.cad_worlds.proofs.Known.{IsKnown, are_known}
+use Rattle.cad_worlds.proofs.Numbers.{less_step, number_before}
+use Rattle.cad_worlds.proofs.Parts.{key_of, in_one, Placed, Part, two_parts, wider_part, section, here, map_rises, map_placed}
 
--- ---- keys of a kind, an address and a name
-
-abbrev pub key_of : ℕ → ℕ → List ℕ → List ℕ
-key_of k n name = k ∷ (number_field n ++ name)
-
-then_less : (o p q : Ordering) → (p ≡ Less → q ≡ Less) → ordering_then o p ≡ Less → ordering_then o q ≡ Less
-then_less Less p q f e = refl
-then_less Equal p q f e = f e
-then_less Greater p q f e = absurd cc
-
-less_with : (xs ys u v : List ℕ) → length xs ≡ length ys → slice_cmp nat_cmp xs ys ≡ Less → slice_cmp nat_cmp (xs ++ u) (ys ++ v) ≡ Less
-less_with [] [] u v n e = absurd cc
-less_with [] (y ∷ ys) u v n e = absurd (omega (arith, n))
-less_with (x ∷ xs) [] u v n e = absurd (omega (arith, n))
-less_with (x ∷ xs) (y ∷ ys) u v n e = then_less (nat_cmp x y) (slice_cmp nat_cmp xs ys) (slice_cmp nat_cmp (xs ++ u) (ys ++ v)) (λ f. less_with xs ys u v (omega (arith, n)) f) e
-
-same_front : (p x y : List ℕ) → slice_cmp nat_cmp (p ++ x) (p ++ y) ≡ slice_cmp nat_cmp x y
-same_front [] x y = refl
-same_front (c ∷ p) x y = ap (λ o. ordering_then o (slice_cmp nat_cmp (p ++ x) (p ++ y))) (tied c) ∙ same_front p x y
-
-ahead : (k l m n : ℕ) (x y : List ℕ) → (k < l) ⊎ ((k ≡ l) × (m < n)) → n < 2 ^ 64 → before (key_of k m x) (key_of l n y) ≡ true
-ahead k l m n x y (inl lt) fits = ap is_lt (less_step k l (number_field m ++ x) (number_field n ++ y) (inl lt))
-ahead k l m n x y (inr e) fits = ap is_lt (less_step k l (number_field m ++ x) (number_field n ++ y) (inr (e.0, less_with (number_field m) (number_field n) x y refl (number_before m n e.1 fits))))
-
--- of one kind and address
-in_one : (k n : ℕ) (x y : List ℕ) → before x y ≡ true → before (key_of k n x) (key_of k n y) ≡ true
-in_one k n x y e = ap is_lt (same_front (k ∷ number_field n) x y) ∙ e
-
--- ---- registers between two places in the order of kinds and addresses
-
-record Placed (low high : ℕ) (x : Register) : Type 0 where
-  pub kind : ℕ
-  pub address : ℕ
-  pub name : List ℕ
-  pub key_is : x.key ≡ key_of kind address name
-  pub fits : address < 2 ^ 64
-  pub at_least : low ≤ kind * 2 ^ 64 + address
-  pub below : kind * 2 ^ 64 + address < high
-
-record Part (low high : ℕ) (xs : List Register) : Type 0 where
-  pub rises : rise register_key xs ≡ true
-  pub placed : AllByRecursion (Placed low high) xs
-
-which : (k l m n mid : ℕ) → m < 2 ^ 64 → n < 2 ^ 64 → k * 2 ^ 64 + m < mid → mid ≤ l * 2 ^ 64 + n → (k < l) ⊎ ((k ≡ l) × (m < n))
-which k l m n mid a b c d =
-    elim (cases_lt k l) [
-      | inl lt ↦ inl lt
-      | inr le ↦
-          let same : k ≡ l = omega arith in
-          inr (same, omega arith)
-    ]
-
-placed_before : (low mid high : ℕ) (x y : Register) → Placed low mid x → Placed mid high y → before x.key y.key ≡ true
-placed_before low mid high x y p q =
-    (λ i. before (p.key_is i) (q.key_is i))
-    ∙ ahead p.kind q.kind p.address q.address p.name q.name (which p.kind q.kind p.address q.address mid p.fits q.fits p.below q.at_least) q.fits
-
-behind_part : (low mid high : ℕ) (x : Register) (ys : List Register) → Placed low mid x → AllByRecursion (Placed mid high) ys → AllBehind register_key x.key ys
-behind_part low mid high x [] p h = tt
-behind_part low mid high x (y ∷ ys) p h = (placed_before low mid high x y p h.0, behind_part low mid high x ys p h.1)
-
-append_behind : (key : List ℕ) (xs ys : List Register) → AllBehind register_key key xs → AllBehind register_key key ys → AllBehind register_key key (xs ++ ys)
-append_behind key [] ys a b = b
-append_behind key (x ∷ xs) ys a b = (a.0, append_behind key xs ys a.1 b)
-
-both_rise : (low mid high : ℕ) (xs ys : List Register) → Part low mid xs → Part mid high ys → rise register_key (xs ++ ys) ≡ true
-both_rise low mid high [] ys p q = q.rises
-both_rise low mid high (x ∷ xs) ys p q =
-    join register_key x (xs ++ ys) (append_behind x.key xs ys (first_before register_key x xs p.rises) (behind_part low mid high x ys p.placed.0 q.placed))
-    (both_rise low mid high xs ys (record { rises = tail_rises register_key x xs p.rises; placed = p.placed.1 }) q)
-
-wider_one : (a b low high : ℕ) (x : Register) → a ≤ low → high ≤ b → Placed low high x → Placed a b x
-wider_one a b low high x e f p = record {
-  kind = p.kind;
-  address = p.address;
-  name = p.name;
-  key_is = p.key_is;
-  fits = p.fits;
-  at_least = omega (arith, p.at_least);
-  below = omega (arith, p.below);
-}
-
-wider : (a b low high : ℕ) (xs : List Register) → a ≤ low → high ≤ b → AllByRecursion (Placed low high) xs → AllByRecursion (Placed a b) xs
-wider a b low high [] e f h = tt
-wider a b low high (x ∷ xs) e f h = (wider_one a b low high x e f h.0, wider a b low high xs e f h.1)
-
-all_of_both : {A : Type 0} (P : A → Type 0) (xs ys : List A) → AllByRecursion P xs → AllByRecursion P ys → AllByRecursion P (xs ++ ys)
-all_of_both P [] ys a b = b
-all_of_both P (x ∷ xs) ys a b = (a.0, all_of_both P xs ys a.1 b)
-
-two_parts : (low mid high : ℕ) (xs ys : List Register) → low ≤ mid → mid ≤ high → Part low mid xs → Part mid high ys → Part low high (xs ++ ys)
-two_parts low mid high xs ys a b p q = record {
-  rises = both_rise low mid high xs ys p q;
-  placed = all_of_both (Placed low high) xs ys (wider low high low mid xs (omega arith) b p.placed) (wider low high mid high ys a (omega arith) q.placed);
-}
-
-wider_part : (a b low high : ℕ) (xs : List Register) → a ≤ low → high ≤ b → Part low high xs → Part a b xs
-wider_part a b low high xs e f p = record { rises = p.rises; placed = wider a b low high xs e f p.placed }
-
--- ---- the registers of one kind
-
-module _ (k : ℕ) (f : ℕ → Account → List Register) (P : Account → Type 0) (one : (n : ℕ) (a : Account) → n < 2 ^ 64 → P a → Part (k * 2 ^ 64 + n) (k * 2 ^ 64 + suc n) (f n a)) where
-  section : (n : ℕ) (all : List Account) → n + length all ≤ 2 ^ 64 → AllByRecursion P all → Part (k * 2 ^ 64 + n) (k * 2 ^ 64 + 2 ^ 64) (of_accounts f n all)
-  section n [] le s = record { rises = refl; placed = tt }
-  section n (a ∷ all) le s =
-      two_parts (k * 2 ^ 64 + n) (k * 2 ^ 64 + suc n) (k * 2 ^ 64 + 2 ^ 64) (f n a) (of_accounts f (suc n) all) (omega arith) (omega (arith, le)) (one n a (omega (arith, le)) s.0)
-      (section (suc n) all (omega (arith, le)) s.1)
-
-abbrev at_key : ℕ → ℕ → List ℕ → Register → Type 0
-at_key k n name x = x.key ≡ key_of k n name
-
-here : (k n : ℕ) (name : List ℕ) (x : Register) → n < 2 ^ 64 → at_key k n name x → Placed (k * 2 ^ 64 + n) (k * 2 ^ 64 + suc n) x
-here k n name x fits e = record { kind = k; address = n; name = name; key_is = e; fits = fits; at_least = omega arith; below = omega arith }
+-- ---- the registers of one account
 
 one_next : (n : ℕ) (a : Account) → n < 2 ^ 64 → Part (1 * 2 ^ 64 + n) (1 * 2 ^ 64 + suc n) (next_register n a)
 one_next n a fits = record { rises = refl; placed = (here 1 n [] (register (1 ∷ number_field n) (number_field a.next_controller)) fits (ap (λ (l : List ℕ). 1 ∷ l) (sym (append-nil (number_field n)))), tt) }
@@ -155,18 +43,6 @@ stored_placed : (n : ℕ) (is : List Name) (vs : List PureValue) → n < 2 ^ 64 
 stored_placed n [] vs fits = tt
 stored_placed n (i ∷ is) [] fits = tt
 stored_placed n (i ∷ is) (v ∷ vs) fits = (here 4 n i.0 (register (key_of 4 n i.0) (coding.value v)) fits refl, stored_placed n is vs fits)
-
-map_rises : {A : Type 0} (earlier : A → A → Bool) (P : A → Type 0) (g : A → Register) → ((x y : A) → P x → P y → earlier x y ≡ true → before (g x).key (g y).key ≡ true)
-    → (xs : List A) → AllByRecursion P xs → rises earlier xs ≡ true → rise register_key (map g xs) ≡ true
-map_rises earlier P g h [] p e = refl
-map_rises earlier P g h (x ∷ []) p e = refl
-map_rises earlier P g h (x ∷ y ∷ xs) p e =
-    both (before (g x).key (g y).key) (rise register_key (map g (y ∷ xs))) (h x y p.0 p.1.0 (both_left (earlier x y) (rises earlier (y ∷ xs)) e))
-    (map_rises earlier P g h (y ∷ xs) p.1 (both_right (earlier x y) (rises earlier (y ∷ xs)) e))
-
-map_placed : {A : Type 0} (low high : ℕ) (P : A → Type 0) (g : A → Register) → ((x : A) → P x → Placed low high (g x)) → (xs : List A) → AllByRecursion P xs → AllByRecursion (Placed low high) (map g xs)
-map_placed low high P g h [] p = tt
-map_placed low high P g h (x ∷ xs) p = (h x p.0, map_placed low high P g h xs p.1)
 
 published_part : (k : Shapes) (n : ℕ) (ps : List Publication) → n < 2 ^ 64 → rises publication_before ps ≡ true → AllByRecursion (SoundPublication k) ps
     → Part (5 * 2 ^ 64 + n) (5 * 2 ^ 64 + suc n) (map (published_register coding n) ps)
@@ -193,13 +69,12 @@ controlled_part n cs fits e s = record {
 
 -- ---- all registers
 
-pub registers_are : (w : World) → w.contracts ≡ [] → registers coding w ≡ head_registers w ++ (of_accounts next_register 1 w.accounts
-    ++ (of_accounts (stored_registers coding) 1 w.accounts ++ (of_accounts (published_registers coding) 1 w.accounts ++ of_accounts (controller_registers coding) 1 w.accounts)))
-registers_are w bare =
-    ap (λ (cs : List Contract). head_registers w ++ (of_accounts next_register 1 w.accounts ++ (map code_register cs ++ (flat_map (fields_registers coding) cs
-    ++ (of_accounts (stored_registers coding) 1 w.accounts ++ (of_accounts (published_registers coding) 1 w.accounts ++ of_accounts (controller_registers coding) 1 w.accounts)))))) bare
+-- those of a kind, before those of later kinds
+kind_before : (k low : ℕ) (xs ys : List Register) → low ≤ k * 2 ^ 64 + 1 → k * 2 ^ 64 + 2 ^ 64 ≤ 7 * 2 ^ 64 → Part (k * 2 ^ 64 + 1) (k * 2 ^ 64 + 2 ^ 64) xs → Part (k * 2 ^ 64 + 2 ^ 64) (7 * 2 ^ 64) ys → Part low (7 * 2 ^ 64) (xs ++ ys)
+kind_before k low xs ys from below p q =
+    two_parts low (k * 2 ^ 64 + 2 ^ 64) (7 * 2 ^ 64) xs ys (omega (arith, from)) below (wider_part low (k * 2 ^ 64 + 2 ^ 64) (k * 2 ^ 64 + 1) (k * 2 ^ 64 + 2 ^ 64) xs from (omega arith) p) q
 
-module _ (k : Shapes) (all : List Account) (few : length all ≤ most_accounts) (s : AllByRecursion (SoundAccount k) all) where
+module _ (k : Shapes) (all : List Account) (few : length all ≤ most_accounts) (s : AllByRecursion (SoundAccount k) all) (cs : List Contract) (contracts_rise : rises contract_before cs ≡ true) (known : AllByRecursion IsKnown cs) where
   next_part : Part (1 * 2 ^ 64 + 1) (1 * 2 ^ 64 + 2 ^ 64) (of_accounts next_register 1 all)
   next_part = section 1 next_register (SoundAccount k) (λ n a fits p. one_next n a fits) 1 all (omega arith) s
 
@@ -218,15 +93,34 @@ module _ (k : Shapes) (all : List Account) (few : length all ≤ most_accounts) 
       (λ n a fits p. controlled_part n a.controllers fits p.controllers_rise (numbers_fit k a.next_controller a.controllers p.next (recursion_from_All (SoundController k a.next_controller) a.controllers p.controllers)))
       1 all (omega arith) s
 
+  abbrev after_published : List Register
+  after_published = of_accounts (published_registers coding) 1 all ++ of_accounts (controller_registers coding) 1 all
+
+  abbrev after_stored : List Register
+  after_stored = of_accounts (stored_registers coding) 1 all ++ after_published
+
+  abbrev after_values : List Register
+  after_values = flat_map (fields_registers coding) cs ++ after_stored
+
+  abbrev after_codes : List Register
+  after_codes = map code_register cs ++ after_values
+
+  from_published : Part (4 * 2 ^ 64 + 2 ^ 64) (7 * 2 ^ 64) after_published
+  from_published = kind_before 5 (4 * 2 ^ 64 + 2 ^ 64) (of_accounts (published_registers coding) 1 all) (of_accounts (controller_registers coding) 1 all) (omega arith) (omega arith) publications
+      (wider_part (5 * 2 ^ 64 + 2 ^ 64) (7 * 2 ^ 64) (6 * 2 ^ 64 + 1) (6 * 2 ^ 64 + 2 ^ 64) (of_accounts (controller_registers coding) 1 all) (omega arith) (omega arith) controlled)
+
+  from_stored : Part (3 * 2 ^ 64 + 2 ^ 64) (7 * 2 ^ 64) after_stored
+  from_stored = kind_before 4 (3 * 2 ^ 64 + 2 ^ 64) (of_accounts (stored_registers coding) 1 all) after_published (omega arith) (omega arith) stored_part from_published
+
+  from_values : Part (2 * 2 ^ 64 + 2 ^ 64) (7 * 2 ^ 64) after_values
+  from_values = kind_before 3 (2 * 2 ^ 64 + 2 ^ 64) (flat_map (fields_registers coding) cs) after_stored (omega arith) (omega arith) (values_part cs contracts_rise known) from_stored
+
+  from_codes : Part (1 * 2 ^ 64 + 2 ^ 64) (7 * 2 ^ 64) after_codes
+  from_codes = kind_before 2 (1 * 2 ^ 64 + 2 ^ 64) (map code_register cs) after_values (omega arith) (omega arith) (codes_part cs contracts_rise known) from_values
+
   -- all but the first
-  others : Part (1 * 2 ^ 64 + 1) (7 * 2 ^ 64) (of_accounts next_register 1 all ++ (of_accounts (stored_registers coding) 1 all ++ (of_accounts (published_registers coding) 1 all ++ of_accounts (controller_registers coding) 1 all)))
-  others =
-      two_parts (1 * 2 ^ 64 + 1) (1 * 2 ^ 64 + 2 ^ 64) (7 * 2 ^ 64) (of_accounts next_register 1 all) (of_accounts (stored_registers coding) 1 all ++ (of_accounts (published_registers coding) 1 all ++ of_accounts (controller_registers coding) 1 all)) (omega arith) (omega arith) next_part
-      (two_parts (1 * 2 ^ 64 + 2 ^ 64) (4 * 2 ^ 64 + 2 ^ 64) (7 * 2 ^ 64) (of_accounts (stored_registers coding) 1 all) (of_accounts (published_registers coding) 1 all ++ of_accounts (controller_registers coding) 1 all) (omega arith) (omega arith)
-      (wider_part (1 * 2 ^ 64 + 2 ^ 64) (4 * 2 ^ 64 + 2 ^ 64) (4 * 2 ^ 64 + 1) (4 * 2 ^ 64 + 2 ^ 64) (of_accounts (stored_registers coding) 1 all) (omega arith) (omega arith) stored_part)
-      (two_parts (4 * 2 ^ 64 + 2 ^ 64) (5 * 2 ^ 64 + 2 ^ 64) (7 * 2 ^ 64) (of_accounts (published_registers coding) 1 all) (of_accounts (controller_registers coding) 1 all) (omega arith) (omega arith)
-      (wider_part (4 * 2 ^ 64 + 2 ^ 64) (5 * 2 ^ 64 + 2 ^ 64) (5 * 2 ^ 64 + 1) (5 * 2 ^ 64 + 2 ^ 64) (of_accounts (published_registers coding) 1 all) (omega arith) (omega arith) publications)
-      (wider_part (5 * 2 ^ 64 + 2 ^ 64) (7 * 2 ^ 64) (6 * 2 ^ 64 + 1) (6 * 2 ^ 64 + 2 ^ 64) (of_accounts (controller_registers coding) 1 all) (omega arith) (omega arith) controlled)))
+  others : Part (1 * 2 ^ 64 + 1) (7 * 2 ^ 64) (of_accounts next_register 1 all ++ after_codes)
+  others = kind_before 1 (1 * 2 ^ 64 + 1) (of_accounts next_register 1 all) after_codes (omega arith) (omega arith) next_part from_codes
 
 -- the first stands before all of them
 head_before : (low high : ℕ) (x : Register) → 2 ^ 64 ≤ low → Placed low high x → before head_key x.key ≡ true
@@ -246,8 +140,7 @@ with_head true bytes low high xs le p = p.rises
 with_head false bytes low high xs le p = join register_key (register head_key bytes) xs (head_behind low high xs le p.placed) p.rises
 
 pub registers_rise_lem : RegistersRise
-registers_rise_lem w sound bare =
-    let s = sound (λ cs a code. None) in
+registers_rise_lem w s =
     let k = shapes w.contracts in
-    ap (rise register_key) (registers_are w bare)
-    ∙ with_head (length w.accounts == 0) (number_field (length w.accounts) ++ number_field w.next_identity) (1 * 2 ^ 64 + 1) (7 * 2 ^ 64) _ (omega arith) (others k w.accounts s.few (recursion_from_All (SoundAccount k) w.accounts s.accounts))
+    with_head (length w.accounts == 0) (number_field (length w.accounts) ++ number_field w.next_identity) (1 * 2 ^ 64 + 1) (7 * 2 ^ 64) _ (omega arith)
+    (others k w.accounts s.few (recursion_from_All (SoundAccount k) w.accounts s.accounts) w.contracts s.contracts_rise (are_known w s))

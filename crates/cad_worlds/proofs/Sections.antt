@@ -1,6 +1,7 @@
 -- Registers that are written one after another.
 use Rattle.std.proofs.Common.{◌≡◌, ℕ, suc, ◌<◌, ◌≤◌, List, [], ◌∷◌, ◌++◌, map, length, drop, get_or, refl, sym, ap, subst, ◌∙◌, append_assoc, append-nil, arith}
 use Rattle.std.specs.Prelude.{Result, OnOk}
+use Rattle.std.specs.List.{flat_map}
 use Rattle.std.proofs.lemmas.List.{map-append, length-map}
 use Rattle.cad_accounts.specs.declared.row.Row.{Row}
 use Rattle.cad_codec.specs.ValueBytes.{value_bytes}
@@ -9,17 +10,19 @@ use Rattle.cad_rows.specs.Views.{PlaceView, vacant, taken, before, pure_row, pur
 use Rattle.cad_rows.specs.declared.tree.Place.{Place, Place-F, fold-roll-Place}
 use Rattle.cad_rows.specs.declared.tree.Place.TheVariants as variant
 use Rattle.cad_rows.specs.declared.tree.Tree.{Tree}
-use Rattle.cad_state.specs.Views.{account_of, controller_of, publication_of}
+use Rattle.cad_state.specs.Views.{account_of, contract_of, controller_of, publication_of}
 use Rattle.cad_state.specs.declared.state.Account.{Account}
+use Rattle.cad_state.specs.declared.state.Contract.{Contract}
 use Rattle.cad_state.specs.declared.state.Controller.{Controller}
 use Rattle.cad_state.specs.declared.state.Publication.{Publication}
 use Rattle.cad_syntax.specs.declared.text.Name.{Name}
-use Rattle.cad_world.specs.Registers.{Register, register, stored_key, stored_from, row_values, of_accounts, next_register, stored_registers, published_register, published_registers, controller_register, controller_registers, registers}
+use Rattle.cad_syntax.specs.declared.type_id.TypeId.{TypeId}
+use Rattle.cad_world.specs.Registers.{Register, register, stored_key, stored_from, row_values, of_accounts, next_register, code_register, fields_registers, stored_registers, published_register, published_registers, controller_register, controller_registers, registers}
 use Rattle.cad_world.specs.Rows as r
 use Rattle.cad_world.specs.Trees.{value_of}
 use Rattle.cad_world.specs.State as s
 use Rattle.cad_worlds.proofs.Lists.{none_past, from_item}
-use Rattle.cad_worlds.specs.Sections.{head, place_registers, names_left, published_of, controlled_of}
+use Rattle.cad_worlds.specs.Sections.{head, place_registers, names_left, published_of, controlled_of, code_of, fields_register, fields_of, place_fields}
 use Rattle.cad_worlds.specs.Standing.{coding, register_of}
 
 -- ---- any list
@@ -34,6 +37,17 @@ item_turn f xs i x now new all inside is so_far grown =
 pub item_end : {A B : Type 0} (f : A → B) (xs : List A) (i : ℕ) (now all : List B) → length xs ≤ i → now ++ map f (drop i xs) ≡ all → now ≡ all
 item_end f xs i now all outside so_far = sym (append-nil now) ∙ ap (λ z. now ++ map f z) (sym (none_past xs i outside)) ∙ so_far
 
+-- the same where each item gives a list
+pub flat_turn : {A B : Type 0} (f : A → List B) (xs : List A) (i : ℕ) (x : A) (now new all : List B) → i < length xs → x ≡ get_or xs i x → now ++ flat_map f (drop i xs) ≡ all → new ≡ now ++ f x → new ++ flat_map f (drop (suc i) xs) ≡ all
+flat_turn f xs i x now new all inside is so_far grown =
+    ap (λ z. z ++ flat_map f (drop (suc i) xs)) grown
+    ∙ append_assoc now (f x) (flat_map f (drop (suc i) xs))
+    ∙ ap (λ z. now ++ flat_map f z) (sym (from_item xs i x inside is))
+    ∙ so_far
+
+pub flat_end : {A B : Type 0} (f : A → List B) (xs : List A) (i : ℕ) (now all : List B) → length xs ≤ i → now ++ flat_map f (drop i xs) ≡ all → now ≡ all
+flat_end f xs i now all outside so_far = sym (append-nil now) ∙ ap (λ z. now ++ flat_map f z) (sym (none_past xs i outside)) ∙ so_far
+
 -- one register more
 pub pushed : (rows : List Row) (row : Row) → map register_of (rows ++ row ∷ []) ≡ map register_of rows ++ register_of row ∷ []
 pushed rows row = map-append register_of rows (row ∷ [])
@@ -42,7 +56,7 @@ pushed rows row = map-append register_of rows (row ∷ [])
 pub grown : {A E : Type 0} (result : Result A E) (new old xs ys : List Register) → xs ≡ ys → OnOk result (new ≡ old ++ xs) → OnOk result (new ≡ old ++ ys)
 grown result new old xs ys same h = subst (λ (zs : List Register). OnOk result (new ≡ old ++ zs)) same h
 
-map_both : {A B C : Type 0} (f : B → C) (g : A → B) (xs : List A) → map (λ x. f (g x)) xs ≡ map f (map g xs)
+pub map_both : {A B C : Type 0} (f : B → C) (g : A → B) (xs : List A) → map (λ x. f (g x)) xs ≡ map f (map g xs)
 map_both f g [] = refl
 map_both f g (x ∷ xs) = ap (λ ys. f (g x) ∷ ys) (map_both f g xs)
 
@@ -104,23 +118,65 @@ pub accounts_end : (f : ℕ → s.Account → List Register) (xs : List Account)
 accounts_end f xs i now all outside so_far =
     sym (append-nil now) ∙ ap (λ (z : List Account). now ++ of_accounts f (suc i) (map account_of z)) (sym (none_past xs i outside)) ∙ so_far
 
+-- ---- contracts
+
+pub all_codes : (cs : List Contract) → map code_of cs ≡ map code_register (map contract_of cs)
+all_codes cs = map_both code_register contract_of cs
+
+pub all_values : (cs : List Contract) → flat_map fields_of cs ≡ flat_map (fields_registers coding) (map contract_of cs)
+all_values [] = refl
+all_values (c ∷ cs) = ap (λ (xs : List Register). fields_of c ++ xs) (all_values cs)
+
+abbrev pub contents : TypeId → List Place → List Register
+contents id ps = map (fields_register id) (row_values (pure_row ps))
+
+pub one_content : (id : TypeId) (v : PlaceView) (rest : r.Row) → map (fields_register id) (row_values (before v rest)) ≡ place_fields id v ++ map (fields_register id) (row_values rest)
+one_content id vacant rest = refl
+one_content id (taken l t) rest = refl
+
+pub contents_turn : (id : TypeId) (ps : List Place) (i : ℕ) (p : Place) (now new all : List Register) → i < length ps → p ≡ get_or ps i p → now ++ contents id (drop i ps) ≡ all → new ≡ now ++ place_fields id (pure_place p) → new ++ contents id (drop (suc i) ps) ≡ all
+contents_turn id ps i p now new all inside is so_far grown =
+    let rest = pure_row (drop (suc i) ps) in
+    let here = place_fields id (pure_place p) in
+    ap (λ z. z ++ map (fields_register id) (row_values rest)) grown
+    ∙ append_assoc now here (map (fields_register id) (row_values rest))
+    ∙ ap (λ z. now ++ z) (sym (one_content id (pure_place p) rest) ∙ ap (λ (q : r.Row). map (fields_register id) (row_values q)) (sym (from_there ps i p inside is)))
+    ∙ so_far
+
+pub contents_end : (id : TypeId) (ps : List Place) (i : ℕ) (now all : List Register) → length ps ≤ i → now ++ contents id (drop i ps) ≡ all → now ≡ all
+contents_end id ps i now all outside so_far =
+    sym (append-nil now) ∙ ap (λ (q : r.Row). now ++ map (fields_register id) (row_values q)) (sym (past ps i outside)) ∙ so_far
+
 -- ---- all kinds
 
-pub joined : (a b c d e : List Register) → (((a ++ b) ++ c) ++ d) ++ e ≡ a ++ (b ++ (c ++ (d ++ e)))
-joined a b c d e = simp append_assoc
+pub joined : (a b c d e f g : List Register) → (((((a ++ b) ++ c) ++ d) ++ e) ++ f) ++ g ≡ a ++ (b ++ (c ++ (d ++ (e ++ (f ++ g)))))
+joined a b c d e f g = simp append_assoc
+
+-- what is appended for each kind, of these accounts and contracts
+pub record AreWritten (accounts : List Account) (contracts : List Contract) (r0 r1 r2 r3 r4 r5 r6 : List Register) : Type 0 where
+  pub next : r1 ≡ r0 ++ of_accounts next_register 1 (map account_of accounts)
+  pub codes : r2 ≡ r1 ++ map code_of contracts
+  pub values : r3 ≡ r2 ++ flat_map fields_of contracts
+  pub stored : r4 ≡ r3 ++ of_accounts (stored_registers coding) 1 (map account_of accounts)
+  pub published : r5 ≡ r4 ++ of_accounts (published_registers coding) 1 (map account_of accounts)
+  pub controlled : r6 ≡ r5 ++ of_accounts (controller_registers coding) 1 (map account_of accounts)
 
 -- the registers of a World, one kind behind another
-pub all_kinds : (accounts kept : List Account) (count identity : ℕ) (r0 r1 r2 r3 r4 : List Register) → accounts ≡ kept → count ≡ length accounts → r0 ≡ head count identity
-    → r1 ≡ r0 ++ of_accounts next_register 1 (map account_of accounts) → r2 ≡ r1 ++ of_accounts (stored_registers coding) 1 (map account_of accounts)
-    → r3 ≡ r2 ++ of_accounts (published_registers coding) 1 (map account_of accounts) → r4 ≡ r3 ++ of_accounts (controller_registers coding) 1 (map account_of accounts)
-    → r4 ≡ registers coding (record { accounts = map account_of kept; contracts = []; next_identity = identity })
-all_kinds accounts kept count identity r0 r1 r2 r3 r4 same counted e0 e1 e2 e3 e4 =
+pub all_kinds : (accounts kept : List Account) (contracts held : List Contract) (count identity : ℕ) (r0 r1 r2 r3 r4 r5 r6 : List Register) → accounts ≡ kept → contracts ≡ held → count ≡ length accounts → r0 ≡ head count identity
+    → AreWritten accounts contracts r0 r1 r2 r3 r4 r5 r6
+    → r6 ≡ registers coding (record { accounts = map account_of kept; contracts = map contract_of held; next_identity = identity })
+all_kinds accounts kept contracts held count identity r0 r1 r2 r3 r4 r5 r6 same there counted e0 w =
     let all = map account_of accounts in
     let a = of_accounts next_register 1 all in
-    let b = of_accounts (stored_registers coding) 1 all in
-    let c = of_accounts (published_registers coding) 1 all in
-    let d = of_accounts (controller_registers coding) 1 all in
-    e4 ∙ ap (λ (z : List Register). z ++ d) (e3 ∙ ap (λ (z : List Register). z ++ c) (e2 ∙ ap (λ (z : List Register). z ++ b) (e1 ∙ ap (λ (z : List Register). z ++ a) e0)))
-    ∙ joined (head count identity) a b c d
-    ∙ ap (λ (n : ℕ). head n identity ++ (a ++ (b ++ (c ++ d)))) (counted ∙ sym (length-map accounts account_of))
-    ∙ ap (λ (xs : List Account). registers coding (record { accounts = map account_of xs; contracts = []; next_identity = identity })) same
+    let b = map code_of contracts in
+    let c = flat_map fields_of contracts in
+    let d = of_accounts (stored_registers coding) 1 all in
+    let e = of_accounts (published_registers coding) 1 all in
+    let f = of_accounts (controller_registers coding) 1 all in
+    let e2 : r2 ≡ (head count identity ++ a) ++ b = w.codes ∙ ap (λ (z : List Register). z ++ b) (w.next ∙ ap (λ (z : List Register). z ++ a) e0) in
+    let e4 : r4 ≡ (((head count identity ++ a) ++ b) ++ c) ++ d = w.stored ∙ ap (λ (z : List Register). z ++ d) (w.values ∙ ap (λ (z : List Register). z ++ c) e2) in
+    w.controlled ∙ ap (λ (z : List Register). z ++ f) (w.published ∙ ap (λ (z : List Register). z ++ e) e4)
+    ∙ joined (head count identity) a b c d e f
+    ∙ ap (λ (n : ℕ). head n identity ++ (a ++ (b ++ (c ++ (d ++ (e ++ f)))))) (counted ∙ sym (length-map accounts account_of))
+    ∙ (λ i. head (length all) identity ++ (a ++ (all_codes contracts i ++ (all_values contracts i ++ (d ++ (e ++ f))))))
+    ∙ (λ i. registers coding (record { accounts = map account_of (same i); contracts = map contract_of (there i); next_identity = identity }))

@@ -2,12 +2,16 @@
 use Rattle.std.specs.Prelude.{ℕ, ◌==◌, List, [], ◌∷◌, ◌++◌, if◌then◌else◌}
 use Rattle.cad_codec.specs.ValueBytes.{value_bytes}
 use Rattle.cad_rows.specs.Views.{PlaceView, vacant, taken}
-use Rattle.cad_state.specs.Views.{controller_of, publication_of}
+use Rattle.cad_state.specs.Views.{contract_of, controller_of, publication_of}
+use Rattle.cad_state.specs.declared.state.Contract.{Contract}
 use Rattle.cad_state.specs.declared.state.Controller.{Controller}
 use Rattle.cad_state.specs.declared.state.Publication.{Publication}
 use Rattle.cad_syntax.specs.declared.text.Name.{Name}
+use Rattle.cad_syntax.specs.declared.type_id.TypeId.{TypeId}
+use Rattle.cad_values.specs.Values.{PureValue}
 use Rattle.cad_wire.specs.Fields.{number_field}
-use Rattle.cad_world.specs.Registers.{Register, register, head_key, stored_key, next_register, stored_registers, published_register, published_registers, controller_register, controller_registers}
+use Rattle.cad_world.specs.Orders.{contract_name}
+use Rattle.cad_world.specs.Registers.{Register, register, head_key, fields_key, stored_key, code_register, fields_registers, next_register, stored_registers, published_register, published_registers, controller_register, controller_registers}
 use Rattle.cad_world.specs.State.{Account}
 use Rattle.cad_world.specs.Trees.{value_of}
 use Rattle.cad_worlds.specs.Standing.{coding}
@@ -43,3 +47,21 @@ published_of n p = published_register coding n (publication_of p)
 
 abbrev pub controlled_of : ℕ → Controller → Register
 controlled_of n c = controller_register coding n (controller_of c)
+
+abbrev pub name_bytes : Name → List ℕ
+name_bytes n = n.0
+
+-- the registers of a contract's code and of its value
+abbrev pub code_of : Contract → Register
+code_of c = code_register (contract_of c)
+
+abbrev pub fields_register : TypeId → PureValue → Register
+fields_register id v = register (fields_key id.address.0 (contract_name id)) (value_bytes v)
+
+abbrev pub fields_of : Contract → List Register
+fields_of c = fields_registers coding (contract_of c)
+
+-- of what stands in a place
+abbrev pub place_fields : TypeId → PlaceView → List Register
+place_fields id vacant = []
+place_fields id (taken l t) = fields_register id (value_of t) ∷ []

@@ -1,5 +1,5 @@
 // The laws of Worlds as registers.
-ghost use Rattle.cad_worlds.specs.Laws.{RegistersRise, RowsAreRegisters, OneWorldWithoutContracts};
+ghost use Rattle.cad_worlds.specs.Laws.{RegistersRise, RowsAreRegisters, OneWorld};
 
 /// The registers of a sound World stand in byte order of their keys, each key once.
 pub fn registers_rise()
@@ -11,7 +11,7 @@ pub fn rows_are_registers()
     ensures { RowsAreRegisters }
 {}
 
-/// One map of registers stands for one World.
+/// One map of registers stands for one World, as far as contracts that were deployed are known by their codes.
 pub fn one_world()
-    ensures { OneWorldWithoutContracts }
+    ensures { OneWorld }
 {}

@@ -1,21 +1,24 @@
 // The registers of each kind, one by one.
 ghost use Rattle.std.specs.Prelude.{◌≡◌, ◌∷◌, ◌++◌, IfOk, OnOk};
+ghost use Rattle.std.specs.List.{flat_map};
 ghost use Rattle.cad_codec.specs.TypeBytes.{type_bytes};
 ghost use Rattle.cad_codec.specs.ValueBytes as codec;
 ghost use Rattle.cad_rows.specs.Views.{pure_tree};
-ghost use Rattle.cad_state.specs.Views.{controller_of, publication_of};
+ghost use Rattle.cad_state.specs.Views.{contract_of, controller_of, publication_of};
 ghost use Rattle.cad_syntax.specs.Types.{pure_type};
 ghost use Rattle.cad_values.specs.Values.{pure_value, capability};
 ghost use Rattle.cad_wire.specs.Fields.{number_field, bytes_field};
+ghost use Rattle.cad_world.specs.Orders.{contract_name};
 ghost use Rattle.cad_world.specs.Registers as spec;
 ghost use Rattle.cad_world.specs.Trees.{value_of};
+ghost use Rattle.cad_worlds.specs.Sections.{fields_register, name_bytes};
 ghost use Rattle.cad_worlds.specs.Standing.{coding, register_of};
 
 use cad_accounts::Row;
 use cad_codec::{encode, encode_type};
 use cad_rows::Tree;
-use cad_state::{Controller, Publication, discard_value};
-use cad_syntax::{Address, Bytes, Name};
+use cad_state::{Contract, Controller, Publication, discard_value};
+use cad_syntax::{Address, Bytes, Items, Name, TypeId};
 use cad_value_trees::value_from_tree;
 use cad_values::{Cap, Value, has_no_reference};
 use cad_wire::{Key, Writer};
@@ -24,6 +27,10 @@ use std::alloc::{AllocError, Global};
 const HEAD: u8 = 0;
 
 const NEXT: u8 = 1;
+
+const CODE: u8 = 2;
+
+const FIELDS: u8 = 3;
 
 const STORED: u8 = 4;
 
@@ -51,6 +58,34 @@ fn named_key(alloc: Global, kind: u8, address: u64, name: &Name) -> Result<Key, 
     bytes.push(kind)?;
     bytes.extend_from_slice(&address.to_be_bytes())?;
     bytes.extend_from_slice(name.0.as_bytes())?;
+    Ok(Key(Bytes::from_vec(bytes)))
+}
+
+/// Appends the bytes of a name.
+fn push_name(bytes: &mut Vec<u8>, name: &Name) -> Result<(), AllocError>
+    ensures { OnOk result (bytes.new.items ≡ bytes.old.items ++ name_bytes name.now) }
+{
+    bytes.extend_from_slice(name.0.as_bytes())
+}
+
+/// Appends the bytes of names.
+fn push_names(bytes: &mut Vec<u8>, names: &[Name]) -> Result<(), AllocError>
+    ensures { OnOk result (bytes.new.items ≡ bytes.old.items ++ flat_map name_bytes names.now) }
+{
+    for name in names {
+        push_name(bytes, name)?;
+    }
+    Ok(())
+}
+
+/// The key of what a contract has of a kind.
+fn contract_key(alloc: Global, kind: u8, id: &TypeId) -> Result<Key, AllocError>
+    ensures { IfOk result (λ key. key.0 ≡ kind ∷ (number_field id.now.address.0 ++ contract_name id.now)) }
+{
+    let mut bytes = Vec::new(alloc);
+    bytes.push(kind)?;
+    bytes.extend_from_slice(&id.address.0.to_be_bytes())?;
+    push_names(&mut bytes, id.names.as_slice())?;
     Ok(Key(Bytes::from_vec(bytes)))
 }
 
@@ -163,6 +198,24 @@ pub(crate) fn next_row(alloc: Global, address: u64, number: u64) -> Result<Row, 
         key,
         value: bytes.finish(),
     })
+}
+
+/// The code of a contract.
+pub(crate) fn code_row(alloc: Global, contract: &Contract) -> Result<Row, AllocError>
+    ensures { IfOk result (λ row. register_of row ≡ spec.code_register (contract_of contract.now)) }
+{
+    let key = contract_key(alloc, CODE, &contract.id)?;
+    let value = Items::from_slice(alloc, contract.code.as_slice())?;
+    Ok(Row { key, value })
+}
+
+/// The value of a contract.
+pub(crate) fn fields_row(alloc: Global, id: &TypeId, tree: &Tree) -> Result<Row, AllocError>
+    ensures { IfOk result (λ row. register_of row ≡ fields_register id.now (value_of (pure_tree tree.now))) }
+{
+    let key = contract_key(alloc, FIELDS, id)?;
+    let value = tree_bytes(alloc, tree)?;
+    Ok(Row { key, value })
 }
 
 /// What an account stores under an identifier.

@@ -1,5 +1,6 @@
 // The registers of a World.
 ghost use Rattle.std.specs.Prelude.{◌≡◌, ◌++◌, ◌∷◌, [], map, IfOk, OnOk};
+ghost use Rattle.std.specs.List.{flat_map};
 ghost use Rattle.cad_rows.specs.Views.{pure_place, pure_row};
 ghost use Rattle.cad_state.specs.Views.{account_of};
 ghost use Rattle.cad_wire.specs.Fields.{number_field};
@@ -8,11 +9,13 @@ ghost use Rattle.cad_worlds.specs.Sections as sections;
 ghost use Rattle.cad_worlds.specs.Standing.{coding, register_of, world_of};
 
 use crate::kept::World;
-use crate::rows::{controller_row, head_row, next_row, published_row, stored_row};
+use crate::rows::{
+    code_row, controller_row, fields_row, head_row, next_row, published_row, stored_row,
+};
 use cad_accounts::Row;
 use cad_rows::Place;
-use cad_state::{Account, Controller, Publication};
-use cad_syntax::Name;
+use cad_state::{Account, Contract, Controller, Publication};
+use cad_syntax::{Name, TypeId};
 use std::alloc::{AllocError, Global};
 
 /// Of which kind registers are that stand side by side for all accounts.
@@ -232,6 +235,79 @@ fn push_section(
     Ok(())
 }
 
+// ---- of contracts
+
+/// Appends the register of a contract's code.
+fn push_code(alloc: Global, contract: &Contract, rows: &mut Vec<Row>) -> Result<(), AllocError>
+    ensures { OnOk result (map register_of rows.new.items ≡ map register_of rows.old.items ++ sections.code_of contract.now ∷ []) }
+{
+    let row = code_row(alloc, contract)?;
+    push_row(row, rows)
+}
+
+/// Appends the registers of the codes of contracts.
+fn push_codes(alloc: Global, contracts: &[Contract], rows: &mut Vec<Row>) -> Result<(), AllocError>
+    ensures { OnOk result (map register_of rows.new.items ≡ map register_of rows.old.items ++ map sections.code_of contracts.now) }
+{
+    for contract in contracts {
+        push_code(alloc, contract, rows)?;
+    }
+    Ok(())
+}
+
+/// Appends the register of a contract's value, which stands in a place.
+fn push_content(
+    alloc: Global,
+    id: &TypeId,
+    place: &Place,
+    rows: &mut Vec<Row>,
+) -> Result<(), AllocError>
+    ensures { OnOk result (map register_of rows.new.items ≡ map register_of rows.old.items ++ sections.place_fields id.now (pure_place place.now)) }
+{
+    match place {
+        Place::Empty => Ok(()),
+        Place::Full(_, tree) => {
+            let row = fields_row(alloc, id, tree)?;
+            push_row(row, rows)
+        }
+    }
+}
+
+/// Appends the registers of what stands in the places of a contract.
+fn push_contents(
+    alloc: Global,
+    id: &TypeId,
+    places: &[Place],
+    rows: &mut Vec<Row>,
+) -> Result<(), AllocError>
+    ensures { OnOk result (map register_of rows.new.items ≡ map register_of rows.old.items ++ map (sections.fields_register id.now) (spec.row_values (pure_row places.now))) }
+{
+    for place in places {
+        push_content(alloc, id, place, rows)?;
+    }
+    Ok(())
+}
+
+/// Appends the register of a contract's value.
+fn push_value(alloc: Global, contract: &Contract, rows: &mut Vec<Row>) -> Result<(), AllocError>
+    ensures { OnOk result (map register_of rows.new.items ≡ map register_of rows.old.items ++ sections.fields_of contract.now) }
+{
+    let places = contract.value.as_slice();
+    push_contents(alloc, &contract.id, places, rows)
+}
+
+/// Appends the registers of the values of contracts.
+fn push_values(alloc: Global, contracts: &[Contract], rows: &mut Vec<Row>) -> Result<(), AllocError>
+    ensures { OnOk result (map register_of rows.new.items ≡ map register_of rows.old.items ++ flat_map sections.fields_of contracts.now) }
+{
+    for contract in contracts {
+        push_value(alloc, contract, rows)?;
+    }
+    Ok(())
+}
+
+// ---- of a World
+
 /// The register of how many accounts there are, where there is one.
 fn head_rows(alloc: Global, count: usize, identity: u64) -> Result<Vec<Row>, AllocError>
     ensures { IfOk result (λ rows. map register_of rows.items ≡ sections.head count identity) }
@@ -250,8 +326,11 @@ pub fn registers_of(alloc: Global, world: &World) -> Result<Vec<Row>, AllocError
     ensures { IfOk result (λ rows. map register_of rows.items ≡ spec.registers coding (world_of world.now)) }
 {
     let accounts = world.accounts.as_slice();
+    let contracts = world.contracts.as_slice();
     let mut rows = head_rows(alloc, accounts.len(), world.next_identity)?;
     push_section(alloc, Section::Next, accounts, &mut rows)?;
+    push_codes(alloc, contracts, &mut rows)?;
+    push_values(alloc, contracts, &mut rows)?;
     push_section(alloc, Section::Stored, accounts, &mut rows)?;
     push_section(alloc, Section::Published, accounts, &mut rows)?;
     push_section(alloc, Section::Controllers, accounts, &mut rows)?;

@@ -1,29 +1,9 @@
 //! Cadence on one machine: command lines come in, and one reply line goes out for each.
 #![tactic(auto)]
 
-#[cfg(test)]
-mod account_tests;
-mod commands;
-mod judging;
-mod laws;
-mod line;
-mod making;
-mod outcome;
-mod prepare;
-mod reply;
-mod scripts;
-mod serve;
-mod status;
-#[cfg(test)]
-mod tests;
-mod transactions;
-mod words;
-mod worlds;
-
 use cad_host::FileHost;
+use cad_serve::{Status, serve};
 use cad_syntax::{Items, Text};
-use serve::serve;
-use status::Status;
 use std::alloc::Global;
 use std::env;
 use std::io::ErrorKind;

@@ -14,8 +14,9 @@ use Rattle.cad_state.specs.Views.{FindsAndCarriesOut}
 use Rattle.cad_state.specs.declared.state.RunState.{RunState}
 use Rattle.cad_syntax.specs.declared.address.Address.{Address}
 use Rattle.cad_syntax.specs.declared.type_id.TypeId.{TypeId}
+use Rattle.cad_world.specs.Fronts.{judged}
 use Rattle.cad_world.specs.Rows.{Row, Tree, back}
-use Rattle.cad_world.specs.State.{Contract, Action, ◌>>=◌, ◌>>◌, done, with_some, or_fail}
+use Rattle.cad_world.specs.State.{Contract, Action, ◌>>=◌, ◌>>◌, done, with_some}
 
 -- ---- the installation
 
@@ -39,7 +40,7 @@ InstallsOn calls c (Err why) before after result = result ≡ Err why
 -- ---- what is added
 
 abbrev pub code_installed : Front → Calls → TypeId → List ℕ → Row → Action Tree
-code_installed front calls id code r = λ s. or_fail 119 (front (standing s.contracts) id.address code) (install_program calls id code r) s
+code_installed front calls id code r = λ s. judged 119 (front (standing s.contracts) id.address code) (install_program calls id code r) s
 
 -- the code that is the second argument
 abbrev pub named_added : Front → Calls → TypeId → Row → Action Tree

@@ -1,21 +1,23 @@
-use Rattle.std.proofs.Common.{◌≡◌, ℕ, ◌+◌, ◌*◌, subst, arith}
+use Rattle.std.proofs.Common.{ℕ, map, ap, subst}
 use Rattle.cad_evaluation.specs.Evaluation.{calls_to}
 use Rattle.cad_rows.specs.Views.{pure_row}
 use Rattle.cad_runs.specs.Run.{bound, run_script}
-use Rattle.cad_state.specs.Views.{FindsAndCarriesOut, program_of, state_over}
+use Rattle.cad_state.specs.Views.{FindsAndCarriesOut, contract_of, program_of, state_over}
 use Rattle.cad_values.specs.Values.{pure_value}
 use Rattle.cad_worlds.specs.Standing.{world_of}
-use Rattle.cad_script_replies.specs.Replies.{accepts_nothing}
 use Rattle.cad_script_replies.proofs.Runs.{fuel, ran_so}
+use Rattle.cad_script_replies.proofs.Told.{ran_told}
 use Rattle.cad_script_replies.proofs.running.run_main.Goals as goal
 
 pub returns : goal.returns
-returns c = λ kept.
+returns g c = λ kept.
+    let front = g.E.FrontEnd.front c.args.end.now in
     let w = world_of c.args.world in
+    let p = program_of c.args.checked.value in
+    let row = pure_row c.args.row.items in
     let start = c.begin_over-state.result in
     let after = c.run_script-outcome.new.state in
-    let action = run_script (calls_to accepts_nothing (bound c.args.limit)) (pure_row c.args.row.items) in (
-      state_over w.accounts after,
-      ran_so pure_value action (program_of c.args.checked.value) c.args.limit w start after c.run_script-outcome.result c.begin_over-state.ensures kept
-          (subst (λ (n : ℕ). FindsAndCarriesOut pure_value (run_script (calls_to accepts_nothing n) (pure_row c.args.row.items)) start after c.run_script-outcome.result) (fuel c.args.limit) c.run_script-outcome.ensures),
-    )
+    ran_told front w p row c.args.limit (state_over w.accounts after) (map contract_of c.as_slice.result.now) c.run_script-outcome.result c.reply_to-reply.result c.reply_over.result c.reply_over.ensures (ap (map contract_of) c.as_slice.ensures.value)
+    (ran_so pure_value (run_script (calls_to front (bound c.args.limit)) row) p c.args.limit w start after c.run_script-outcome.result c.begin_over-state.ensures kept
+    (subst (λ (n : ℕ). FindsAndCarriesOut pure_value (run_script (calls_to front n) (pure_row c.args.row.items)) start after c.run_script-outcome.result) (fuel c.args.limit) c.run_script-outcome.ensures))
+    c.reply_to-reply.ensures

@@ -1,7 +1,7 @@
 use Rattle.std.proofs.Common.{Ok, Err}
 use Rattle.cad_evaluation.specs.Callees.{function}
 use Rattle.cad_evaluation.specs.Evaluation.{calls_to}
-use Rattle.cad_expressions.specs.Code.Steps.{called}
+use Rattle.cad_scripts.specs.Code.{called}
 use Rattle.cad_labels.proofs.Forms.{keeps_spend}
 use Rattle.cad_labels.specs.Laws.{AnyOne}
 use Rattle.cad_outcomes.specs.Outcomes.{no_value}

@@ -1,7 +1,4 @@
-use Rattle.std.proofs.Common.{◌≡◌, List, ap, ◌∙◌, subst, Ok}
-use Rattle.serde_json.specs.Written.{compact_text}
-use Rattle.cad_json.specs.Told.{told}
-use Rattle.cad_types.specs.Declarations.{Declaration}
+use Rattle.std.proofs.Common.{ap, ◌∙◌, Ok}
 use Rattle.cad_types.specs.Views.{declarations}
 use Rattle.cad_values.specs.Values.{pure_value}
 use Rattle.cad_transaction_replies.proofs.Listing.{exported}
@@ -9,5 +6,4 @@ use Rattle.cad_transaction_replies.proofs.events.event_json.Goals as goal
 
 pub returns-in-Ok-Some : goal.returns-in-Ok-Some
 returns-in-Ok-Some c =
-    subst (λ (declared : List Declaration). c.in-Ok-Some.text ≡ compact_text (told declared (pure_value c.args.event.now))) c.types.ensures.declared
-    (exported (declarations c.types.result.now) (pure_value c.args.event.now) c.export.result c.in-Ok-Some.text c.export.ensures.some c.export.ensures.none (c.in-Ok-Some.is ∙ ap Ok c.in-Ok-Some.field-0-is))
+    exported (declarations c.args.types.now) (pure_value c.args.event.now) c.export.result c.in-Ok-Some.text c.export.ensures.some c.export.ensures.none (c.in-Ok-Some.is ∙ ap Ok c.in-Ok-Some.field-0-is)

@@ -1,8 +1,11 @@
-use Rattle.cad_transaction_replies.proofs.Runs.{tells_left, tells_stop}
+use Rattle.cad_state.specs.Views.{state_over}
+use Rattle.cad_transaction_replies.proofs.Runs.{tells_ended, tells_stop}
 use Rattle.cad_transaction_replies.proofs.running.outcome_of_run.Goals as goal
 
 pub returns-in-Ok : goal.returns-in-Ok
-returns-in-Ok c = λ outcome leaves. tells_left c.outcome_of_left.result c.in-Ok.left c.args.run outcome c.in-Ok.is leaves c.outcome_of_left.ensures
+returns-in-Ok c = λ action before accounts does.
+    tells_ended c.outcome_of_state.result c.args.run tt action before (state_over accounts c.args.state) c.in-Ok.is does (c.outcome_of_state.ensures accounts)
 
-pub returns-in_ok-reply-in-Err : goal.returns-in_ok-reply-in-Err
-returns-in_ok-reply-in-Err c = λ outcome leaves. tells_stop c.in-Err.stop c.args.run outcome c.in_ok-reply-in-Err.reply c.in-Err.is leaves c.in_ok-reply-in-Err.ensures
+pub returns-in-Ok-reply_to_stop : goal.returns-in-Ok-reply_to_stop
+returns-in-Ok-reply_to_stop c = λ action before accounts does.
+    tells_stop c.in-Err.stop c.args.run action before (state_over accounts c.args.state) c.in-Ok-reply_to_stop.reply c.in-Err.is does c.in-Ok-reply_to_stop.ensures

@@ -11,9 +11,9 @@ use Rattle.cad_transaction_replies.specs.Replies.{stays, no_transaction}
 use Rattle.cad_transaction_replies.proofs.transaction.outcome_of_shared.Goals as goal
 
 pub outcome_of_transaction-requires-clause-is : goal.outcome_of_transaction-requires-clause-is
-outcome_of_transaction-requires-clause-is c = ap (λ (x : Checked). (program_of x).bodies.transaction) (sym c.deref.ensures) ∙ ap (option_map transaction_of) c.in-Some.is
+outcome_of_transaction-requires-clause-is g c = ap (λ (x : Checked). (program_of x).bodies.transaction) (sym c.deref.ensures) ∙ ap (option_map transaction_of) c.in-Some.is
 
 pub returns-in-None : goal.returns-in-None
-returns-in-None c =
-    refused_with (IsOutcome (world_of c.args.world) (program_of c.args.checked.now.value) (map view c.args.arguments.now) c.args.signers.now c.args.limit) c.refuse.result _ c.refuse.ensures
-    (stays (bad 26), no_transaction (ap (λ (x : Checked). (program_of x).bodies.transaction) (sym c.deref.ensures) ∙ ap (option_map transaction_of) c.in-None.is), refl)
+returns-in-None g c =
+    refused_with (IsOutcome (g.E.FrontEnd.front c.args.end.now) (world_of c.args.world) (program_of c.args.checked.now.value) (map view c.args.arguments.now) c.args.signers.now c.args.limit) c.refuse.result _ c.refuse.ensures
+    (stays (bad 26), no_transaction (ap (λ (x : Checked). (program_of x).bodies.transaction) (sym c.deref.ensures) ∙ ap (option_map transaction_of) c.in-None.is), λ e. cc e, refl)

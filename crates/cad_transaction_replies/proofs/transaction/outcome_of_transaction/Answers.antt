@@ -9,21 +9,22 @@ use Rattle.cad_transaction_replies.specs.Replies.{stays, unsigned, miscounted}
 use Rattle.cad_transaction_replies.proofs.transaction.outcome_of_transaction.Goals as goal
 
 pub returns-then-not-are_signers : goal.returns-then-not-are_signers
-returns-then-not-are_signers c =
-    refused_with (IsOutcome (world_of c.args.world) (program_of c.args.checked.now.value) (map view c.args.arguments.now) c.args.signers.now c.args.limit) c.refuse.result _ c.refuse.ensures
-    (stays (bad 26), unsigned c.requires.is (sym c.are_signers.ensures ∙ c.if-not-are_signers.true), refl)
+returns-then-not-are_signers g c =
+    refused_with (IsOutcome (g.E.FrontEnd.front c.args.end.now) (world_of c.args.world) (program_of c.args.checked.now.value) (map view c.args.arguments.now) c.args.signers.now c.args.limit) c.refuse.result _ c.refuse.ensures
+    (stays (bad 26), unsigned c.requires.is (sym c.are_signers.ensures ∙ c.if-not-are_signers.true), λ e. cc e, refl)
 
 pub returns-then-arguments-len : goal.returns-then-arguments-len
-returns-then-arguments-len c =
-    refused_with (IsOutcome (world_of c.args.world) (program_of c.args.checked.now.value) (map view c.args.arguments.now) c.args.signers.now c.args.limit) c.refuse-then-arguments-len.result _ c.refuse-then-arguments-len.ensures (
+returns-then-arguments-len g c =
+    refused_with (IsOutcome (g.E.FrontEnd.front c.args.end.now) (world_of c.args.world) (program_of c.args.checked.now.value) (map view c.args.arguments.now) c.args.signers.now c.args.limit) c.refuse-then-arguments-len.result _ c.refuse-then-arguments-len.ensures (
       stays (bad 25),
       miscounted c.requires.is (sym c.are_signers.ensures ∙ c.if-not-are_signers.false)
           (counts_differ c.args.arguments.now c.args.transaction.now.parameters.items (λ e. omega (arith, e, c.args.transaction.now.parameters.ok.0, c.len.ensures))),
+      λ e. cc e,
       refl,
     )
 
 pub outcome_of_arguments-requires-clause-signed : goal.outcome_of_arguments-requires-clause-signed
-outcome_of_arguments-requires-clause-signed c = sym c.are_signers.ensures ∙ c.if-not-are_signers.false
+outcome_of_arguments-requires-clause-signed g c = sym c.are_signers.ensures ∙ c.if-not-are_signers.false
 
 pub outcome_of_arguments-requires-clause-counted : goal.outcome_of_arguments-requires-clause-counted
-outcome_of_arguments-requires-clause-counted c = omega (arith, c.args.transaction.now.parameters.ok.0, c.len.ensures)
+outcome_of_arguments-requires-clause-counted g c = omega (arith, c.args.transaction.now.parameters.ok.0, c.len.ensures)

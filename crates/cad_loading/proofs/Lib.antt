@@ -1,0 +1,6 @@
+mod Imported
+mod Orders
+mod Places
+mod Settled
+mod Turns
+mod Verdicts

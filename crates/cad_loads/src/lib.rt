@@ -1,0 +1,2 @@
+//! Contracts that were deployed one after another. Definitions in specs/.
+#![tactic(auto)]

@@ -1,6 +1,0 @@
-use Rattle.std.proofs.Common.{◌≡◌, ◌++◌, drop, map}
-use Rattle.cad_declarations.specs.Names.{built_in}
-use Rattle.cad_script_replies.proofs.types.all_built_in.Given as goal
-
-abbrev pub invariant-loop-name : goal.invariant-loop-name
-invariant-loop-name l = l.ids ++ map built_in (map (λ name. name.now) (drop l.name-index l.names)) ≡ map built_in (map (λ name. name.now) l.names)

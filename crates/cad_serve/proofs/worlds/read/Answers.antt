@@ -1,0 +1,14 @@
+use Rattle.std.proofs.Common.{List, IfOk, IfSome, sym, subst}
+use Rattle.cad_accounts.specs.Registers.{at}
+use Rattle.cad_accounts.specs.declared.row.Row.{Row}
+use Rattle.cad_worlds.specs.Standing.{StandsFor, world_of}
+use Rattle.cad_serve.proofs.Standings.{read_none}
+use Rattle.cad_serve.proofs.worlds.read.Goals as goal
+
+pub returns-clause-found : goal.returns-clause-found
+returns-clause-found c =
+    subst (λ (rows : List Row). IfOk c.read_world.result (λ o. IfSome o (λ x. StandsFor (at rows) (world_of x)))) c.rows.ensures.rows c.read_world.ensures.found
+
+pub returns-clause-none : goal.returns-clause-none
+returns-clause-none c =
+    read_none c.read_world.result (λ v stands. c.read_world.ensures.only c.rows.ensures.rising v (subst (λ (rows : List Row). StandsFor (at rows) v) (sym c.rows.ensures.rows) stands))

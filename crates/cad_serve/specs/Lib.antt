@@ -1,0 +1,12 @@
+pub mod Lines
+pub mod Words
+pub mod Held
+pub mod Answer
+pub mod Replied
+pub mod Served
+pub mod Writing
+pub mod Crashes
+pub mod Ending
+pub mod Statuses
+pub mod Generated
+pub mod Code

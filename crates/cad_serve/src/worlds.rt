@@ -1,0 +1,84 @@
+// Worlds, as a store holds them.
+ghost use Rattle.std.specs.Prelude.{◌≡◌, true, map, IfOk, IfSome, IfNone};
+ghost use Rattle.cad_accounts.specs.Registers.{at, are_rising};
+ghost use Rattle.cad_store.specs.Stores.{held};
+ghost use Rattle.cad_world.specs.Registers.{registers};
+ghost use Rattle.cad_world.specs.State as definition;
+ghost use Rattle.cad_worlds.specs.Standing.{Becomes, StandsFor, coding, register_of, world_of};
+ghost use Rattle.cad_serve.specs.Code.Worlds.{AreSound, LeadsOn};
+
+use cad_accounts::{Changes, Row};
+use cad_store::{Judge, Store};
+use cad_world_reading::read_world;
+use cad_worlds::{World, changes, discard_world, registers_of};
+use std::alloc::{AllocError, Global};
+
+// The World that a store holds; None where its registers stand for none.
+fn read(alloc: Global, store: &Store) -> Result<Option<World>, AllocError>
+    ensures found { IfOk result (λ o. IfSome o (λ world. StandsFor (held store.now) (world_of world))) }
+    ensures none { IfOk result (λ o. IfNone o (AreSound (held store.now) → ⊥)) }
+{
+    read_world(alloc, store.rows())
+}
+
+/// A store is opened where its registers stand for a World.
+#[derive(Clone, Copy, Drop)]
+pub struct Worlds;
+
+impl Judge for Worlds {
+    ghost accepts = { λ _. AreSound };
+
+    fn is_good(&self, alloc: Global, store: &Store) -> Result<bool, AllocError> {
+        match read(alloc, store)? {
+            Some(world) => {
+                discard_world(world);
+                Ok(true)
+            }
+            None => Ok(false),
+        }
+    }
+}
+
+/// The World that a store holds.
+pub fn world_in(alloc: Global, store: &Store) -> Result<World, AllocError>
+    requires { AreSound (held store.now) }
+    ensures { IfOk result (λ world. StandsFor (held store.now) (world_of world)) }
+{
+    match read(alloc, store)? {
+        Some(world) => Ok(world),
+        None => Err(AllocError),
+    }
+}
+
+// The registers of a World, which is let go.
+fn written(alloc: Global, world: World) -> Result<Vec<Row>, AllocError>
+    ensures { IfOk result (λ rows. map register_of rows.items ≡ registers coding (world_of world)) }
+{
+    let rows = registers_of(alloc, &world);
+    discard_world(world);
+    rows
+}
+
+// The registers of what a run left. AllocError where they stand for no sound World.
+fn rows_of(alloc: Global, world: World) -> Result<Vec<Row>, AllocError>
+    ensures rising { IfOk result (λ rows. are_rising rows.items ≡ true) }
+    ensures becomes { IfOk result (λ rows. (u : definition.World) × StandsFor (at rows.items) u × Becomes (world_of world) u) }
+{
+    let rows = written(alloc, world)?;
+    match read_world(alloc, rows.as_slice())? {
+        Some(sound) => {
+            discard_world(sound);
+            Ok(rows)
+        }
+        None => Err(AllocError),
+    }
+}
+
+/// What leads from a store's registers to those of what a run left. AllocError too where these stand for no sound World: no run
+/// is known to leave such registers, but where a value has bytes that another has too.
+pub fn changes_to(alloc: Global, store: &Store, world: World) -> Result<Changes, AllocError>
+    ensures { IfOk result (λ changes. LeadsOn (held store.now) (world_of world) changes) }
+{
+    let rows = rows_of(alloc, world)?;
+    changes(alloc, store.rows(), rows)
+}

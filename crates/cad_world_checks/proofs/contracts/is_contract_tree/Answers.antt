@@ -1,0 +1,26 @@
+use Rattle.std.proofs.Common.{Bool, IsTrue}
+use Rattle.std.specs.Prelude.{◌↔◌}
+use Rattle.cad_fits.proofs.Each.{not_so, is_so}
+use Rattle.cad_rows.specs.Views.{pure_tree}
+use Rattle.cad_shapes.specs.Held.{shapes_of}
+use Rattle.cad_values.specs.Values.{pure_value}
+use Rattle.cad_values.specs.Fits as of
+use Rattle.cad_world.specs.Fits.{Lasts}
+use Rattle.cad_world.specs.Trees.{value_of}
+use Rattle.cad_world_checks.proofs.Soundness.{never, passed, contract_tree, lasts_stands}
+use Rattle.cad_world_checks.specs.Checks.{LastsOf}
+use Rattle.cad_world_checks.proofs.contracts.is_contract_tree.Goals as goal
+
+pub returns-then-not-can_stand : goal.returns-then-not-can_stand
+returns-then-not-can_stand c =
+    let k = shapes_of c.args.shapes.now in
+    let t = pure_tree c.args.tree.now in
+    never {P = of.FitsContract k (value_of t) c.args.id.now × Lasts k t} (λ p. not_so c.can_stand.result c.can_stand.ensures c.if-not-can_stand.true (lasts_stands k t p.1))
+
+pub returns : goal.returns
+returns c =
+    let k = shapes_of c.args.shapes.now in
+    let t = pure_tree c.args.tree.now in
+    let x = pure_value c.in_ok-value.value in
+    passed (λ (b : Bool). IsTrue b ↔ LastsOf k c.args.id.now x) (λ (b : Bool). IsTrue b ↔ (of.FitsContract k (value_of t) c.args.id.now × Lasts k t)) c.is_contract_value-kept.result
+    (λ b tells. contract_tree b k c.args.id.now t x c.in_ok-value.ensures (is_so c.can_stand.result c.can_stand.ensures c.if-not-can_stand.false) tells) c.is_contract_value-kept.ensures
