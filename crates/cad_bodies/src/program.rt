@@ -28,12 +28,12 @@ use cad_heads::{
 };
 use cad_paths::FieldRule;
 use cad_pieces::{Piece, PieceBody, discard_piece, discard_piece_body, discard_pieces};
-use cad_transactions::{destroyed_event, type_function, type_initializer, type_top_function};
 use cad_scopes::inside;
 use cad_syntax::{Names, TypeId};
 use cad_transactions::{
-    Standing, TransactionLocals, TransactionTyping, discard_transaction_typing, transaction_body,
-    transaction_locals, transaction_rules, type_parts,
+    Standing, TransactionLocals, TransactionTyping, destroyed_event, discard_transaction_typing,
+    transaction_body, transaction_locals, transaction_rules, type_function, type_initializer,
+    type_parts, type_top_function,
 };
 use std::alloc::{AllocError, Global};
 

@@ -15,8 +15,8 @@ use cad_declarations::{Argument, DestroyedEvent, discard_arguments, discard_type
 use cad_environment::{Environment, Known, Part, Position, Scopes, Typing, discard_typing};
 use cad_grammar::{Event, EventParameter, Expr};
 use cad_heads::{annotated_type, event_is_right, scope_in};
-use cad_statements::infer;
 use cad_scopes::inside;
+use cad_statements::infer;
 use cad_syntax::{CadType, TypeId};
 use cad_type_classes::fits;
 use cad_typed_rows::discard_argument;

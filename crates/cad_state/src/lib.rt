@@ -10,8 +10,8 @@ mod variables;
 
 pub use discard::{
     discard_account, discard_accounts, discard_call, discard_calls, discard_contract,
-    discard_contracts, discard_shared, discard_state, discard_unknown, discard_value, discard_values,
-    unknown_of,
+    discard_contracts, discard_shared, discard_state, discard_unknown, discard_value,
+    discard_values, unknown_of,
 };
 pub use hints::{Hints, Root, Way};
 pub use state::{Account, Call, Contract, Controller, Publication, Question, RunState, Unknown};

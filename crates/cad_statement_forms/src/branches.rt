@@ -16,8 +16,7 @@ ghost use Rattle.cad_statement_trees.specs.Views.{test_typing_of};
 use cad_declarations::discard_type;
 use cad_environment::{Environment, Local, Position, Typing, discard_typing};
 use cad_grammar::{CastKind, Expr, Test, Transfer, TypeAnnotation, VariableKind};
-use cad_infer_targets::infer;
-use cad_infer_targets::{infer_declared, infer_moved, infer_variable};
+use cad_infer_targets::{infer, infer_declared, infer_moved, infer_variable};
 use cad_scopes::resolved_annotation;
 use cad_statement_parts::{
     is_move_sign, is_test, may_be_cast, may_declare, next_local, optional_of,

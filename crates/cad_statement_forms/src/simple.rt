@@ -14,9 +14,8 @@ ghost use Rattle.cad_typing.specs.Statements as statement_spec;
 use cad_declarations::{TypedStatement, discard_type};
 use cad_environment::{Environment, Position, Typing, discard_typing};
 use cad_grammar::{Expr, Transfer};
-use cad_infer_targets::infer;
 use cad_infer_targets::{
-    Target, discard_target, infer_event, infer_moved, infer_returned, infer_target,
+    Target, discard_target, infer, infer_event, infer_moved, infer_returned, infer_target,
 };
 use cad_statement_parts::fit_each_other;
 use cad_statement_trees::{nothing_returned, targeted};

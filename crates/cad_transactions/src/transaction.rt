@@ -24,11 +24,11 @@ use cad_heads::{
     signer_parameters, written,
 };
 use cad_paths::FieldRule;
-use cad_routines::{parameter_locals, type_body};
-use cad_scopes::Scope;
 use cad_routines::{
-    Surroundings, count_all, entries_of, is_var_word, type_conditions, values_at_entry,
+    Surroundings, count_all, entries_of, is_var_word, parameter_locals, type_body, type_conditions,
+    values_at_entry,
 };
+use cad_scopes::Scope;
 use cad_syntax::{Basic, CadType};
 use cad_typed_rows::{discard_conditions, discard_variables};
 use cad_types::is_resource;
