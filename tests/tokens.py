@@ -294,7 +294,8 @@ class Writer:
             one = self.chance.choice(without) if without and what < 0.4 else one
             return ("publish" if one in tokens.vaults else "setup", one)
         if what < 0.5:
-            return (self.chance.choice(["close", "unpublish", "publish"]), one)
+            rich = one in tokens.vaults and SUPPLY // 4 < tokens.vaults[one][1]  # what it has is needed for transfers
+            return (self.chance.choice(["publish" if rich else "close", "unpublish", "publish"]), one)
         return self.transfer(tokens)
 
     def commands(self, tokens, count):
