@@ -220,6 +220,11 @@ def registers_in(folder):
     return registers
 
 
+def found(registers, states):
+    """The first of these states whose registers these are, or None."""
+    return next((state for state in states if state.registers() == registers), None)
+
+
 def int_of(data):
     if data[:2] != b"\4\0":
         raise Unjudged
