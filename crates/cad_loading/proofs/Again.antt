@@ -8,7 +8,7 @@ use Rattle.cad_syntax.specs.declared.type_id.TypeId.{TypeId}
 use Rattle.cad_syntax.proofs.Members.{and_both}
 use Rattle.cad_syntax.proofs.Same.{Tells, lists_tell, numbers_tell, ids_tell}
 use Rattle.cad_declarations.specs.Imports.{ContractEntry, deployed_contract}
-use Rattle.cad_loading.specs.Again.{same_source, first_slot, left_behind, slots_by, is_none, all_met}
+use Rattle.cad_loading.specs.Again.{same_source, left_behind, slots_by, is_none, all_met}
 use Rattle.cad_loading.specs.Slots.{loaded_in, IsLoaded}
 use Rattle.cad_loads.specs.Loads.{Source, Loaded, Loads, source_of, loaded_as, entries_of}
 use Rattle.cad_world.specs.State.{Program}

@@ -1,5 +1,5 @@
 -- Sources that are loaded again: which of them are kept with their programs.
-use Rattle.std.specs.Prelude.{ℕ, Bool, true, false, ◌&&◌, ◌==◌, Option, Some, None, List, [], ◌∷◌, if◌then◌else◌}
+use Rattle.std.specs.Prelude.{Bool, true, false, ◌&&◌, ◌==◌, Option, Some, None, List, [], ◌∷◌, if◌then◌else◌}
 use Rattle.std.specs.Cmp.Lexicographic.{pointwise}
 use Rattle.cad_syntax.specs.TypeIds.{same_id}
 use Rattle.cad_loads.specs.Loads.{Source, Loaded, source_of}

@@ -2,9 +2,11 @@
 #![tactic(auto)]
 
 mod deployed;
+mod held;
 mod kept;
 mod laws;
 mod loading;
+mod meeting;
 mod passes;
 mod progress;
 

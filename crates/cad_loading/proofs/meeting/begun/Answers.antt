@@ -1,4 +1,4 @@
-use Rattle.std.proofs.Common.{◌≡◌, ◌∙◌, ◌++◌, map, ap}
+use Rattle.std.proofs.Common.{◌≡◌, ◌∙◌, ◌++◌, map, ap, sym}
 use Rattle.std.specs.Prelude.{List, Option}
 use Rattle.std.specs.declared.alloc.Global.{Global}
 use Rattle.std.specs.declared.rc.Rc.{Rc}
@@ -15,8 +15,8 @@ returns-in_ok-state-in-Ok-true c =
     let ss = map source_of c.args.sources.now in
     let ks = map held_of c.args.kept.now in
     let slots : slots_of c.push_met.new.slots ≡ slots_by ss ks =
-    c.in-Ok-true.ensures.slots ∙ ap (λ (all : List (Option (Rc Checked Global))). map slot_of all ++ slots_by ss ks) c.new.ensures.items in
-    kept_loaded ss ks (slots_of c.in_ok-state-in-Ok-true.state.slots) (contracts_of c.in_ok-state-in-Ok-true.state.deployed) c.requires c.in-Ok-true.ensures.all
+    c.in-Ok-true.ensures.slots ∙ ap (λ (all : List (Option (Rc Checked Global))). map slot_of all ++ slots_by ss ks) c.new-slots.ensures.items in
+    kept_loaded ss ks (slots_of c.in_ok-state-in-Ok-true.state.slots) (contracts_of c.in_ok-state-in-Ok-true.state.deployed) c.requires (sym c.in-Ok-true.ensures.all ∙ c.in-Ok-true.field-0-test)
     (c.in_ok-state-in-Ok-true.ensures.0 ∙ slots) c.in_ok-state-in-Ok-true.ensures.1
 
 pub returns-in_ok-state-in-Ok-false : goal.returns-in_ok-state-in-Ok-false
