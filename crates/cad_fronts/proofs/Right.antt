@@ -2,11 +2,9 @@
 use Rattle.std.specs.Prelude.{ℕ, ◌≢◌, Bool, true, false, cond, ◌==◌, Option, Some, None, Result, Ok, Err, List, [], ◌∷◌, ◌++◌, ◌&&◌, find, length, map, IfOk, OnOk, OnErr}
 use Rattle.std.specs.Cmp.Lexicographic.{pointwise}
 use Rattle.std.proofs.Common.{◌≡◌, ◌∙◌, refl, ap, sym, subst, arith}
-use Rattle.cad_syntax.specs.TypeIds.{same_id}
 use Rattle.cad_syntax.specs.declared.address.Address.{Address}
-use Rattle.cad_syntax.specs.declared.type_id.TypeId.{TypeId}
 use Rattle.cad_syntax.proofs.Members.{and_both}
-use Rattle.cad_syntax.proofs.Same.{Tells, lists_tell, numbers_tell, ids_tell}
+use Rattle.cad_syntax.proofs.Same.{lists_tell, numbers_tell}
 use Rattle.cad_acceptance.specs.Stops.{FirstStop}
 use Rattle.cad_bounds.specs.Fronts.{Extends}
 use Rattle.cad_declarations.specs.Imports.{ContractEntry}
