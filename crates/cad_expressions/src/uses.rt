@@ -62,6 +62,7 @@ fn call_function<E: Evaluator>(
 }
 
 /// A built-in function is called, or a built-in member of a type.
+#[inline(never)]
 pub(crate) fn builtin_with(
     state: &mut RunState,
     builtin: Builtin,
