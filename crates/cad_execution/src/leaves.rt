@@ -12,6 +12,7 @@ ghost use Rattle.cad_rows.specs.Views.{pure_row, pure_tree};
 ghost use Rattle.cad_expressions.specs.Passed.{standing_of};
 ghost use Rattle.cad_state.specs.Views.{CarriesOut, FindsAndCarriesOut};
 ghost use Rattle.cad_syntax.specs.Types.{pure_type};
+ghost use Rattle.cad_world.specs.Transfers as transfers;
 
 use cad_declarations::{Argument, Place, Term};
 use cad_expressions::{Callees, compared, eval, eval_arguments};
@@ -24,6 +25,7 @@ use cad_state::RunState;
 use cad_syntax::{CadType, TypeId};
 
 /// The truth that a value is; IllTyped where it is none.
+#[inline(never)]
 pub fn truth(tree: Tree) -> Result<bool, Stop>
     ensures { Gives (λ x. x) (values.truth (pure_tree tree)) result }
 {
@@ -50,6 +52,14 @@ pub(crate) fn first_value<C: Callees>(
     }
 }
 
+/// A value is handed over to a place of a type. Where that fails, it is let go.
+#[inline(never)]
+fn transfer(tree: Tree, target: &CadType, state: &mut RunState) -> Result<Tree, Stop>
+    ensures { CarriesOut pure_tree (transfers.transferred (pure_type target.now) (pure_tree tree)) state.old state.new result }
+{
+    state.transfer(tree, target)
+}
+
 /// The value of an expression, come to a place of a type. Errors are those of its evaluation and of its transfer.
 pub fn come<C: Callees>(
     value: &Term,
@@ -61,7 +71,7 @@ pub fn come<C: Callees>(
     ensures { FindsAndCarriesOut pure_tree (values.come (C.front callees.now) (C.calls callees.now) (term_of value.now) (pure_type target.now)) state.old state.new result }
 {
     match eval(value, callees, state) {
-        Ok(tree) => state.transfer(tree, target),
+        Ok(tree) => transfer(tree, target, state),
         Err(stop) => Err(stop),
     }
 }
@@ -77,7 +87,7 @@ pub(crate) fn first_come<C: Callees>(
     ensures { FindsAndCarriesOut pure_tree (parts.value_come (C.front callees.now) (C.calls callees.now) (term_of value.now) (pure_type target.now)) state.old state.new result }
 {
     match first_value(value, callees, state) {
-        Ok(tree) => state.transfer(tree, target),
+        Ok(tree) => transfer(tree, target, state),
         Err(stop) => Err(stop),
     }
 }
@@ -112,6 +122,7 @@ fn event_value(id: &TypeId, row: Vec<cad_rows::Place>, state: &mut RunState) -> 
 }
 
 /// An event of a row of values joins the events.
+#[inline(never)]
 fn emit_row(id: &TypeId, row: Vec<cad_rows::Place>, state: &mut RunState) -> Result<(), Stop>
     ensures { CarriesOut no_value (parts.emit_row id.now (pure_row row.items)) state.old state.new result }
 {
@@ -146,6 +157,7 @@ fn case_with(is_free: bool, value: &Tree, case: &Tree, state: &mut RunState) -> 
 }
 
 /// The same, and the case's value is let go.
+#[inline(never)]
 pub(crate) fn is_case(
     is_free: bool,
     value: &Tree,

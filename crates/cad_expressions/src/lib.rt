@@ -1,6 +1,7 @@
 //! Expressions: what they mean, over what is called.
 #![tactic(auto)]
 
+mod apart;
 mod callees;
 mod ends;
 mod entries;

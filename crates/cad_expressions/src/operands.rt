@@ -10,6 +10,7 @@ ghost use Rattle.cad_rows.specs.Views.{pure_tree};
 ghost use Rattle.cad_state.specs.Views.{FindsAndCarriesOut};
 ghost use Rattle.cad_syntax.specs.Types.{pure_type};
 
+use crate::apart::discard_receiver;
 use crate::evaluator::Evaluator;
 use crate::members::evaluate_use;
 use crate::values::{
@@ -19,7 +20,7 @@ use cad_declarations::{Term, Use};
 use cad_grammar::BinaryOperator;
 use cad_operators::{bool_tree, nil_tree};
 use cad_outcomes::Stop;
-use cad_receivers::{Receiver, discard_receiver};
+use cad_receivers::Receiver;
 use cad_rows::Tree;
 use cad_state::RunState;
 use cad_syntax::CadType;
@@ -229,6 +230,7 @@ pub(crate) fn coalesce<E: Evaluator>(
 }
 
 /// The content that was found, or what comes in place of nil.
+#[inline(never)]
 fn fill_nil<E: Evaluator>(
     right: &Term,
     evaluator: &E,
