@@ -65,6 +65,7 @@ pub(crate) fn leave_switch(flow: Flow) -> Flow
 }
 
 /// A switch is left by what ran in it.
+#[inline(never)]
 pub(crate) fn leave(ran: Result<Flow, Stop>) -> Result<Flow, Stop>
     ensures { result ≡ results.left_of ran }
 {

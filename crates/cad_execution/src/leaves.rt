@@ -12,7 +12,6 @@ ghost use Rattle.cad_rows.specs.Views.{pure_row, pure_tree};
 ghost use Rattle.cad_expressions.specs.Passed.{standing_of};
 ghost use Rattle.cad_state.specs.Views.{CarriesOut, FindsAndCarriesOut};
 ghost use Rattle.cad_syntax.specs.Types.{pure_type};
-ghost use Rattle.cad_world.specs.Transfers as transfers;
 
 use cad_declarations::{Argument, Place, Term};
 use cad_expressions::{Callees, compared, eval, eval_arguments};
@@ -52,14 +51,6 @@ pub(crate) fn first_value<C: Callees>(
     }
 }
 
-/// A value is handed over to a place of a type. Where that fails, it is let go.
-#[inline(never)]
-fn transfer(tree: Tree, target: &CadType, state: &mut RunState) -> Result<Tree, Stop>
-    ensures { CarriesOut pure_tree (transfers.transferred (pure_type target.now) (pure_tree tree)) state.old state.new result }
-{
-    state.transfer(tree, target)
-}
-
 /// The value of an expression, come to a place of a type. Errors are those of its evaluation and of its transfer.
 pub fn come<C: Callees>(
     value: &Term,
@@ -71,7 +62,7 @@ pub fn come<C: Callees>(
     ensures { FindsAndCarriesOut pure_tree (values.come (C.front callees.now) (C.calls callees.now) (term_of value.now) (pure_type target.now)) state.old state.new result }
 {
     match eval(value, callees, state) {
-        Ok(tree) => transfer(tree, target, state),
+        Ok(tree) => state.transfer(tree, target),
         Err(stop) => Err(stop),
     }
 }
@@ -87,7 +78,7 @@ pub(crate) fn first_come<C: Callees>(
     ensures { FindsAndCarriesOut pure_tree (parts.value_come (C.front callees.now) (C.calls callees.now) (term_of value.now) (pure_type target.now)) state.old state.new result }
 {
     match first_value(value, callees, state) {
-        Ok(tree) => transfer(tree, target, state),
+        Ok(tree) => state.transfer(tree, target),
         Err(stop) => Err(stop),
     }
 }

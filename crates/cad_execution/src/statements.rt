@@ -244,6 +244,7 @@ fn run_counted<C: Callees>(
 
 /// A block over the variables of a counter and of an element.
 #[cycle(runs)]
+#[inline(never)]
 fn with_counter<C: Callees>(
     body: &TypedBlock,
     index: &Variable,

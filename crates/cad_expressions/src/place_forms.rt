@@ -1,6 +1,5 @@
 // Forms over a place, in the recursion over expressions. Each is a function by itself, so that a form takes room on the stack for
 // its own values alone.
-ghost use Rattle.std.specs.Prelude.{Bool};
 ghost use Rattle.cad_declarations.specs.Typed as e;
 ghost use Rattle.cad_declarations.specs.Views.{place_of, term_of, use_of};
 ghost use Rattle.cad_expressions.specs.Code.Steps as steps;

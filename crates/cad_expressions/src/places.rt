@@ -50,6 +50,7 @@ pub(crate) fn evaluate_place<E: Evaluator>(
 }
 
 /// The element of what stands in a place, at an index that is evaluated then.
+#[inline(never)]
 fn element_at<E: Evaluator>(
     index: &Term,
     evaluator: &E,
