@@ -60,7 +60,7 @@ exec-returns-in-Return g t c =
 
 pub exec-returns-in-Emit : goal.exec-returns-in-Emit
 exec-returns-in-Emit g t c =
-    at_form (g.C.Callees.front c.args.callees.now) (g.C.Callees.calls c.args.callees.now) c.args.turns (statement_of c.args.statement.now) (e.emit c.in-Emit.at c.in-Emit.event (arguments_of (map argument_of c.in-Emit.arguments.items))) c.args.state.now c.emit.new.state (c.emit.result) (emit_at c.args.statement.now c.in-Emit.at c.in-Emit.event c.in-Emit.arguments c.in-Emit.is) (subst (λ all. FindsAndCarriesOut flow_of (exec (g.C.Callees.front c.args.callees.now) (g.C.Callees.calls c.args.callees.now) c.args.turns (e.emit c.in-Emit.at c.in-Emit.event (arguments_of (map argument_of all)))) c.args.state.now c.emit.new.state c.emit.result) c.deref-in-Emit.ensures.value (c.emit.ensures c.in-Emit.at c.args.turns))
+    at_form (g.C.Callees.front c.args.callees.now) (g.C.Callees.calls c.args.callees.now) c.args.turns (statement_of c.args.statement.now) (e.emit c.in-Emit.at c.in-Emit.event (arguments_of (map argument_of c.in-Emit.arguments.items))) c.args.state.now c.emit.new.state (c.emit.result) (emit_at c.args.statement.now c.in-Emit.at c.in-Emit.event c.in-Emit.arguments c.in-Emit.is) (subst (λ all. FindsAndCarriesOut flow_of (exec (g.C.Callees.front c.args.callees.now) (g.C.Callees.calls c.args.callees.now) c.args.turns (e.emit c.in-Emit.at c.in-Emit.event (arguments_of (map argument_of all)))) c.args.state.now c.emit.new.state c.emit.result) c.deref.ensures.value (c.emit.ensures c.in-Emit.at c.args.turns))
 
 pub exec_if-returns-then-is : goal.exec_if-returns-then-is
 exec_if-returns-then-is g t c =
