@@ -22,7 +22,6 @@ Where there is no `cc` it says so and ends with status 0.
 """
 import argparse
 import errno
-import os
 import pathlib
 import random
 import shutil
