@@ -2,17 +2,17 @@
 use Rattle.std.specs.Prelude.{ℕ, ◌≢◌, Bool, true, false, cond, ◌==◌, Option, Some, None, Result, Ok, Err, List, [], ◌∷◌, ◌++◌, ◌&&◌, find, length, map, IfOk, OnOk, OnErr}
 use Rattle.std.specs.Cmp.Lexicographic.{pointwise}
 use Rattle.std.proofs.Common.{◌≡◌, ◌∙◌, refl, ap, sym, subst, arith}
-use Rattle.cad_syntax.specs.TypeIds.{same_id}
 use Rattle.cad_syntax.specs.declared.address.Address.{Address}
-use Rattle.cad_syntax.specs.declared.type_id.TypeId.{TypeId}
 use Rattle.cad_syntax.proofs.Members.{and_both}
-use Rattle.cad_syntax.proofs.Same.{Tells, lists_tell, numbers_tell, ids_tell}
+use Rattle.cad_syntax.proofs.Same.{lists_tell, numbers_tell}
 use Rattle.cad_acceptance.specs.Stops.{FirstStop}
 use Rattle.cad_bounds.specs.Fronts.{Extends}
 use Rattle.cad_declarations.specs.Imports.{ContractEntry}
 use Rattle.cad_declarations.specs.declared.stop.Rejected.{Rejected}
 use Rattle.cad_fronts.specs.Code.Saying.{IsOn, IsSo, Says}
-use Rattle.cad_fronts.specs.Views.{Known, find_known, is_of, same_source, said_by, said_of}
+use Rattle.cad_fronts.specs.Views.{Known, find_known, is_of, said_by, said_of}
+use Rattle.cad_loading.proofs.Again.{sources_tell}
+use Rattle.cad_loading.specs.Again.{same_source}
 use Rattle.cad_loading.specs.Answers.{Loading}
 use Rattle.cad_loads.specs.Fronts.{IsRight, Beside, sources_of}
 use Rattle.cad_loads.specs.Loads.{Source, Accepted, source_of, loaded_by, entries_of}
@@ -53,15 +53,6 @@ none_right = record {
 }
 
 -- ---- one code more
-
-sources_tell : Tells same_source
-sources_tell a b = (
-  λ e. let both = and_both (same_id a.id b.id) (pointwise ◌==◌ a.code b.code) e in
-      let ids = (ids_tell a.id b.id).0 both.0 in
-      let codes = (lists_tell ◌==◌ numbers_tell a.code b.code).0 both.1 in
-      ap (λ (i : TypeId). record { id = i; code = a.code }) ids ∙ ap (λ (c : List ℕ). record { id = b.id; code = c }) codes,
-  λ e. rw ((ids_tell a.id b.id).1 (ap (λ (s : Source). s.id) e), (lists_tell ◌==◌ numbers_tell a.code b.code).1 (ap (λ (s : Source). s.code) e)) refl,
-)
 
 -- what is known of this code is of these contracts, this address and this code
 is_of_it : (sources : List Source) (address : Address) (code : List ℕ) (k : Known) → is_of sources address code k ≡ true

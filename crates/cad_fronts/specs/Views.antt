@@ -1,10 +1,10 @@
 -- What is known of codes, and what is said by it.
 use Rattle.std.specs.Prelude.{ℕ, Bool, ◌&&◌, ◌==◌, Option, Some, None, List, find, map, option_map}
 use Rattle.std.specs.Cmp.Lexicographic.{pointwise}
-use Rattle.cad_syntax.specs.TypeIds.{same_id}
 use Rattle.cad_syntax.specs.declared.address.Address.{Address}
 use Rattle.cad_fronts.specs.declared.codes.Verdict.{Verdict}
 use Rattle.cad_fronts.specs.declared.codes.Verdicts.{Verdicts}
+use Rattle.cad_loading.specs.Again.{same_source}
 use Rattle.cad_loading.specs.Views.{shared_program, source_of}
 use Rattle.cad_loads.specs.Fronts.{sources_of}
 use Rattle.cad_loads.specs.Loads.{Source}
@@ -21,10 +21,6 @@ pub record Known : Type 0 where
 
 abbrev pub known_of : Verdict → Known
 known_of x = record { sources = map source_of x.sources.items; address = x.address; code = x.code; program = option_map shared_program x.checked }
-
--- whether two contracts have one identifier and one code
-abbrev pub same_source : Source → Source → Bool
-same_source a b = same_id a.id b.id && pointwise ◌==◌ a.code b.code
 
 -- whether this is known of a code at an address beside contracts
 abbrev pub is_of : List Source → Address → List ℕ → Known → Bool

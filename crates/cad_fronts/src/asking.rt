@@ -2,7 +2,8 @@
 ghost use Rattle.std.specs.Prelude.{◌≡◌, ◌==◌, IfOk, map, option_map};
 ghost use Rattle.std.specs.Cmp.Lexicographic.{pointwise};
 ghost use Rattle.cad_evaluation.specs.Adding.{standing};
-ghost use Rattle.cad_fronts.specs.Views.{find_known, front_of, is_of, known_of, same_source};
+ghost use Rattle.cad_fronts.specs.Views.{find_known, front_of, is_of, known_of};
+ghost use Rattle.cad_loading.specs.Again.{same_source};
 ghost use Rattle.cad_loading.specs.Views.{shared_program, source_of};
 ghost use Rattle.cad_loads.specs.Fronts.{sources_of};
 ghost use Rattle.cad_loads.specs.Loads as loads;

@@ -4,7 +4,7 @@ ghost use Rattle.cad_fronts.specs.Views.{front_of, known_of};
 ghost use Rattle.cad_loads.specs.Fronts.{IsRight};
 
 use cad_declarations::Checked;
-use cad_loading::Source;
+use cad_loading::{Programs, Source, discard_kept, nothing_kept};
 use cad_state::discard_shared;
 use cad_syntax::{Address, Bytes};
 use std::alloc::{AllocError, Global};
@@ -23,6 +23,8 @@ pub struct Verdict {
 /// Codes of which it is known whether they are accepted.
 pub struct Verdicts {
     pub(crate) all: Vec<Verdict>,
+    /// Programs of contracts beside which codes were checked.
+    pub(crate) programs: Programs,
 }
 
 /// Of no code anything is known. It takes no memory.
@@ -31,6 +33,7 @@ pub fn no_verdicts(alloc: Global) -> Verdicts
 {
     Verdicts {
         all: Vec::new(alloc),
+        programs: nothing_kept(alloc),
     }
 }
 
@@ -57,7 +60,8 @@ fn discard_verdict(verdict: Verdict) {
 
 /// Lets verdicts go.
 pub fn discard_verdicts(verdicts: Verdicts) {
-    let Verdicts { all } = verdicts;
+    let Verdicts { all, programs } = verdicts;
+    discard_kept(programs);
     let mut left = all;
     while let Some(verdict) = left.pop() {
         discard_verdict(verdict);

@@ -16,7 +16,7 @@ use crate::codes::{Verdict, Verdicts, push_verdict};
 use cad_check::check_text;
 use cad_declarations::{Checked, Deployed};
 use cad_discards::{discard_checked, discard_deployed};
-use cad_loading::{Source, deployed_with, discard_programs, load};
+use cad_loading::{Programs, Source, deployed_with, discard_programs, load_kept};
 use cad_state::{Contract, Question, Unknown, discard_contracts};
 use cad_syntax::Address;
 use std::alloc::{AllocError, Global};
@@ -100,12 +100,13 @@ fn check_with(
 /// refused. Memory fails too where they weren't.
 fn judge(
     alloc: Global,
+    kept: &mut Programs,
     sources: &[Source],
     question: &Question,
 ) -> Result<Option<Rc<Checked>>, AllocError>
     ensures { IfOk result (λ o. IsSo (record { sources = map source_of sources.now; address = question.now.address; code = question.now.code; program = option_map shared_program o })) }
 {
-    match load(alloc, sources)? {
+    match load_kept(alloc, kept, sources)? {
         Some(programs) => {
             let checked = check_with(alloc, sources, programs.as_slice(), question);
             discard_programs(programs);
@@ -116,11 +117,16 @@ fn judge(
 }
 
 /// The verdict on a code beside contracts.
-fn verdict(alloc: Global, sources: Vec<Source>, question: Question) -> Result<Verdict, AllocError>
+fn verdict(
+    alloc: Global,
+    kept: &mut Programs,
+    sources: Vec<Source>,
+    question: Question,
+) -> Result<Verdict, AllocError>
     ensures so { IfOk result (λ it. IsSo (known_of it)) }
     ensures on { IfOk result (λ it. IsOn (map source_of sources.items) question.address question.code (known_of it)) }
 {
-    let checked = judge(alloc, sources.as_slice(), &question)?;
+    let checked = judge(alloc, kept, sources.as_slice(), &question)?;
     let Question { address, code } = question;
     Ok(Verdict {
         sources,
@@ -164,7 +170,7 @@ fn learn_beside(
     ensures keeps { Extends (front_of verdicts.old) (front_of verdicts.new) }
     ensures knows { OnOk result (said_of (find_known (map known_of verdicts.new.all.items) (map source_of sources.items) question.address question.code) ≢ fronts.unknown) }
 {
-    match verdict(alloc, sources, question) {
+    match verdict(alloc, &mut verdicts.programs, sources, question) {
         Ok(new) => push_verdict(verdicts, new),
         Err(error) => Err(error),
     }

@@ -1,3 +1,4 @@
+pub mod Again
 mod Imported
 mod Orders
 mod Places

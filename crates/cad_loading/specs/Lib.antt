@@ -1,4 +1,5 @@
 pub mod Views
 pub mod Slots
+pub mod Again
 pub mod Answers
 pub mod Laws

@@ -44,6 +44,12 @@ is_gap None = false
 is_gap (Some None) = true
 is_gap (Some (Some p)) = false
 
+-- whether one is left
+abbrev pub some_gap : List (Option Program) → Bool
+some_gap [] = false
+some_gap (None ∷ slots) = true
+some_gap (Some p ∷ slots) = some_gap slots
+
 -- how many are left
 abbrev pub gaps : List (Option Program) → ℕ
 gaps [] = 0

@@ -7,6 +7,7 @@ use Rattle.cad_declarations.specs.declared.program.Checked.{Checked}
 use Rattle.cad_loads.specs.Loads as loads
 use Rattle.cad_state.specs.Views.{program_of}
 use Rattle.cad_world.specs.State.{Program}
+use Rattle.cad_loading.specs.declared.held.Held.{Held}
 use Rattle.cad_loading.specs.declared.loading.Source.{Source}
 
 abbrev pub source_of : Source → loads.Source
@@ -23,3 +24,6 @@ slot_of x = option_map shared_program x
 
 abbrev pub slots_of : Vec (Option (Rc Checked Global)) Global → List (Option Program)
 slots_of x = map slot_of x.items
+
+abbrev pub held_of : Held → loads.Loaded
+held_of x = record { id = x.source.id; code = x.source.code.value; program = shared_program x.checked }

@@ -3,11 +3,12 @@ ghost use Rattle.std.specs.Prelude.{◌≡◌, ◌++◌, ◌∷◌, [], IfOk, On
 ghost use Rattle.cad_contracts.specs.Views as views;
 ghost use Rattle.cad_declarations.specs.Imports.{contract_entry, is_deployed};
 ghost use Rattle.cad_declarations.specs.Views.{tables_of};
-ghost use Rattle.cad_loading.specs.Views.{shared_program, source_of};
+ghost use Rattle.cad_loading.specs.Views.{held_of, shared_program, source_of};
 ghost use Rattle.cad_loads.specs.Loads.{entries_of, loaded_by, loaded_of};
 ghost use Rattle.cad_state.specs.Views.{contract_of};
 ghost use Rattle.cad_tables.specs.Views.{contracts_of};
 
+use crate::held::Held;
 use crate::loading::Source;
 use cad_contracts::find_contract_at;
 use cad_declarations::{Checked, Deployed, Installed};
@@ -116,6 +117,31 @@ pub fn deployed_with(
 {
     let mut deployed = no_contracts(alloc);
     match push_sources(&mut deployed.contracts, sources, programs) {
+        Ok(()) => Ok(deployed),
+        Err(error) => {
+            discard_deployed(deployed);
+            Err(error)
+        }
+    }
+}
+
+/// Appends contracts with their programs.
+fn push_all(all: &mut Vec<Installed>, held: &[Held]) -> Result<(), AllocError>
+    ensures { OnOk result (map views.entry_of all.new.items ≡ map views.entry_of all.old.items ++ entries_of (map held_of held.now)) }
+{
+    for it in held {
+        push_installed(all, &it.source.id, &it.source.code, &it.checked)?;
+    }
+    Ok(())
+}
+
+/// Contracts with their programs, as code is checked beside them. The programs are shared. Memory fails too of an identifier that
+/// isn't an address and one name.
+pub(crate) fn deployed_held(alloc: Global, held: &[Held]) -> Result<Deployed, AllocError>
+    ensures { IfOk result (λ all. contracts_of all ≡ entries_of (map held_of held.now)) }
+{
+    let mut deployed = no_contracts(alloc);
+    match push_all(&mut deployed.contracts, held) {
         Ok(()) => Ok(deployed),
         Err(error) => {
             discard_deployed(deployed);

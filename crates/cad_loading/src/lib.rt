@@ -2,13 +2,16 @@
 #![tactic(auto)]
 
 mod deployed;
+mod held;
+mod kept;
 mod laws;
 mod loading;
+mod meeting;
 mod passes;
 mod progress;
 
 pub use deployed::{deployed_of, deployed_with};
+pub use kept::{Programs, discard_kept, load_kept, nothing_kept};
 pub use laws::one_loading;
 pub use loading::Source;
-pub use passes::load;
 pub use progress::discard_programs;

@@ -8,7 +8,7 @@ ghost use Rattle.cad_tables.specs.Views.{contracts_of};
 
 use crate::deployed::is_taken;
 use crate::loading::{Source, standing_program};
-use crate::progress::{Progress, discard_progress, finished, is_left, nothing_loaded, put};
+use crate::progress::{Progress, discard_progress, finished, is_left, put};
 use cad_check::one_acceptance;
 use cad_declarations::Checked;
 use cad_table_laws::imports_are_enough;
@@ -68,14 +68,19 @@ fn settle(alloc: Global, sources: &[Source], state: &mut Progress) -> Result<(),
     }
 }
 
-/// The programs of contracts, in their order, where these were deployed one after another, in whatever order; else none.
-/// Memory fails too of an identifier that isn't an address and one name.
-pub fn load(alloc: Global, sources: &[Source]) -> Result<Option<Vec<Rc<Checked>>>, AllocError>
+/// The programs of contracts, in their order, where these were deployed one after another, in whatever order; else none. Some of
+/// them may be loaded already. Memory fails too of an identifier that isn't an address and one name.
+pub(crate) fn load_on(
+    alloc: Global,
+    sources: &[Source],
+    begun: Progress,
+) -> Result<Option<Vec<Rc<Checked>>>, AllocError>
+    requires { IsLoaded (map source_of sources.now) (slots_of begun.slots) (contracts_of begun.deployed) }
     ensures { IfOk result (λ answer. Loading (map source_of sources.now) (option_map programs_of answer)) }
 {
     one_acceptance();
     imports_are_enough();
-    let mut state = nothing_loaded(alloc, sources)?;
+    let mut state = begun;
     match settle(alloc, sources, &mut state) {
         Ok(()) => finished(alloc, state),
         Err(error) => {

@@ -1,7 +1,7 @@
 // What is loaded so far.
 ghost use Rattle.std.specs.Prelude.{◌≡◌, ◌<◌, ◌++◌, ◌∷◌, [], None, Some, IfOk, OnOk, length, map, option_map, set, slice_get};
 ghost use Rattle.cad_declarations.specs.Imports.{contract_entry};
-ghost use Rattle.cad_loading.specs.Slots.{gathered, if_whole, is_gap, no_programs};
+ghost use Rattle.cad_loading.specs.Slots.{gathered, if_whole, is_gap, no_programs, some_gap};
 ghost use Rattle.cad_loading.specs.Views.{programs_of, slot_of, slots_of};
 ghost use Rattle.cad_state.specs.Views.{program_of};
 ghost use Rattle.cad_tables.specs.Views.{contracts_of};
@@ -27,7 +27,7 @@ pub(crate) struct Progress {
 // ---- slots
 
 /// Lets a slot go.
-fn discard_slot(slot: Option<Rc<Checked>>) {
+pub(crate) fn discard_slot(slot: Option<Rc<Checked>>) {
     match slot {
         Some(shared) => discard_shared(shared),
         None => {}
@@ -35,7 +35,7 @@ fn discard_slot(slot: Option<Rc<Checked>>) {
 }
 
 /// Lets slots go.
-fn discard_slots(slots: Vec<Option<Rc<Checked>>>) {
+pub(crate) fn discard_slots(slots: Vec<Option<Rc<Checked>>>) {
     let mut left = slots;
     while let Some(slot) = left.pop() {
         discard_slot(slot);
@@ -44,7 +44,7 @@ fn discard_slots(slots: Vec<Option<Rc<Checked>>>) {
 }
 
 /// Appends a slot without a program.
-fn push_empty(slots: &mut Vec<Option<Rc<Checked>>>) -> Result<(), AllocError>
+pub(crate) fn push_empty(slots: &mut Vec<Option<Rc<Checked>>>) -> Result<(), AllocError>
     ensures { OnOk result (slots_of slots.new ≡ slots_of slots.old ++ None ∷ []) }
 {
     match slots.push(None) {
@@ -74,6 +74,18 @@ fn is_empty(slots: &[Option<Rc<Checked>>], at: usize) -> bool
         Some(slot) => slot.is_none(),
         None => false,
     }
+}
+
+/// Whether a slot has no program.
+fn is_any_empty(slots: &[Option<Rc<Checked>>]) -> bool
+    ensures { result ≡ some_gap (map slot_of slots.now) }
+{
+    for slot in slots {
+        if slot.is_none() {
+            return true;
+        }
+    }
+    false
 }
 
 /// A program comes into a slot.
@@ -116,6 +128,13 @@ pub(crate) fn is_left(state: &Progress, at: usize) -> bool
     ensures { result ≡ is_gap (slice_get (slots_of state.now.slots) at) }
 {
     is_empty(state.slots.as_slice(), at)
+}
+
+/// Whether a source is left.
+pub(crate) fn has_gap(state: &Progress) -> bool
+    ensures { result ≡ some_gap (slots_of state.now.slots) }
+{
+    is_any_empty(state.slots.as_slice())
 }
 
 /// A source in a place is loaded as a program that is shared.

@@ -20,6 +20,7 @@ use crate::transactions::transaction_outcome;
 use crate::worlds::world_in;
 use cad_commands::{Command, limits_are_bounded};
 use cad_fronts::{Verdicts, discard_verdicts, learn, no_verdicts};
+use cad_loading::Programs;
 use cad_script_replies::Unfinished;
 use cad_store::Store;
 use cad_world_reading::one_world;
@@ -33,6 +34,7 @@ const MOST_RUNS: u64 = 1_000_001;
 // What a command comes to over a World, which a store holds, by verdicts that are known.
 fn outcome_over(
     alloc: Global,
+    programs: &mut Programs,
     store: &Store,
     verdicts: &Verdicts,
     world: World,
@@ -44,7 +46,7 @@ fn outcome_over(
     ensures { IfOk result (λ o. Comes o (held store.now) (world_of world) (pure_command command.now)) }
 {
     match command {
-        Command::Account => account_outcome(alloc, store, world),
+        Command::Account => account_outcome(alloc, programs, store, world),
         Command::Deploy {
             address,
             name,
@@ -55,7 +57,7 @@ fn outcome_over(
             let name = name.as_str();
             let code = code.as_str();
             deploy_outcome(
-                alloc, store, verdicts, world, *address, name, code, arguments, *limit,
+                alloc, programs, store, verdicts, world, *address, name, code, arguments, *limit,
             )
         }
         Command::Transaction {
@@ -66,7 +68,7 @@ fn outcome_over(
         } => {
             let code = code.as_str();
             transaction_outcome(
-                alloc, store, verdicts, world, code, arguments, signers, *limit,
+                alloc, programs, store, verdicts, world, code, arguments, signers, *limit,
             )
         }
         Command::Script {
@@ -88,6 +90,7 @@ fn outcome_over(
 // is.
 fn attempt(
     alloc: Global,
+    programs: &mut Programs,
     store: &Store,
     verdicts: &mut Verdicts,
     command: &Command,
@@ -99,8 +102,8 @@ fn attempt(
     ensures comes { IfOk result (λ found. IfSome found (λ o. (w : definition.World) → StandsFor (held store.now) w → Comes o (held store.now) w (pure_command command.now))) }
 {
     one_world();
-    let world = world_in(alloc, store)?;
-    match outcome_over(alloc, store, verdicts, world, command) {
+    let world = world_in(alloc, programs, store)?;
+    match outcome_over(alloc, programs, store, verdicts, world, command) {
         Ok(outcome) => Ok(Some(outcome)),
         Err(Unfinished::Memory) => Err(AllocError),
         Err(Unfinished::Unknown(unknown)) => {
@@ -113,6 +116,7 @@ fn attempt(
 // What a command comes to over the World that a store holds, by verdicts that are learned as its runs ask for them.
 fn outcome_by(
     alloc: Global,
+    programs: &mut Programs,
     store: &Store,
     verdicts: &mut Verdicts,
     command: &Command,
@@ -123,7 +127,7 @@ fn outcome_by(
     ensures { IfOk result (λ o. (w : definition.World) → StandsFor (held store.now) w → Comes o (held store.now) w (pure_command command.now)) }
 {
     for _ in 0..MOST_RUNS {
-        if let Some(outcome) = attempt(alloc, store, verdicts, command)? {
+        if let Some(outcome) = attempt(alloc, programs, store, verdicts, command)? {
             return Ok(outcome);
         }
     }
@@ -131,7 +135,12 @@ fn outcome_by(
 }
 
 /// What a command comes to, over the World that a store holds.
-pub fn outcome_of(alloc: Global, store: &Store, command: &Command) -> Result<Outcome, AllocError>
+pub fn outcome_of(
+    alloc: Global,
+    programs: &mut Programs,
+    store: &Store,
+    command: &Command,
+) -> Result<Outcome, AllocError>
     requires sound { AreSound (held store.now) }
     requires bounds { (line : List ℕ) × (pure_command command.now ≡ command_of line) }
     ensures { IfOk result (λ o. (w : definition.World) → StandsFor (held store.now) w → Comes o (held store.now) w (pure_command command.now)) }
@@ -141,7 +150,7 @@ pub fn outcome_of(alloc: Global, store: &Store, command: &Command) -> Result<Out
         return Ok(Outcome::Stays(Reply::Bad(*number)));
     }
     let mut verdicts = no_verdicts(alloc);
-    let outcome = outcome_by(alloc, store, &mut verdicts, command);
+    let outcome = outcome_by(alloc, programs, store, &mut verdicts, command);
     discard_verdicts(verdicts);
     outcome
 }

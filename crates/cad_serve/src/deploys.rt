@@ -23,6 +23,7 @@ use cad_declarations::Checked;
 use cad_deploy_replies::{deploy, is_taken};
 use cad_discards::discard_checked;
 use cad_fronts::Verdicts;
+use cad_loading::Programs;
 use cad_script_replies::Unfinished;
 use cad_store::Store;
 use cad_syntax::{Address, Bytes, Name, Names, Text, TypeId};
@@ -43,6 +44,7 @@ fn contract_named(alloc: Global, address: Address, name: &str) -> Result<TypeId,
 // What a contract that may be deployed comes to, by verdicts that are known.
 fn installed(
     alloc: Global,
+    programs: &mut Programs,
     store: &Store,
     verdicts: &Verdicts,
     checked: Checked,
@@ -58,12 +60,13 @@ fn installed(
         (λ x. deployment.Comes (front_of verdicts.now) (world_of world) (program_in (checked_of checked)) id code (map view arguments.now) limit x × (x ≢ spec.stays (runs.failed 0)))) }
 {
     let comes = deploy(alloc, verdicts, checked, world, id, code, arguments, limit)?;
-    with_changes(alloc, store, comes)
+    with_changes(alloc, programs, store, comes)
 }
 
 // What a contract that is accepted comes to, by verdicts that are known.
 fn served(
     alloc: Global,
+    programs: &mut Programs,
     store: &Store,
     verdicts: &Verdicts,
     checked: Checked,
@@ -83,7 +86,7 @@ fn served(
     match Bytes::from_slice(alloc, code.as_bytes()) {
         Ok(bytes) => {
             installed(
-                alloc, store, verdicts, checked, world, id, bytes, arguments, limit,
+                alloc, programs, store, verdicts, checked, world, id, bytes, arguments, limit,
             )
         }
         Err(_) => {
@@ -97,6 +100,7 @@ fn served(
 // What a contract comes to at an account that is there, by verdicts that are known.
 fn outcome_at(
     alloc: Global,
+    programs: &mut Programs,
     store: &Store,
     verdicts: &Verdicts,
     world: World,
@@ -117,7 +121,7 @@ fn outcome_at(
     match verdict_of(alloc, &world, Some(id.address), code) {
         Ok(Ok(checked)) => {
             served(
-                alloc, store, verdicts, checked, world, id, code, arguments, limit,
+                alloc, programs, store, verdicts, checked, world, id, code, arguments, limit,
             )
         }
         Ok(Err(rejected)) => {
@@ -134,6 +138,7 @@ fn outcome_at(
 /// What a contract that is to be deployed comes to, by verdicts that are known. Unknown where its initializer asked for another.
 pub fn deploy_outcome(
     alloc: Global,
+    programs: &mut Programs,
     store: &Store,
     verdicts: &Verdicts,
     world: World,
@@ -153,7 +158,9 @@ pub fn deploy_outcome(
         return Ok(Outcome::Stays(Reply::Bad(26)));
     }
     match contract_named(alloc, address, name) {
-        Ok(id) => outcome_at(alloc, store, verdicts, world, id, code, arguments, limit),
+        Ok(id) => outcome_at(
+            alloc, programs, store, verdicts, world, id, code, arguments, limit,
+        ),
         Err(_) => {
             discard_world(world);
             Err(Unfinished::Memory)

@@ -27,6 +27,7 @@ use crate::status::Status;
 use crate::worlds::{Worlds, world_in};
 use cad_generation::{first_lines, next_number, transfer_of};
 use cad_host::{Host, SureHost};
+use cad_loading::{Programs, discard_kept, nothing_kept};
 use cad_store::{Store, open};
 use cad_syntax::Text;
 use cad_world_checks::live_identities;
@@ -58,6 +59,7 @@ fn keep<H: Host>(host: &mut H, store: &mut Store, settled: Settled) -> Result<Re
 fn run_line<H: Host>(
     alloc: Global,
     host: &mut H,
+    programs: &mut Programs,
     store: &mut Store,
     line: &[u8],
 ) -> Result<Reply, AllocError>
@@ -73,7 +75,7 @@ fn run_line<H: Host>(
     if long {
         return Ok(Reply::Bad(27));
     }
-    let settled = settle(alloc, store, line)?;
+    let settled = settle(alloc, programs, store, line)?;
     keep(host, store, settled)
 }
 
@@ -83,6 +85,7 @@ fn run_line<H: Host>(
 fn add_line<H: Host>(
     alloc: Global,
     host: &mut H,
+    programs: &mut Programs,
     store: &mut Store,
     counts: &mut Counts,
     line: &Text,
@@ -95,7 +98,7 @@ fn add_line<H: Host>(
     ensures on { OnOk result (H.tells → IsOn (H.trace host.new) store.new) }
     ensures room { room_of store.new ≡ room_of store.old }
 {
-    let reply = run_line(alloc, host, store, line.as_bytes())?;
+    let reply = run_line(alloc, host, programs, store, line.as_bytes())?;
     let more = counts.with(&reply)?;
     *counts = more;
     Ok(())
@@ -105,6 +108,7 @@ fn add_line<H: Host>(
 fn add_lines<H: Host>(
     alloc: Global,
     host: &mut H,
+    programs: &mut Programs,
     store: &mut Store,
     counts: &mut Counts,
     lines: &[Text],
@@ -118,7 +122,7 @@ fn add_lines<H: Host>(
     ensures room { room_of store.new ≡ room_of store.old }
 {
     for line in lines {
-        add_line(alloc, host, store, counts, line)?;
+        add_line(alloc, host, programs, store, counts, line)?;
     }
     Ok(())
 }
@@ -127,6 +131,7 @@ fn add_lines<H: Host>(
 fn add_transfers<H: Host>(
     alloc: Global,
     host: &mut H,
+    programs: &mut Programs,
     store: &mut Store,
     counts: &mut Counts,
     n: u64,
@@ -143,7 +148,7 @@ fn add_transfers<H: Host>(
     for _ in 0..n {
         x = next_number(x);
         let line = transfer_of(alloc, x)?;
-        add_line(alloc, host, store, counts, &line)?;
+        add_line(alloc, host, programs, store, counts, &line)?;
     }
     Ok(())
 }
@@ -152,6 +157,7 @@ fn add_transfers<H: Host>(
 fn add_all<H: Host>(
     alloc: Global,
     host: &mut H,
+    programs: &mut Programs,
     store: &mut Store,
     n: u64,
 ) -> Result<Counts, AllocError>
@@ -163,8 +169,8 @@ fn add_all<H: Host>(
 {
     let first = first_lines(alloc)?;
     let mut counts = Counts::new();
-    add_lines(alloc, host, store, &mut counts, first.as_slice())?;
-    add_transfers(alloc, host, store, &mut counts, n)?;
+    add_lines(alloc, host, programs, store, &mut counts, first.as_slice())?;
+    add_transfers(alloc, host, programs, store, &mut counts, n)?;
     Ok(counts)
 }
 
@@ -187,12 +193,12 @@ fn empty_store(alloc: Global, host: &mut SureHost) -> Result<Store, AllocError>
 }
 
 // How many identities live in the World that a store holds.
-fn live_in(alloc: Global, store: &Store) -> Result<u64, AllocError>
+fn live_in(alloc: Global, programs: &mut Programs, store: &Store) -> Result<u64, AllocError>
     requires { AreSound (held store.now) }
     ensures { IfOk result (λ count. (w : World) → StandsFor (held store.now) w → count ≡ length (live w)) }
 {
     one_world();
-    let world = world_in(alloc, store)?;
+    let world = world_in(alloc, programs, store)?;
     match live_identities(alloc, &world) {
         Ok(found) => {
             discard_world(world);
@@ -205,15 +211,25 @@ fn live_in(alloc: Global, store: &Store) -> Result<u64, AllocError>
     }
 }
 
-// The line of the counts of a generated session.
-fn counts_line(alloc: Global, n: u64) -> Result<Text, AllocError>
+// The line of the counts of a session that is generated and run.
+fn session_line(alloc: Global, programs: &mut Programs, n: u64) -> Result<Text, AllocError>
     ensures { IfOk result (λ line. IsCountsLine n line) }
 {
     let mut host = SureHost::new(alloc, &[])?;
     let mut store = empty_store(alloc, &mut host)?;
-    let counts = add_all(alloc, &mut host, &mut store, n)?;
-    let live = live_in(alloc, &store)?;
+    let counts = add_all(alloc, &mut host, programs, &mut store, n)?;
+    let live = live_in(alloc, programs, &store)?;
     counts.line(alloc, live)
+}
+
+// The line of the counts of a generated session. The programs of its contracts are kept from one command to the next.
+fn counts_line(alloc: Global, n: u64) -> Result<Text, AllocError>
+    ensures { IfOk result (λ line. IsCountsLine n line) }
+{
+    let mut programs = nothing_kept(alloc);
+    let line = session_line(alloc, &mut programs, n);
+    discard_kept(programs);
+    line
 }
 
 /// Runs the lines of a generated session in memory, from no accounts on, and puts the line of its counts. Of the host nothing

@@ -11,6 +11,7 @@ ghost use Rattle.cad_serve.specs.Code.Outcomes.{Comes};
 use crate::outcome::Outcome;
 use crate::reply::Reply;
 use crate::worlds::changes_to;
+use cad_loading::Programs;
 use cad_rows::Place;
 use cad_script_replies::Unfinished;
 use cad_state::{Account, Controller, Publication, discard_account};
@@ -63,7 +64,12 @@ fn with_account(alloc: Global, world: World) -> Result<World, AllocError>
 }
 
 /// What one more account comes to.
-pub fn account_outcome(alloc: Global, store: &Store, world: World) -> Result<Outcome, Unfinished>
+pub fn account_outcome(
+    alloc: Global,
+    programs: &mut Programs,
+    store: &Store,
+    world: World,
+) -> Result<Outcome, Unfinished>
     ensures { IfOk result (λ o. Comes o (held store.now) (world_of world) runs.account) }
 {
     let count = world.accounts.len();
@@ -72,6 +78,6 @@ pub fn account_outcome(alloc: Global, store: &Store, world: World) -> Result<Out
         return Ok(Outcome::Stays(Reply::Failed(127)));
     }
     let new = with_account(alloc, world)?;
-    let changes = changes_to(alloc, store, new)?;
+    let changes = changes_to(alloc, programs, store, new)?;
     Ok(Outcome::Leads(Reply::Account(Address(count as u64 + 1)), changes))
 }

@@ -12,6 +12,7 @@ ghost use Rattle.cad_serve.specs.Code.Outcomes.{IsReady, IsSettled, RunsTo};
 use crate::line::Line;
 use crate::reply::{Reply, reply_line};
 use crate::settling::{Settled, settle};
+use cad_loading::Programs;
 use cad_store::{Commit, Store};
 use cad_syntax::Text;
 use std::alloc::{AllocError, Global};
@@ -45,7 +46,12 @@ fn with_line(alloc: Global, store: &mut Store, settled: Settled) -> Result<Prepa
 }
 
 /// Makes the answer to a line ready.
-pub fn prepare(alloc: Global, store: &mut Store, line: &Line) -> Result<Prepared, AllocError>
+pub fn prepare(
+    alloc: Global,
+    programs: &mut Programs,
+    store: &mut Store,
+    line: &Line,
+) -> Result<Prepared, AllocError>
     requires sound { AreSound (held store.old) }
     requires room { room_of store.old ≡ most_bytes }
     ensures ready { IfOk result (λ p. (w : World) → StandsFor (held store.old) w → IsReady p store.new (λ a v. (pending : List ℕ) → Holds line.now pending → Answers w pending a v)) }
@@ -57,6 +63,6 @@ pub fn prepare(alloc: Global, store: &mut Store, line: &Line) -> Result<Prepared
         let text = reply_line(alloc, Reply::Bad(27))?;
         return Ok(Prepared::Reply(text));
     }
-    let settled = settle(alloc, store, &line.held)?;
+    let settled = settle(alloc, programs, store, &line.held)?;
     with_line(alloc, store, settled)
 }

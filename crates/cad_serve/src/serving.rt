@@ -33,6 +33,7 @@ use crate::status::Status;
 use crate::words::{is_run, transfers_asked};
 use crate::worlds::Worlds;
 use cad_host::{Failed, Host};
+use cad_loading::{Programs, discard_kept, nothing_kept};
 use cad_store::{Commit, OpenStop, Store, open};
 use cad_syntax::Text;
 use cad_world_reading::one_world;
@@ -93,6 +94,7 @@ fn write_and_tell<H: Host>(
 fn answer<H: Host>(
     alloc: Global,
     host: &mut H,
+    programs: &mut Programs,
     store: &mut Store,
     line: &Line,
 ) -> Result<(), Status>
@@ -113,7 +115,7 @@ fn answer<H: Host>(
     ensures input { H.input_faults host.new ≡ H.input_faults host.old }
 {
     one_world();
-    let Ok(prepared) = prepare(alloc, store, line) else {
+    let Ok(prepared) = prepare(alloc, programs, store, line) else {
         return Err(Status::Memory);
     };
     match prepared {
@@ -123,7 +125,13 @@ fn answer<H: Host>(
 }
 
 // Answers the line that has ended, where it is a command.
-fn say<H: Host>(alloc: Global, host: &mut H, store: &mut Store, line: &Line) -> Result<(), Status>
+fn say<H: Host>(
+    alloc: Global,
+    host: &mut H,
+    programs: &mut Programs,
+    store: &mut Store,
+    line: &Line,
+) -> Result<(), Status>
     requires sound { AreSound (held store.old) }
     requires room { room_of store.old ≡ most_bytes }
     requires on { H.tells → IsOn (H.trace host.old) store.old }
@@ -143,13 +151,14 @@ fn say<H: Host>(alloc: Global, host: &mut H, store: &mut Store, line: &Line) -> 
     if line.blank {
         return Ok(());
     }
-    answer(alloc, host, store, line)
+    answer(alloc, host, programs, store, line)
 }
 
 // Takes one byte of the input.
 fn feed_byte<H: Host>(
     alloc: Global,
     host: &mut H,
+    programs: &mut Programs,
     store: &mut Store,
     line: &mut Line,
     byte: u8,
@@ -169,7 +178,7 @@ fn feed_byte<H: Host>(
     ensures input { H.input_faults host.new ≡ H.input_faults host.old }
 {
     if byte == b'\n' {
-        if let Err(stop) = say(alloc, host, store, line) {
+        if let Err(stop) = say(alloc, host, programs, store, line) {
             return Err(stop);
         }
         line.clear();
@@ -185,6 +194,7 @@ fn feed_byte<H: Host>(
 fn feed<H: Host>(
     alloc: Global,
     host: &mut H,
+    programs: &mut Programs,
     store: &mut Store,
     line: &mut Line,
     bytes: &[u8],
@@ -204,7 +214,7 @@ fn feed<H: Host>(
     ensures input { H.input_faults host.new ≡ H.input_faults host.old }
 {
     for byte in bytes {
-        if let Err(stop) = feed_byte(alloc, host, store, line, *byte) {
+        if let Err(stop) = feed_byte(alloc, host, programs, store, line, *byte) {
             return Err(stop);
         }
     }
@@ -231,6 +241,7 @@ fn turn<H: Host>(
     alloc: Global,
     host: &mut H,
     buffer: &mut [u8],
+    programs: &mut Programs,
     store: &mut Store,
     line: &mut Line,
     room: usize,
@@ -256,14 +267,20 @@ fn turn<H: Host>(
     let Ok(count) = take_some(host, buffer, room) else {
         return Err(Status::ReadFault);
     };
-    if let Err(stop) = feed(alloc, host, store, line, &buffer[..count]) {
+    if let Err(stop) = feed(alloc, host, programs, store, line, &buffer[..count]) {
         return Err(stop);
     }
     Ok(count)
 }
 
 // Replies to the line that the end of the input ends.
-fn finish<H: Host>(alloc: Global, host: &mut H, store: &mut Store, line: &Line) -> Status
+fn finish<H: Host>(
+    alloc: Global,
+    host: &mut H,
+    programs: &mut Programs,
+    store: &mut Store,
+    line: &Line,
+) -> Status
     requires sound { AreSound (held store.old) }
     requires room { room_of store.old ≡ most_bytes }
     requires on { H.tells → IsOn (H.trace host.old) store.old }
@@ -271,7 +288,7 @@ fn finish<H: Host>(alloc: Global, host: &mut H, store: &mut Store, line: &Line) 
         Ends result w input (H.left host.new) base (H.trace host.new) }
     ensures cause { HasCause result (H.input_faults host.old) (H.input_faults host.new) (H.output_faults host.old) (H.output_faults host.new) (H.disk_faults host.old) (H.disk_faults host.new) }
 {
-    match say(alloc, host, store, line) {
+    match say(alloc, host, programs, store, line) {
         Ok(()) => Status::Done,
         Err(stop) => stop,
     }
@@ -298,6 +315,7 @@ fn past_bound<H: Host>(
     alloc: Global,
     host: &mut H,
     buffer: &mut [u8],
+    programs: &mut Programs,
     store: &mut Store,
     line: &Line,
 ) -> Status
@@ -311,7 +329,7 @@ fn past_bound<H: Host>(
 {
     match take_some(host, buffer, 1) {
         Err(_) => Status::ReadFault,
-        Ok(0) => finish(alloc, host, store, line),
+        Ok(0) => finish(alloc, host, programs, store, line),
         Ok(_) => Status::InputBound,
     }
 }
@@ -321,6 +339,7 @@ fn read_lines<H: Host>(
     alloc: Global,
     host: &mut H,
     buffer: &mut [u8],
+    programs: &mut Programs,
     store: &mut Store,
     line: &mut Line,
 ) -> Status
@@ -335,20 +354,20 @@ fn read_lines<H: Host>(
     let mut taken = 0u64;
     while taken < INPUT_BOUND {
         let room = room_for(taken, buffer.len());
-        match turn(alloc, host, buffer, store, line, room) {
+        match turn(alloc, host, buffer, programs, store, line, room) {
             Err(stop) => return stop,
-            Ok(0) => return finish(alloc, host, store, line),
+            Ok(0) => return finish(alloc, host, programs, store, line),
             Ok(count) => taken += count as u64,
         }
     }
-    past_bound(alloc, host, buffer, store, line)
+    past_bound(alloc, host, buffer, programs, store, line)
 }
 
 // How many bytes are asked for at once.
 const BUFFER: usize = 1 << 16;
 
 // Makes the buffer and reads the input.
-fn run<H: Host>(alloc: Global, host: &mut H, store: &mut Store) -> Status
+fn run<H: Host>(alloc: Global, host: &mut H, programs: &mut Programs, store: &mut Store) -> Status
     requires sound { AreSound (held store.old) }
     requires room { room_of store.old ≡ most_bytes }
     requires on { H.tells → IsOn (H.trace host.old) store.old }
@@ -359,7 +378,7 @@ fn run<H: Host>(alloc: Global, host: &mut H, store: &mut Store) -> Status
         return Status::Memory;
     };
     let mut line = Line::new(alloc);
-    read_lines(alloc, host, &mut buffer, store, &mut line)
+    read_lines(alloc, host, &mut buffer, programs, store, &mut line)
 }
 
 /// How many bytes a World may have: those of a record of all its registers, with the gate behind it.
@@ -375,7 +394,7 @@ fn stop_of(stop: OpenStop) -> Status
     }
 }
 
-// Opens the World and reads the input.
+// Opens the World and reads the input. The programs of its contracts are kept from one command to the next.
 fn open_and_run<H: Host>(alloc: Global, host: &mut H) -> Status
     ensures ends { H.tells → (w : World) → DiskStands (reads (H.trace host.old)) w
         → EndsOpening result (H.left host.old) (H.left host.new) (H.trace host.old) (H.trace host.new)
@@ -390,7 +409,12 @@ fn open_and_run<H: Host>(alloc: Global, host: &mut H) -> Status
     ensures cause { IsCausedBy result (H.input_faults host.old) (H.input_faults host.new) (H.output_faults host.old) (H.output_faults host.new) (H.disk_faults host.old) (H.disk_faults host.new) }
 {
     match open(alloc, host, &Worlds, ROOM) {
-        Ok(mut store) => run(alloc, host, &mut store),
+        Ok(mut store) => {
+            let mut programs = nothing_kept(alloc);
+            let status = run(alloc, host, &mut programs, &mut store);
+            discard_kept(programs);
+            status
+        }
         Err(stop) => stop_of(stop),
     }
 }

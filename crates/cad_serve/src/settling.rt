@@ -18,6 +18,7 @@ use crate::outcome::Outcome;
 use crate::reply::Reply;
 use cad_accounts::Changes;
 use cad_commands::command;
+use cad_loading::Programs;
 use cad_store::{Commit, ReadyStop, Store};
 use std::alloc::{AllocError, Global};
 
@@ -68,7 +69,12 @@ fn answer_of(store: &mut Store, outcome: Outcome) -> Result<Settled, AllocError>
 }
 
 /// Runs a line that isn't too long, and makes its answer ready. Nothing is written.
-pub fn settle(alloc: Global, store: &mut Store, line: &[u8]) -> Result<Settled, AllocError>
+pub fn settle(
+    alloc: Global,
+    programs: &mut Programs,
+    store: &mut Store,
+    line: &[u8],
+) -> Result<Settled, AllocError>
     requires sound { AreSound (held store.old) }
     requires room { room_of store.old ≡ most_bytes }
     ensures settled { IfOk result (λ s. (w : World) → StandsFor (held store.old) w → IsSettled s store.new (RunsTo w line.now)) }
@@ -77,6 +83,6 @@ pub fn settle(alloc: Global, store: &mut Store, line: &[u8]) -> Result<Settled, 
     ensures on { (m : List Event) → IsOn m store.old → IsOn m store.new }
 {
     let command = command(alloc, line)?;
-    let outcome = outcome_of(alloc, store, &command)?;
+    let outcome = outcome_of(alloc, programs, store, &command)?;
     answer_of(store, outcome)
 }

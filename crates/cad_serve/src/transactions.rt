@@ -19,6 +19,7 @@ use crate::scripts::reply_of;
 use crate::worlds::changes_to;
 use cad_declarations::Checked;
 use cad_fronts::Verdicts;
+use cad_loading::Programs;
 use cad_script_replies::Unfinished;
 use cad_store::Store;
 use cad_syntax::Address;
@@ -30,6 +31,7 @@ use std::alloc::Global;
 /// What a transaction or a deploy comes to, with the registers that it changes.
 pub fn with_changes(
     alloc: Global,
+    programs: &mut Programs,
     store: &Store,
     comes: TransactionOutcome,
 ) -> Result<Outcome, Unfinished>
@@ -38,7 +40,7 @@ pub fn with_changes(
     match comes {
         TransactionOutcome::Stays(reply) => Ok(Outcome::Stays(reply_of(reply))),
         TransactionOutcome::Leads(receipt, world) => {
-            let changes = changes_to(alloc, store, world)?;
+            let changes = changes_to(alloc, programs, store, world)?;
             Ok(Outcome::Leads(Reply::Ran(receipt), changes))
         }
     }
@@ -47,6 +49,7 @@ pub fn with_changes(
 // What a transaction that is accepted comes to, by verdicts that are known.
 fn served(
     alloc: Global,
+    programs: &mut Programs,
     store: &Store,
     verdicts: &Verdicts,
     checked: Checked,
@@ -62,12 +65,13 @@ fn served(
         → ComesBy o (held store.now) (RunsTransaction (world_of world) code (map view arguments.now) signers.now limit)) }
 {
     let comes = transact(alloc, verdicts, checked, world, arguments, signers, limit)?;
-    with_changes(alloc, store, comes)
+    with_changes(alloc, programs, store, comes)
 }
 
 /// What a transaction comes to, by verdicts that are known. Unknown where it asked for another.
 pub fn transaction_outcome(
     alloc: Global,
+    programs: &mut Programs,
     store: &Store,
     verdicts: &Verdicts,
     world: World,
@@ -84,7 +88,7 @@ pub fn transaction_outcome(
     match verdict_of(alloc, &world, None, code) {
         Ok(Ok(checked)) => {
             served(
-                alloc, store, verdicts, checked, world, arguments, signers, limit,
+                alloc, programs, store, verdicts, checked, world, arguments, signers, limit,
             )
         }
         Ok(Err(rejected)) => {

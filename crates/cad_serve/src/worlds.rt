@@ -8,17 +8,21 @@ ghost use Rattle.cad_worlds.specs.Standing.{Becomes, StandsFor, coding, register
 ghost use Rattle.cad_serve.specs.Code.Worlds.{AreSound, LeadsOn};
 
 use cad_accounts::{Changes, Row};
+use cad_loading::{Programs, discard_kept, nothing_kept};
 use cad_store::{Judge, Store};
-use cad_world_reading::read_world;
+use cad_world_reading::{known_world, read_world};
 use cad_worlds::{World, changes, discard_world, registers_of};
 use std::alloc::{AllocError, Global};
 
-// The World that a store holds; None where its registers stand for none.
+// The World that a store holds; None where its registers stand for none. The codes of its contracts are checked.
 fn read(alloc: Global, store: &Store) -> Result<Option<World>, AllocError>
     ensures found { IfOk result (λ o. IfSome o (λ world. StandsFor (held store.now) (world_of world))) }
     ensures none { IfOk result (λ o. IfNone o (AreSound (held store.now) → ⊥)) }
 {
-    read_world(alloc, store.rows())
+    let mut programs = nothing_kept(alloc);
+    let world = read_world(alloc, &mut programs, store.rows());
+    discard_kept(programs);
+    world
 }
 
 /// A store is opened where its registers stand for a World.
@@ -39,15 +43,12 @@ impl Judge for Worlds {
     }
 }
 
-/// The World that a store holds.
-pub fn world_in(alloc: Global, store: &Store) -> Result<World, AllocError>
+/// The World that a store holds. The code of a contract is checked where its program isn't kept; then it is.
+pub fn world_in(alloc: Global, programs: &mut Programs, store: &Store) -> Result<World, AllocError>
     requires { AreSound (held store.now) }
     ensures { IfOk result (λ world. StandsFor (held store.now) (world_of world)) }
 {
-    match read(alloc, store)? {
-        Some(world) => Ok(world),
-        None => Err(AllocError),
-    }
+    known_world(alloc, programs, store.rows())
 }
 
 // The registers of a World, which is let go.
@@ -60,12 +61,12 @@ fn written(alloc: Global, world: World) -> Result<Vec<Row>, AllocError>
 }
 
 // The registers of what a run left. AllocError where they stand for no sound World.
-fn rows_of(alloc: Global, world: World) -> Result<Vec<Row>, AllocError>
+fn rows_of(alloc: Global, programs: &mut Programs, world: World) -> Result<Vec<Row>, AllocError>
     ensures rising { IfOk result (λ rows. are_rising rows.items ≡ true) }
     ensures becomes { IfOk result (λ rows. (u : definition.World) × StandsFor (at rows.items) u × Becomes (world_of world) u) }
 {
     let rows = written(alloc, world)?;
-    match read_world(alloc, rows.as_slice())? {
+    match read_world(alloc, programs, rows.as_slice())? {
         Some(sound) => {
             discard_world(sound);
             Ok(rows)
@@ -76,9 +77,14 @@ fn rows_of(alloc: Global, world: World) -> Result<Vec<Row>, AllocError>
 
 /// What leads from a store's registers to those of what a run left. AllocError too where these stand for no sound World: no run
 /// is known to leave such registers, but where a value has bytes that another has too.
-pub fn changes_to(alloc: Global, store: &Store, world: World) -> Result<Changes, AllocError>
+pub fn changes_to(
+    alloc: Global,
+    programs: &mut Programs,
+    store: &Store,
+    world: World,
+) -> Result<Changes, AllocError>
     ensures { IfOk result (λ changes. LeadsOn (held store.now) (world_of world) changes) }
 {
-    let rows = rows_of(alloc, world)?;
+    let rows = rows_of(alloc, programs, world)?;
     changes(alloc, store.rows(), rows)
 }

@@ -95,10 +95,20 @@ module _ (made : Parts) (given : List held.Source) (same : given ≡ made.source
     found rows (Ok None) many h = tt
     found rows (Err x) many h = tt
 
-    -- and a World of which registers made this is found
+    -- they are those of a World of which registers made this
+    all_known : (v : World) → OneLoading → parts_of made ≡ draft_of v → IsSound v → world_from (parts_of made) (views.programs_of programs) ≡ v
+    all_known v one is sound =
+        let programs_are = known one (parts_of made).sources (views.programs_of programs) v (ap (λ (d : Draft). d.sources) is) loads.0 loads.1 sound.1 in
+        (λ i. world_from (is i) (programs_are i)) ∙ world_again v sound.0
+
+    -- which is found
     pub only : {E : Type 0} (rows : List row.Row) (r : Result (Option own.World) E) (v : World) → OneLoading → parts_of made ≡ draft_of v → IsSound v → Stands rows v
         → (Stands rows (world_from (parts_of made) (views.programs_of programs)) → IfOk r (λ o. option_map world_of o ≡ Some (world_from (parts_of made) (views.programs_of programs)))) → IfOk r (λ o. option_map world_of o ≡ Some v)
     only rows r v one is sound st kept =
-        let programs_are = known one (parts_of made).sources (views.programs_of programs) v (ap (λ (d : Draft). d.sources) is) loads.0 loads.1 sound.1 in
-        let all : world_from (parts_of made) (views.programs_of programs) ≡ v = (λ i. world_from (is i) (programs_are i)) ∙ world_again v sound.0 in
+        let all = all_known v one is sound in
         subst (λ (w : World). IfOk r (λ o. option_map world_of o ≡ Some w)) all (kept (subst (Stands rows) (sym all) st))
+
+    -- and made again
+    pub again : {E : Type 0} (r : Result own.World E) (v : World) → OneLoading → parts_of made ≡ draft_of v → IsSound v
+        → IfOk r (λ w. world_of w ≡ world_from (parts_of made) (views.programs_of programs)) → IfOk r (λ w. world_of w ≡ v)
+    again r v one is sound h = subst (λ (u : World). IfOk r (λ w. world_of w ≡ u)) (all_known v one is sound) h

@@ -75,6 +75,13 @@ pub only : {E : Type 0} (rows : List Row) (made : Parts) (v : s.World) (r : Resu
     → ((u : s.World) → parts_of made ≡ draft_of u → IsSound u → Stands rows u → IfOk r (λ o. option_map world_of o ≡ Some u)) → are_rising rows ≡ true → StandsFor (at rows) v → IfOk r (λ o. option_map world_of o ≡ Some v)
 only rows made v r is kept a st = kept v (some_is (parts_of made) (draft_of v) (sym is ∙ made_there rows v a st)) st.sound (stands_there rows v a st)
 
+-- where it is known that they stand for a World, they stand for what is made of them
+pub known : {E : Type 0} (rows : List Row) (made : Parts) (v : s.World) (r : Result World E) → all_made (map register_of rows) empty_draft ≡ Some (parts_of made)
+    → are_rising rows ≡ true → StandsFor (at rows) v → ((u : s.World) → parts_of made ≡ draft_of u → IsSound u → IfOk r (λ w. world_of w ≡ u)) → IfOk r (λ w. StandsFor (at rows) (world_of w))
+known rows made v (Ok w) is a st again =
+    subst (StandsFor (at rows)) (sym (again v (some_is (parts_of made) (draft_of v) (sym is ∙ made_there rows v a st)) st.sound)) st
+known rows made v (Err e) is a st again = tt
+
 pub none_made : (rows : List Row) (v : s.World) (e : DecodeError) → e ≡ Damaged → GivesAs parts_of (Err e) (all_made (map register_of rows) empty_draft) → are_rising rows ≡ true → StandsFor (at rows) v → ⊥
 none_made rows v e is gives a st =
     let none : all_made (map register_of rows) empty_draft ≡ None = subst (λ (x : DecodeError). GivesAs parts_of (Err x) (all_made (map register_of rows) empty_draft)) is gives in

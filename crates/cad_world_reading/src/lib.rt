@@ -11,4 +11,4 @@ mod reading;
 mod saying;
 
 pub use laws::one_world;
-pub use reading::read_world;
+pub use reading::{known_world, read_world};

@@ -15,7 +15,7 @@ use crate::parts::{Parts, discard_parts};
 use cad_accounts::Row;
 use cad_codec::DecodeError;
 use cad_declarations::Checked;
-use cad_loading::{load, one_loading};
+use cad_loading::{Programs, load_kept, one_loading};
 use cad_worlds::{World, discard_world};
 use std::alloc::{AllocError, Global};
 use std::rc::Rc;
@@ -64,7 +64,12 @@ fn are_as_many(parts: &Parts) -> bool
 }
 
 /// The World of what registers made, where its contracts were deployed one after another, and rows stand for it.
-fn loaded(alloc: Global, parts: Parts, rows: &[Row]) -> Result<Option<World>, AllocError>
+fn loaded(
+    alloc: Global,
+    known: &mut Programs,
+    parts: Parts,
+    rows: &[Row],
+) -> Result<Option<World>, AllocError>
     ensures found { IfOk result (λ o. IfSome o (λ w. Stands rows.now (world_of w) × Loads (map loaded_of (world_of w).contracts))) }
     ensures only { (v : s.World) → parts_of parts ≡ items.draft_of v → IsSound v → Stands rows.now v → IfOk result (λ o. option_map world_of o ≡ Some v) }
 {
@@ -73,7 +78,7 @@ fn loaded(alloc: Global, parts: Parts, rows: &[Row]) -> Result<Option<World>, Al
         discard_parts(parts);
         return Ok(None);
     }
-    match load(alloc, parts.sources.as_slice()) {
+    match load_kept(alloc, known, parts.sources.as_slice()) {
         Ok(Some(programs)) => with_programs(alloc, parts, programs, rows),
         Ok(None) => {
             discard_parts(parts);
@@ -86,10 +91,15 @@ fn loaded(alloc: Global, parts: Parts, rows: &[Row]) -> Result<Option<World>, Al
     }
 }
 
-/// The World for which rows stand; None where they stand for none. Its contracts are read and checked again, one after another.
+/// The World for which rows stand; None where they stand for none. Its contracts are read and checked again, one after another,
+/// where their programs aren't kept; then they are (`load_kept`).
 /// AllocError where memory runs out; also where the contracts declare two fields of a type by one name, or lack an interface of an interface
 /// that a type has: of contracts that were accepted one beside the other neither is so, which isn't proved here.
-pub fn read_world(alloc: Global, rows: &[Row]) -> Result<Option<World>, AllocError>
+pub fn read_world(
+    alloc: Global,
+    known: &mut Programs,
+    rows: &[Row],
+) -> Result<Option<World>, AllocError>
     // Where a World is read, the rows are in byte order of their keys.
     ensures rising { IfOk result (λ o. IfSome o (λ _. are_rising rows.now ≡ true)) }
 
@@ -100,8 +110,43 @@ pub fn read_world(alloc: Global, rows: &[Row]) -> Result<Option<World>, AllocErr
     ensures only { are_rising rows.now ≡ true → (v : s.World) → StandsFor (at rows.now) v → IfOk result (λ o. option_map world_of o ≡ Some v) }
 {
     match make(alloc, rows) {
-        Ok(parts) => loaded(alloc, parts, rows),
+        Ok(parts) => loaded(alloc, known, parts, rows),
         Err(DecodeError::Damaged) => Ok(None),
         Err(DecodeError::Memory) => Err(AllocError),
+    }
+}
+
+/// The World of which registers made this. AllocError also where there is none.
+fn made_of(alloc: Global, known: &mut Programs, parts: Parts) -> Result<World, AllocError>
+    ensures { (v : s.World) → parts_of parts ≡ items.draft_of v → IsSound v → IfOk result (λ w. world_of w ≡ v) }
+{
+    one_loading();
+    if !are_as_many(&parts) {
+        discard_parts(parts);
+        return Err(AllocError);
+    }
+    match load_kept(alloc, known, parts.sources.as_slice()) {
+        Ok(Some(programs)) => world_from(alloc, parts, programs),
+        Ok(None) => {
+            discard_parts(parts);
+            Err(AllocError)
+        }
+        Err(error) => {
+            discard_parts(parts);
+            Err(error)
+        }
+    }
+}
+
+/// The World for which rows stand, of which it is known that they stand for one: what was read isn't written and tested again.
+/// A contract is checked again where its program isn't kept; then it is (`load_kept`).
+pub fn known_world(alloc: Global, known: &mut Programs, rows: &[Row]) -> Result<World, AllocError>
+    requires rising { are_rising rows.now ≡ true }
+    requires stands { (v : s.World) × StandsFor (at rows.now) v }
+    ensures { IfOk result (λ w. StandsFor (at rows.now) (world_of w)) }
+{
+    match make(alloc, rows) {
+        Ok(parts) => made_of(alloc, known, parts),
+        Err(_) => Err(AllocError),
     }
 }

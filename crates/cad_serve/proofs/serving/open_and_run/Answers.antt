@@ -11,18 +11,18 @@ use Rattle.cad_serve.proofs.serving.open_and_run.Goals as goal
 pub returns-in-Ok-clause-ends : goal.returns-in-Ok-clause-ends
 returns-in-Ok-clause-ends g c = λ tell w disk.
     let stands = store_stands (g.H.Host.trace c.args.host.now) c.in-Ok.store w (c.in-Ok.ensures.holds tell) disk in
-    inr (ends_from c.run.result w (g.H.Host.left c.args.host.now) (g.H.Host.left c.open.new.host) (g.H.Host.left c.run.new.host) (opened (g.H.Host.trace c.args.host.now)) (g.H.Host.trace c.open.new.host) (g.H.Host.trace c.run.new.host)
-    (c.open.ensures.stays tell) (c.in-Ok.ensures.story tell) (c.run.ensures.ends tell w stands))
+    inr (ends_from c.run-status.result w (g.H.Host.left c.args.host.now) (g.H.Host.left c.open.new.host) (g.H.Host.left c.run-status.new.host) (opened (g.H.Host.trace c.args.host.now)) (g.H.Host.trace c.open.new.host) (g.H.Host.trace c.run-status.new.host)
+    (c.open.ensures.stays tell) (c.in-Ok.ensures.story tell) (c.run-status.ensures.ends tell w stands))
 
 pub returns-in-Ok-clause-survives : goal.returns-in-Ok-clause-survives
 returns-in-Ok-clause-survives g c = λ tell w disk.
     let stands = store_stands (g.H.Host.trace c.args.host.now) c.in-Ok.store w (c.in-Ok.ensures.holds tell) disk in
-    survives_from w (commands (g.H.Host.left c.args.host.now)) (g.H.Host.trace c.args.host.now) (g.H.Host.trace c.open.new.host) (g.H.Host.trace c.run.new.host) (c.in-Ok.ensures.story tell) (c.open.ensures.moments tell)
-    (ends_from c.run.result w (g.H.Host.left c.args.host.now) (g.H.Host.left c.open.new.host) (g.H.Host.left c.run.new.host) (opened (g.H.Host.trace c.args.host.now)) (g.H.Host.trace c.open.new.host) (g.H.Host.trace c.run.new.host)
-    (c.open.ensures.stays tell) (c.in-Ok.ensures.story tell) (c.run.ensures.ends tell w stands)).survives
+    survives_from w (commands (g.H.Host.left c.args.host.now)) (g.H.Host.trace c.args.host.now) (g.H.Host.trace c.open.new.host) (g.H.Host.trace c.run-status.new.host) (c.in-Ok.ensures.story tell) (c.open.ensures.moments tell)
+    (ends_from c.run-status.result w (g.H.Host.left c.args.host.now) (g.H.Host.left c.open.new.host) (g.H.Host.left c.run-status.new.host) (opened (g.H.Host.trace c.args.host.now)) (g.H.Host.trace c.open.new.host) (g.H.Host.trace c.run-status.new.host)
+    (c.open.ensures.stays tell) (c.in-Ok.ensures.story tell) (c.run-status.ensures.ends tell w stands)).survives
 
 pub returns-in-Ok-clause-bad : goal.returns-in-Ok-clause-bad
-returns-in-Ok-clause-bad g c = λ tell is. absurd (no_bad_store c.run.result _ _ _ _ _ _ c.run.ensures.cause is)
+returns-in-Ok-clause-bad g c = λ tell is. absurd (no_bad_store c.run-status.result _ _ _ _ _ _ c.run-status.ensures.cause is)
 
 pub returns-in-Ok-clause-opened : goal.returns-in-Ok-clause-opened
 returns-in-Ok-clause-opened g c = λ tell ran. (c.in-Ok.ensures.accepted.0, record { map = _; holds = c.in-Ok.ensures.holds tell; stands = c.in-Ok.ensures.accepted.1 })
@@ -32,10 +32,10 @@ returns-in-Ok-clause-unopened g c = λ tell none.
     absurd (none c.in-Ok.ensures.accepted.0 (record { map = _; holds = c.in-Ok.ensures.holds tell; stands = c.in-Ok.ensures.accepted.1 }))
 
 pub returns-in-Ok-clause-run : goal.returns-in-Ok-clause-run
-returns-in-Ok-clause-run g c = no_usage c.run.result _ _ _ _ _ _ c.run.ensures.cause
+returns-in-Ok-clause-run g c = no_usage c.run-status.result _ _ _ _ _ _ c.run-status.ensures.cause
 
 pub returns-in-Ok-clause-cause : goal.returns-in-Ok-clause-cause
-returns-in-Ok-clause-cause g c = run_cause c.run.result _ _ _ _ _ _ _ _ _ c.open.ensures.input c.open.ensures.output c.in-Ok.ensures.cause c.run.ensures.cause
+returns-in-Ok-clause-cause g c = run_cause c.run-status.result _ _ _ _ _ _ _ _ _ c.open.ensures.input c.open.ensures.output c.in-Ok.ensures.cause c.run-status.ensures.cause
 
 pub returns-in-Err-clause-ends : goal.returns-in-Err-clause-ends
 returns-in-Err-clause-ends g c = λ tell w disk.

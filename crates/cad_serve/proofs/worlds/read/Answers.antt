@@ -7,8 +7,8 @@ use Rattle.cad_serve.proofs.worlds.read.Goals as goal
 
 pub returns-clause-found : goal.returns-clause-found
 returns-clause-found c =
-    subst (λ (rows : List Row). IfOk c.read_world.result (λ o. IfSome o (λ x. StandsFor (at rows) (world_of x)))) c.rows.ensures.rows c.read_world.ensures.found
+    subst (λ (rows : List Row). IfOk c.read_world-world.result (λ o. IfSome o (λ x. StandsFor (at rows) (world_of x)))) c.rows.ensures.rows c.read_world-world.ensures.found
 
 pub returns-clause-none : goal.returns-clause-none
 returns-clause-none c =
-    read_none c.read_world.result (λ v stands. c.read_world.ensures.only c.rows.ensures.rising v (subst (λ (rows : List Row). StandsFor (at rows) v) (sym c.rows.ensures.rows) stands))
+    read_none c.read_world-world.result (λ v stands. c.read_world-world.ensures.only c.rows.ensures.rising v (subst (λ (rows : List Row). StandsFor (at rows) v) (sym c.rows.ensures.rows) stands))

@@ -1,6 +1,6 @@
 use Rattle.std.proofs.lemmas.Result.{IfOk-weaker}
 use Rattle.cad_world.specs.Begin.{empty_world}
-use Rattle.cad_serve.proofs.generating.counts_line.Goals as goal
+use Rattle.cad_serve.proofs.generating.session_line.Goals as goal
 
 pub add_all-requires-clause-sound : goal.add_all-requires-clause-sound
 add_all-requires-clause-sound c = (empty_world, c.in_ok-store.ensures.stands)

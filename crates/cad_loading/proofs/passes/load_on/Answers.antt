@@ -4,13 +4,8 @@ use Rattle.cad_loading.specs.Slots.{gathered}
 use Rattle.cad_loading.specs.Views.{programs_of, slots_of, source_of}
 use Rattle.cad_tables.specs.Views.{contracts_of}
 use Rattle.cad_loading.proofs.Settled.{settled}
-use Rattle.cad_loading.proofs.Turns.{begins}
 use Rattle.cad_loading.proofs.Verdicts.{loading_told}
-use Rattle.cad_loading.proofs.passes.load.Goals as goal
-
-pub settle-requires : goal.settle-requires
-settle-requires c =
-    begins source_of c.args.sources.now (slots_of c.in_ok-state.state.slots) (contracts_of c.in_ok-state.state.deployed) c.in_ok-state.ensures.slots c.in_ok-state.ensures.deployed
+use Rattle.cad_loading.proofs.passes.load_on.Goals as goal
 
 pub returns-in-Ok : goal.returns-in-Ok
 returns-in-Ok c =
