@@ -16,6 +16,7 @@ Where file systems can't be mounted it says so and ends with status 0.
 import argparse
 import collections
 import contextlib
+import itertools
 import pathlib
 import random
 import shutil
@@ -28,9 +29,9 @@ from crashes import ACCOUNTS, TOKENS, Wrong, difference, hold
 
 PAGE = 4096
 PAGES = 16
-# The pages that are taken, and how many commands fill one of the others for sure.
-ACCOUNT_DISKS = (16, 15, 15, 15, 14, 14, 14, 13, 12, 12, 10, 8, 4, 0), 120
-TOKEN_DISKS = (16, 15, 14, 14, 14, 14, 14, 13, 13, 13, 12, 12, 11, 8, 2), 130
+# The pages that are taken; how many accounts are made first, in turn; and how many commands fill one of the other pages for sure.
+ACCOUNT_DISKS = (16, 15, 15, 15, 14, 14, 14, 13, 12, 12, 10, 8, 4, 0), (0,), 120
+TOKEN_DISKS = (16, 15, 14, 14, 14, 14, 14, 13, 13, 13, 12, 12, 11, 8, 2), (0, 30, 55, 57, 60), 130
 
 
 @contextlib.contextmanager
@@ -90,14 +91,14 @@ def opens_elsewhere(program, folder, base, world, accounts, chance):
     hold(model.registers_in(copy) == states[-1].registers(), "with more room the accounts are others")
 
 
-def one_disk(program, base, world, taken, room, chance):
-    """A disk with so many pages taken by another file. Answers how many commands were acknowledged, and what the next one is.
-    The first commands on tokens make accounts, so that one of each kind meets the end of some disk."""
+def one_disk(program, base, world, taken, first, room, chance):
+    """A disk with so many pages taken by another file. The first commands make so many accounts, so that of a token each kind of
+    command meets the end of some disk. Answers how many commands were acknowledged, and what the next one is."""
     with small_disk(base, f"size={PAGES * PAGE}") as folder:
         (folder / "other").write_bytes(b"x" * taken * PAGE)
-        commands = [("account",)] * chance.choice([0, 30, 55, 60] if world is TOKENS else [0])
-        first = model.replies_to(commands, world.begin)[1][-1]
-        commands += world.writer(chance).commands(first, 40 + room * (PAGES - taken))
+        commands = [("account",)] * first
+        there = model.replies_to(commands, world.begin)[1][-1]
+        commands += world.writer(chance).commands(there, 40 + room * (PAGES - taken))
         accounts, told = fill(program, folder, world, commands)
         still_answers(program, folder, world, accounts)
         opens_elsewhere(program, folder, base, world, accounts, chance)
@@ -117,9 +118,10 @@ def all_disks(options, base):
     """How many disks there were, how many commands were acknowledged on them, and at which commands they were full."""
     chance, told, ends = random.Random(options.seed), [], collections.Counter()
     no_files_left(options.program, base, chance)
-    for world, (all_taken, room) in ((ACCOUNTS, ACCOUNT_DISKS), (TOKENS, TOKEN_DISKS)):
+    for world, (all_taken, firsts, room) in ((ACCOUNTS, ACCOUNT_DISKS), (TOKENS, TOKEN_DISKS)):
         all_taken = [*range(PAGES, 0, -1)] * 20 if options.long else all_taken
-        ended = [one_disk(options.program, base, world, taken, room, chance) for taken in all_taken]
+        disks = zip(all_taken, itertools.cycle(firsts))
+        ended = [one_disk(options.program, base, world, taken, first, room, chance) for taken, first in disks]
         told.append(sum(one for one, _ in ended))
         ends.update(end for _, end in ended)
     return 3 + ends.total(), told, ", ".join(f"{end} {count}" for end, count in sorted(ends.items()))
