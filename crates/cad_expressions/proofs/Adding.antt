@@ -25,10 +25,11 @@ use Rattle.cad_syntax.specs.declared.address.Address.{Address}
 use Rattle.cad_syntax.specs.declared.type_id.TypeId.{TypeId}
 use Rattle.cad_syntax.specs.declared.types.Basic.{Basic}
 use Rattle.cad_world.specs.Declared.{bodies_of}
+use Rattle.cad_world.specs.Fronts.{Verdict, accepted, refused, unknown, judged}
 use Rattle.cad_world.specs.Labels.{account_at}
 use Rattle.cad_world.specs.Receivers.{Receiver, look_at}
 use Rattle.cad_world.specs.Rows.{Row, Tree, back}
-use Rattle.cad_world.specs.State.{Contract, Program, State, Outcome, ok, failed, limit, ill, bind, Action, ◌>>=◌, ◌>>◌, give, guard, require, with_some, or_fail}
+use Rattle.cad_world.specs.State.{Contract, Program, State, Outcome, ok, failed, limit, ill, bind, Action, ◌>>=◌, ◌>>◌, give, guard, require, with_some}
 
 -- ---- steps that come to the same
 
@@ -50,9 +51,10 @@ some_alike : {A B : Type 0} (o : Option A) (f g : A → Action B) (s : State) �
 some_alike (Some a) f g s h = h a
 some_alike None f g s h = refl
 
-or_alike : {A B : Type 0} (e : ℕ) (o : Option A) (f g : A → Action B) (s : State) → ((a : A) → f a s ≡ g a s) → or_fail e o f s ≡ or_fail e o g s
-or_alike e (Some a) f g s h = h a
-or_alike e None f g s h = refl
+judged_alike : {A : Type 0} (e : ℕ) (v : Verdict) (f g : Program → Action A) (s : State) → ((p : Program) → f p s ≡ g p s) → judged e v f s ≡ judged e v g s
+judged_alike e (accepted p) f g s h = h p
+judged_alike e refused f g s h = refl
+judged_alike e unknown f g s h = refl
 
 -- ---- initializers run from default arguments of events as from anywhere else
 
@@ -75,9 +77,9 @@ program_alike calls id code r p s =
 
 contract_alike : (front : Front) (calls : Calls) (id : TypeId) (code : List ℕ) (r : Row) (s : State) → add_contract front (destroying_nothing calls) id code r s ≡ add_contract front calls id code r s
 contract_alike front calls id code r s =
-    require_alike 118 (not (is_taken s.contracts id)) (or_fail 119 (front (standing s.contracts) id.address code) (install_program (destroying_nothing calls) id code r))
-    (or_fail 119 (front (standing s.contracts) id.address code) (install_program calls id code r)) s
-    (or_alike 119 (front (standing s.contracts) id.address code) (install_program (destroying_nothing calls) id code r) (install_program calls id code r) s (λ p. program_alike calls id code r p s))
+    require_alike 118 (not (is_taken s.contracts id)) (judged 119 (front (standing s.contracts) id.address code) (install_program (destroying_nothing calls) id code r))
+    (judged 119 (front (standing s.contracts) id.address code) (install_program calls id code r)) s
+    (judged_alike 119 (front (standing s.contracts) id.address code) (install_program (destroying_nothing calls) id code r) (install_program calls id code r) s (λ p. program_alike calls id code r p s))
 
 add_alike : (front : Front) (calls : Calls) (r : Row) (a : Address) (s : State) → add front (destroying_nothing calls) r a s ≡ add front calls r a s
 add_alike front calls r a s =
