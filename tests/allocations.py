@@ -3,21 +3,22 @@
 
 A small library in C, built here by `cc`, stands between the program and the C library: the call of number N fails. The runs
 are two sessions on accounts, one after the other on one folder: they make accounts, save, load, fail, run scripts and read
-programs. Each call of each session fails in a run of its own. Then
+programs; and two on a token (tokens.py), the second of which opens a folder with a contract: they deploy it, save, publish and
+destroy vaults, and transfer, also what fails. Each call of each session fails in a run of its own. Then
 - the status is that of what failed: 6 for an allocation; 3 for the input, 4 for the output, 5 for the folder and its files
   (or 0 with all replies, where memory was only asked for ahead, or a call that a signal cut short was made again);
 - the replies are the first of the right ones, and the last is whole, unless the output failed;
 - the folder holds the accounts after the commands that were replied to. Where a file failed, one command more may be there;
   where the output failed, the command is there whose reply broke;
-- the next run on the folder finds them.
+- the next run on the folder finds them: of a token each balance and each identity.
 
-A third session adds contracts (examples/factory): each allocation fails, and a next run gives the replies that are left.
+A fifth session adds contracts (examples/factory): each allocation fails, and a next run gives the replies that are left.
 
 In other runs all calls from one on fail; reads and writes move one byte of several; and signals cut them short.
 Where there is no `cc` it says so and ends with status 0.
 
     tests/allocations.py PROGRAM            half a minute: some calls of each kind
-    tests/allocations.py PROGRAM --long     some minutes: every call
+    tests/allocations.py PROGRAM --long     much longer: every call, and of sessions with contracts some ten thousand allocations
 """
 import argparse
 import errno
@@ -30,7 +31,7 @@ import sys
 import tempfile
 
 import model
-from crashes import Wrong, hold
+from crashes import ACCOUNTS, TOKENS, Wrong, hold
 
 LIBRARY = r"""
 #define _GNU_SOURCE
@@ -130,6 +131,7 @@ int statx(int folder, const char *restrict path, int flags, unsigned mask, struc
 
 ALLOCATIONS, CALLS, SHORT, TORN = 1, 2, 3, 4
 ALL = 10**9
+EACH = 200  # in the long form so many times as many calls fail, or all
 PROGRAMS = (
     (b'{"kind":"script","code":"access(all) fun main() { # }"}', b'{"at":"25","in":"","phase":"lex","reply":"rejected"}\n'),
     (b'{"kind":"script","code":"import A from 0x1\\naccess(all) fun main() { return a b }"}',
@@ -162,14 +164,44 @@ SECOND = [
     ("save", 2, "a_longer_name_of_a_path", [[1]], "w"),
     ("save", 3, None, [[3, 3, 3], [3, 3], [3]], "x"),
 ]
+FIRST_TOKENS = [
+    ("account",),
+    ("setup", 1),  # there is no token yet
+    ("deploy",),
+    ("account",),
+    ("setup", 2),
+    ("transfer", 1, 2, 5),  # nothing is published
+    ("publish", 1),
+    ("publish", 2),
+    ("transfer", 1, 2, 30 * 10**8),
+    ("transfer", 2, 1, 30 * 10**8 + 1),  # too much
+    ("balances", 3),
+    ("deploy",),
+    ("transfer", 2, 2, 1),
+]
+SECOND_TOKENS = [
+    ("transfer", 2, 1, 7),
+    ("publish", 2),
+    ("unpublish", 1),
+    ("account",),
+    ("identities", 3),
+    ("setup", 3),
+    ("publish", 3),
+    ("transfer", 1, 3, 0),
+    ("setup", 1),
+    ("close", 2),
+    ("transfer", 1, 2, 1),
+    ("publish", 1),
+]
 
 
 class Session:
     """Lines, the reply to each, and the accounts before the first and after each."""
 
-    def __init__(self, accounts, commands, programs):
+    def __init__(self, world, accounts, commands, programs=()):
+        self.world = world
         self.replies, self.states = model.replies_to(commands, accounts)
-        self.lines = [model.line_of(command) for command in commands]
+        self.lines = [world.line_of(command) for command in commands]
         for line, reply in programs:
             self.lines.append(line + b"\n")
             self.replies.append(reply)
@@ -225,17 +257,18 @@ class Tries:
 
     def numbers(self, count, most):
         """Of the calls from 1 to a number the first and a spread, or all."""
-        if self.long or count <= most:
+        most = EACH * most if self.long else most
+        if count <= most:
             return range(1, count + 1)
         return sorted({*range(1, most // 3), count, *self.chance.sample(range(1, count + 1), most)})
 
-    def next_run(self, what, folder, accounts):
+    def next_run(self, what, folder, world, accounts):
         """The next run on the folder finds these accounts."""
-        commands = model.questions(accounts) + [("account",)]
+        commands = world.questions(accounts) + [("account",)]
         replies, states = model.replies_to(commands, accounts)
-        done = model.run(self.program, folder, b"".join(map(model.line_of, commands)))
+        done = model.run(self.program, folder, world.lines_of(commands))
         hold((done.returncode, done.stdout) == (0, b"".join(replies)), what, "the next run gives", done.returncode, done.stdout)
-        hold(model.accounts_in(folder) == states[-1], what, "the next run leaves other accounts")
+        hold(model.registers_in(folder) == states[-1].registers(), what, "the next run leaves other accounts")
 
 
 # Where the input stands is asked once, and it is read on whatever the answer is.
@@ -258,19 +291,19 @@ def look(tries, about, session, ran, folder):
     hold(ran.status == status, about, "the status is", ran.status, "after", told, "replies")
     hold(ran.error in (LINES[status], b""), about, "standard error has", ran.error)
     hold(part == 0 or status == 4, about, "a reply is cut:", ran.out[-part:])
-    accounts = model.accounts_in(folder)
     may = [session.after(told + (status == 4))] + [session.after(told + 1)] * (status == 5)
-    hold(accounts in may, about, "after", told, "replies the accounts are others")
+    accounts = model.found(model.registers_in(folder), may)
+    hold(accounts, about, "after", told, "replies the accounts are others")
     if status == 3:
         ended = b"".join(session.lines)[:taken].count(b"\n")
         hold(ran.out == b"".join(session.replies[:ended]), about, ended, "lines were taken, and the replies are", ran.out)
-    tries.next_run(about, folder, accounts)
+    tries.next_run(about, folder, session.world, accounts)
 
 
 def is_whole(about, session, ran, folder):
     hold((ran.status, ran.error) == (0, b""), about, "the status is", ran.status, ran.error)
     hold(ran.out == b"".join(session.replies), about, "the replies are", ran.out)
-    hold(model.accounts_in(folder) == session.states[-1], about, "the accounts are others")
+    hold(model.registers_in(folder) == session.states[-1].registers(), about, "the accounts are others")
 
 
 def one_run(tries, about, session, before, kind, number, last, **more):
@@ -348,12 +381,17 @@ def additions(tries, empty):
 def all_runs(tries):
     empty = tries.base / "empty"
     empty.mkdir()
-    first = Session(model.Accounts(), FIRST, PROGRAMS)
-    second = Session(first.states[-1], SECOND, PROGRAMS[:3])
+    first = Session(ACCOUNTS, model.Accounts(), FIRST, PROGRAMS)
+    second = Session(ACCOUNTS, first.states[-1], SECOND, PROGRAMS[:3])
     filled = each_fails(tries, "the first session", first, empty)
     each_fails(tries, "the second session", second, filled)
-    in_pieces(tries, "the first session", Session(model.Accounts(), FIRST, PROGRAMS[:-1]), empty)
+    in_pieces(tries, "the first session", Session(ACCOUNTS, model.Accounts(), FIRST, PROGRAMS[:-1]), empty)
     in_pieces(tries, "the second session", second, filled)
+    first = Session(TOKENS, TOKENS.begin, FIRST_TOKENS)
+    second = Session(TOKENS, first.states[-1], SECOND_TOKENS)
+    filled = each_fails(tries, "the token's first session", first, empty)
+    each_fails(tries, "the token's second session", second, filled)
+    in_pieces(tries, "the token's second session", second, filled)
     additions(tries, empty)
 
 

@@ -1,13 +1,16 @@
 #!/usr/bin/env python3
 """Ends the program at random moments, and shows that what it acknowledged is there afterwards, and nothing else.
 
-For the real files, which no contract reaches. Each run gets questions on the accounts that are there and a stream of new
-commands, and is ended by SIGKILL after a random number of replies and a random time. Then
+For the real files, which no contract reaches. Each run gets questions on what is there and a stream of new commands, and is
+ended by SIGKILL after a random number of replies and a random time. On every other folder these are commands on accounts with
+numbers (model.py), and on the others those of a token (tokens.py): deploys, vaults that are saved, published and destroyed, and
+transfers, of which some fail. What the replies and the registers have to be is computed there, and never asked of the program. Then
 - each reply was the right one, in order;
-- the tapes, read here, stand for the accounts after the commands that were replied to, or after one more;
+- the registers of the tapes, read here, are those after the commands that were replied to, or after one more;
 - a copy of the files, with the tape's end behind the last acknowledged record cut, or made noise, is refused (status 7)
   where it isn't whole, and else the program answers each question on it by those accounts;
-- the next run opens the files, and its replies to the questions are right.
+- the next run opens the files, and its replies to the questions are right: of a token's session they tell the balance and the
+  identity of each vault, through what its account publishes.
 
 SIGKILL leaves what the system holds of the files. What a crash of the machine leaves is proved of the hosts in memory.
 
@@ -22,8 +25,10 @@ import subprocess
 import sys
 import tempfile
 import time
+import typing
 
 import model
+import tokens
 
 STREAM = 10, 60  # new commands a run: on a slow disk, and on a quick one
 ROUND = 20  # runs on one folder
@@ -36,6 +41,13 @@ class Wrong(Exception):
 def hold(fact, *what):
     if not fact:
         raise Wrong(" ".join(map(str, what)))
+
+
+def difference(out, replies):
+    """The first line of an output that isn't the right one, and the right one."""
+    lines = out.splitlines(True)
+    at = next((at for at, line in enumerate(lines) if replies[at : at + 1] != [line]), len(lines))
+    return f"line {at} is", *lines[at : at + 1], "in the place of", *replies[at : at + 1]
 
 
 class Writer:
@@ -74,6 +86,26 @@ class Writer:
         return made
 
 
+class World(typing.NamedTuple):
+    """What a session is over: how it begins, who makes its commands, their lines, and the questions on what there is."""
+
+    begin: object
+    writer: type
+    line_of: typing.Callable
+    questions: typing.Callable
+    ready: tuple = ()  # commands, and one behind them that takes as long as most do
+    steady: tuple = ("account",)
+
+    def lines_of(self, commands):
+        return b"".join(map(self.line_of, commands))
+
+
+ACCOUNTS = World(model.Accounts(), Writer, model.line_of, model.questions)
+TOKENS = World(
+    tokens.Tokens(), tokens.Writer, tokens.line_of, tokens.questions, (("account",), ("deploy",), ("publish", 1)), ("transfer", 1, 1, 1)
+)
+
+
 def read_replies(process, wanted):
     """The output up to so many lines, or up to its end."""
     out = b""
@@ -103,14 +135,14 @@ def killed_run(program, folder, lines, wanted, pause):
     return out, process.wait()
 
 
-def pace_of(program, base):
+def pace_of(program, base, world):
     """How many seconds the program takes to its first reply, and how many a command that it writes takes."""
-    folder = base / "pace"
-    folder.mkdir()
+    folder = pathlib.Path(tempfile.mkdtemp(dir=base))
+    model.run(program, folder, world.lines_of(world.ready))
     start = time.monotonic()
     model.run(program, folder, b"")
     begun = time.monotonic()
-    model.run(program, folder, model.line_of(("account",)) * 20)
+    model.run(program, folder, world.line_of(world.steady) * 20)
     ended = time.monotonic()
     return begun - start, max(0.0, ended - begun - (begun - start)) / 20
 
@@ -126,24 +158,22 @@ def records_by(states):
 class Folder:
     """A folder with accounts, over several runs."""
 
-    def __init__(self, options, base, number, pace, chance):
-        self.program, self.pace, self.chance = options.program, pace, chance
-        self.path, self.copy = base / ("folder%d" % number), base / ("copy%d" % number)
-        self.path.mkdir()
-        self.copy.mkdir()
-        self.writer, self.accounts, self.records = Writer(chance), model.Accounts(), 0
-        self.seen = {"killed": 0, "one more": 0, "part of a record": 0, "images refused": 0, "images opened": 0}
+    def __init__(self, options, base, world, pace, chance):
+        self.program, self.world, self.pace, self.chance = options.program, world, pace, chance
+        self.path, self.copy = (pathlib.Path(tempfile.mkdtemp(dir=base)) for _ in range(2))
+        self.writer, self.accounts, self.records = world.writer(chance), world.begin, 0
+        self.seen = dict.fromkeys(("killed", "acknowledged", "one more", "part of a record", "images refused", "images opened"), 0)
 
     def run(self):
         """One run that is ended, and what must hold then."""
-        questions = model.questions(self.accounts)
+        questions = self.world.questions(self.accounts)
         count = min(max(STREAM[0], int(0.01 / (self.pace[1] or 1))), STREAM[1])
         commands = questions + self.writer.commands(self.accounts, count)
         replies, states = model.replies_to(commands, self.accounts)
         wanted, pause = self.moment(len(questions), len(commands))
-        out, status = killed_run(self.program, self.path, b"".join(map(model.line_of, commands)), wanted, pause)
+        out, status = killed_run(self.program, self.path, self.world.lines_of(commands), wanted, pause)
         hold(status in (0, -9), "status", status)
-        hold(b"".join(replies).startswith(out), "wrong replies:", out, "in the place of", b"".join(replies))
+        hold(b"".join(replies).startswith(out), "wrong replies:", *difference(out, replies))
         hold(status or out == b"".join(replies), "replies are missing:", out)
         self.seen["killed"] += status == -9
         self.look(out, states, records_by(states))
@@ -159,14 +189,14 @@ class Folder:
         """The tapes stand for the accounts after what was replied to, or after one more."""
         told = out.count(b"\n") + (not out.endswith(b"\n") and out != b"")
         more = min(told + 1, len(states) - 1) if out.endswith(b"\n") or out == b"" else told
-        accounts = model.accounts_in(self.path)
-        hold(accounts in (states[told], states[more]), "after", told, "replies the accounts are others")
-        hold(accounts.registers() == model.registers_in(self.path), "the registers are others than those of the accounts")
+        accounts = model.found(model.registers_in(self.path), (states[told], states[more]))
+        hold(accounts, "after", told, "replies the accounts are others")
         one_more = accounts != states[told]
         tape = model.file_bytes(self.path, model.tape_in_use(self.path))
         places = model.records_in(tape)[1]
         acknowledged = self.records + written[told]
         hold(len(places) - 1 == acknowledged + one_more, len(places) - 1, "records, and", acknowledged, "were acknowledged")
+        self.seen["acknowledged"] += told
         self.seen["one more"] += one_more
         self.seen["part of a record"] += len(tape) > places[-1] + 1
         if acknowledged:
@@ -182,12 +212,12 @@ class Folder:
         for other in ("a", "b", "pick"):
             (self.copy / other).write_bytes(cut if other == name else model.file_bytes(self.path, other))
         try:
-            accounts = model.accounts_in(self.copy)
+            accounts = model.found(model.registers_in(self.copy), either)
         except model.Damaged:
             hold(cut[ending] == 1, "an image with a closed gate is damaged")
             self.refused(cut, name)
             return
-        hold(accounts in either, "an image stands for other accounts")
+        hold(accounts, "an image stands for other accounts")
         self.opened(accounts)
 
     def refused(self, cut, name):
@@ -197,26 +227,27 @@ class Folder:
         self.seen["images refused"] += 1
 
     def opened(self, accounts):
-        commands = model.questions(accounts) + [("account",)]
+        commands = self.world.questions(accounts) + [("account",)]
         replies, states = model.replies_to(commands, accounts)
-        done = model.run(self.program, self.copy, b"".join(map(model.line_of, commands)))
-        hold(done.returncode == 0 and done.stdout == b"".join(replies), "an image gave status", done.returncode, "and wrong replies")
-        hold(model.accounts_in(self.copy) == states[-1], "an image is wrong after a command")
+        done = model.run(self.program, self.copy, self.world.lines_of(commands))
+        hold(done.returncode == 0, "an image gave status", done.returncode)
+        hold(done.stdout == b"".join(replies), "an image gave wrong replies:", *difference(done.stdout, replies))
+        hold(model.registers_in(self.copy) == states[-1].registers(), "an image is wrong after a command")
         self.seen["images opened"] += 1
 
     def end(self):
         """One run that isn't ended: all is still there."""
-        commands = model.questions(self.accounts)
-        done = model.run(self.program, self.path, b"".join(map(model.line_of, commands)))
-        replies = b"".join(model.replies_to(commands, self.accounts)[0])
-        hold(done.returncode == 0 and done.stdout == replies, "the last run's replies are wrong")
+        commands = self.world.questions(self.accounts)
+        done = model.run(self.program, self.path, self.world.lines_of(commands))
+        replies = model.replies_to(commands, self.accounts)[0]
+        hold(done.returncode == 0 and done.stdout == b"".join(replies), "the last run's replies are wrong:", *difference(done.stdout, replies))
 
 
 def all_runs(options, base, seen):
-    pace = pace_of(options.program, base)
+    worlds = [(world, pace_of(options.program, base, world)) for world in (TOKENS, ACCOUNTS)]
     chance = random.Random(options.seed)
-    for begin in range(0, options.runs, ROUND):
-        folder = Folder(options, base, begin, pace, chance)
+    for number, begin in enumerate(range(0, options.runs, ROUND)):
+        folder = Folder(options, base, *worlds[number % 2], chance)
         for _ in range(min(ROUND, options.runs - begin)):
             folder.run()
         folder.end()

@@ -4,12 +4,13 @@
 Random bytes; request lines cut anywhere; lines of 1,048,576 bytes and of one more; deep JSON; NUL bytes; each control
 character; half surrogates; fields of every kind, order and number; programs at each bound on nesting, and as long as a line
 may be; words of every form; folders that aren't there or can't be written, and files that are none; streams that are closed,
-full, slow or fail; two runs one after another; and tapes that are cut, changed or made of noise. A run that takes a minute
-counts as one that hangs.
+full, slow or fail; two runs one after another; and tapes that are cut, changed or made of noise. Around contracts the same
+(contract_inputs.py): deploys that are cut, long, misnamed and of odd code, wrong arguments of initializers and transfers, and a
+token's session on odd streams. A run that takes a minute counts as one that hangs.
 
 Not tried: 2^40 bytes of input (status 8).
 
-    tests/inputs.py PROGRAM              some seconds
+    tests/inputs.py PROGRAM              half a minute
     tests/inputs.py PROGRAM --long       some minutes: more random bytes, every bit of a tape changed, every cut
 """
 import argparse
@@ -26,10 +27,11 @@ import subprocess
 import sys
 import tempfile
 
+import contract_inputs
 import model
 import nesting
 from crashes import Wrong, hold
-from model import STATUSES, bad, result
+from model import LIMIT, STATUSES, bad, rejected, result
 
 LONGEST = 1 << 20
 ACCOUNT = model.line_of(("account",))
@@ -37,9 +39,6 @@ SCRIPT = model.line_of(("script", [[1], [2, 3]]))
 SAVE = model.line_of(("save", 1, None, [[40], [2]], "x"))
 MOVE = model.line_of(("save", 1, "x", [[2], [1]], "y"))
 FIRST = b'{"address":"0x0000000000000001","reply":"ok"}\n'
-
-
-LIMIT = b'{"reply":"limit"}\n'
 
 
 class Tries:
@@ -67,10 +66,6 @@ class Tries:
         hold((done.stderr == b"") == (done.returncode == STATUSES["done"]), f"{what}: standard error has", done.stderr[:200])
         hold(replies is None or done.stdout == replies, f"{what}: the replies are", done.stdout[:400])
         return done
-
-
-def rejected(phase, at, inside=""):
-    return b'{"at":"%d","in":"%s","phase":"%s","reply":"rejected"}\n' % (at, inside.encode(), phase.encode())
 
 
 def is_read(reply):
@@ -741,6 +736,7 @@ KINDS = [
     random_bytes, changed_lines, cut_lines, long_lines, deep_lines, odd_lines, control_characters, half_characters, odd_fields,
     equal_fields, odd_signers, refused_code, scripts, nested_programs, nested_code, long_programs, odd_words, odd_folders, few_files, odd_files, odd_streams,
     slow_streams, closed_streams, little_memory, two_runs, cut_stores, changed_stores, odd_stores, most_accounts,
+    *contract_inputs.KINDS,
 ]  # fmt: skip
 
 

@@ -11,6 +11,7 @@ import subprocess
 GREATEST = 2**127 - 1
 MOST_ACCOUNTS = 1_000_000
 STATUSES = {"done": 0, "usage": 2, "read": 3, "write": 4, "disk": 5, "memory": 6, "store": 7, "bound": 8}
+LIMIT = b'{"reply":"limit"}\n'
 DONE = b'{"destroyed":[],"events":[],"made":[],"reply":"ok"}\n'
 
 
@@ -34,6 +35,10 @@ def failed(number):
 
 def bad(number):
     return b'{"error":"%d","reply":"bad"}\n' % number
+
+
+def rejected(phase, at, inside=""):
+    return b'{"at":"%d","in":"%s","phase":"%s","reply":"rejected"}\n' % (at, inside.encode(), phase.encode())
 
 
 def result(number):
@@ -218,6 +223,11 @@ def registers_in(folder):
             if value is not None:
                 registers[key] = value
     return registers
+
+
+def found(registers, states):
+    """The first of these states whose registers these are, or None."""
+    return next((state for state in states if state.registers() == registers), None)
 
 
 def int_of(data):

@@ -1,6 +1,7 @@
 #!/usr/bin/env python3
 """Opens folders whose file `a` has one record that is written here, by the rules of docs/FORMATS.md ("Files", "Values as
-bytes") alone: registers of contracts that stand for accounts have to be opened, and all others refused with status 7.
+bytes") alone: registers of contracts that stand for accounts have to be opened, and all others refused with status 7. Where the
+last identity, or the last number of a controller, was given, no other is.
 
     tests/stores.py PROGRAM
 """
@@ -19,6 +20,8 @@ KEEPER = "access(all) contract C { access(all) resource R {} access(all) var r: 
 EVENT = "access(all) contract C { access(all) event E() }"
 NOTHING = "access(all) fun main() {}"
 VOID = {"type": "Void"}
+MAKER = "access(all) contract C { access(all) resource R {} access(all) fun make(): @R { return <-create R() } }"
+LAST = 2**64 - 1
 
 
 # ---- bytes
@@ -135,15 +138,25 @@ def refused():
     yield "the next identity 0", accounts(identity=0) | contract(EMPTY)
 
 
+def spent():
+    """What there is no more of: the registers with the last number, and the one before it, a transaction, and its error."""
+    make = "import C from 0x1\ntransaction { execute { destroy C.make() } }"
+    made = [accounts(identity=number) | contract(MAKER) for number in (LAST, LAST - 1)]
+    yield "identities", *made, {"kind": "transaction", "code": make}, 128
+    issue = "transaction { prepare(a: auth(Capabilities) &Account) { let c = a.capabilities.storage.issue<&Int>(/storage/x) } }"
+    issued = [accounts() | {b"\x01" + number(1): number(next)} for next in (LAST, LAST - 1)]
+    yield "controllers", *issued, {"kind": "transaction", "code": issue, "signers": ["0x1"]}, 135
+
+
 # ---- runs
 
 
-def run(program, registers, code):
-    line = json.dumps({"kind": "script", "code": code}) + "\n"
+def run(program, registers, *requests):
+    text = "".join(json.dumps(request) + "\n" for request in requests)
     with tempfile.TemporaryDirectory() as folder:
         (pathlib.Path(folder) / "a").write_bytes(tape(registers))
         (pathlib.Path(folder) / "pick").write_bytes(b"\x01")
-        done = subprocess.run([program, "run", folder], input=line.encode(), capture_output=True, timeout=600)
+        done = subprocess.run([program, "run", folder], input=text.encode(), capture_output=True, timeout=600)
     return done.returncode, done.stdout.decode()
 
 
@@ -155,14 +168,23 @@ def main():
     for what, registers, code, result in opened():
         tried += 1
         reply = json.dumps({"reply": "ok", "result": result}, separators=(",", ":")) + "\n"
-        got = run(program, registers, code)
+        got = run(program, registers, {"kind": "script", "code": code})
         if got != (0, reply):
             wrong.append(f"{what}: {got}, and {(0, reply)} is wanted")
     for what, registers in refused():
         tried += 1
-        got = run(program, registers, NOTHING)
+        got = run(program, registers, {"kind": "script", "code": NOTHING})
         if got != (7, ""):
             wrong.append(f"{what}: {got}, and status 7 is wanted")
+    for what, none, one, request, error in spent():
+        tried += 2
+        failed = f'{{"error":"{error}","reply":"failed"}}\n'
+        got = run(program, none, request)
+        if got != (0, failed):
+            wrong.append(f"no {what}: {got}, and {(0, failed)} is wanted")
+        status, out = run(program, one, request, request)
+        if status or '"reply":"ok"' not in out.split("\n")[0] or not out.endswith("\n" + failed):
+            wrong.append(f"one of the {what}: {status}, {out!r}, and ok and {failed!r} are wanted")
     for line in wrong:
         print(line)
     print(f"stores: {tried} folders, {len(wrong)} wrong")

@@ -73,6 +73,7 @@ fn fail_test<C: Callees>(
 }
 
 /// What a test with this value comes to; IllTyped where that is no truth.
+#[inline(never)]
 fn judge<C: Callees>(
     tree: Tree,
     message: &Option<Term>,
@@ -129,6 +130,7 @@ fn emit<C: Callees>(
 }
 
 /// A condition. It counts as a statement.
+#[inline(never)]
 fn condition<C: Callees>(
     condition: &TypedCondition,
     callees: &C,
@@ -152,6 +154,7 @@ fn condition<C: Callees>(
 }
 
 /// Conditions in their order, each after a unit. Errors are those of what they evaluate, and 108 where one doesn't hold.
+#[inline(never)]
 pub fn test_conditions<C: Callees>(
     all: &[TypedCondition],
     callees: &C,
@@ -170,6 +173,7 @@ pub fn test_conditions<C: Callees>(
 }
 
 /// A value of `before` is kept.
+#[inline(never)]
 fn keep_value<C: Callees>(value: &Term, callees: &C, state: &mut RunState) -> Result<(), Stop>
     requires { C.is_ready callees.now }
     ensures { FindsAndCarriesOut no_value (parts.value_kept (C.front callees.now) (C.calls callees.now) (term_of value.now)) state.old state.new result }
@@ -181,6 +185,7 @@ fn keep_value<C: Callees>(value: &Term, callees: &C, state: &mut RunState) -> Re
 }
 
 /// The values of `before` are kept, in their order. Errors are those of their evaluation.
+#[inline(never)]
 pub fn keep_values<C: Callees>(
     all: &[TypedBefore],
     callees: &C,

@@ -8,9 +8,10 @@ ghost use Rattle.cad_execution.specs.Passed.{items_row};
 ghost use Rattle.cad_rows.specs.Views.{pure_tree};
 ghost use Rattle.cad_state.specs.Views.{CarriesOut, FindsAndCarriesOut};
 
+use crate::apart::discard_own;
 use cad_declarations::DestroyedEvent;
 use cad_execution::{Callees, Quiet, eval_arguments};
-use cad_function_sources::{Source, destroyed_event, discard_own, source_of};
+use cad_function_sources::{Source, destroyed_event, source_of};
 use cad_making::{event, look_in, look_out};
 use cad_outcomes::Stop;
 use cad_rows::{Place, Tree, discard_tree};
@@ -35,6 +36,7 @@ fn evaluate_defaults<C: Callees>(
 }
 
 /// The event of them, while the resource is still `self`.
+#[inline(never)]
 fn make_inside<C: Callees>(
     destroyed: &DestroyedEvent,
     id: &TypeId,
@@ -52,6 +54,7 @@ fn make_inside<C: Callees>(
 }
 
 /// The resource isn't `self` any more; the event is handed over.
+#[inline(never)]
 fn look_out_with(tree: Tree, state: &mut RunState) -> Result<Tree, Stop>
     ensures { CarriesOut pure_tree (parts.looked_with (pure_tree tree)) state.old state.new result }
 {
@@ -65,6 +68,7 @@ fn look_out_with(tree: Tree, state: &mut RunState) -> Result<Tree, Stop>
 }
 
 /// The event that tells of the end of a resource.
+#[inline(never)]
 fn make_event<C: Callees>(
     destroyed: &DestroyedEvent,
     id: &TypeId,
@@ -127,6 +131,7 @@ fn tell_quietly<C: Callees>(
 
 /// The event that tells of the end of a resource of a type, whose node has the label. Errors are those of its default
 /// arguments; IllTyped where the type declares none.
+#[inline(never)]
 pub fn call_event<C: Callees>(
     id: &TypeId,
     label: u64,

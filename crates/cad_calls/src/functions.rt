@@ -15,11 +15,12 @@ ghost use Rattle.cad_state.specs.Views.{CarriesOut, FindsAndCarriesOut};
 ghost use Rattle.cad_syntax.specs.Types.{PureType, pure_type};
 ghost use Rattle.cad_world.specs.State.{with_some};
 
+use crate::apart::{enter, put_result, take_result};
 use crate::pieces::{keep_before_all, move_into, postconditions, preconditions};
 use cad_declarations::TypedBlock;
 use cad_execution::{Callees, Flow, exec_block};
 use cad_function_sources::Piece;
-use cad_making::{enter, leave, put_result, take_result};
+use cad_making::leave;
 use cad_operators::plain_tree;
 use cad_outcomes::Stop;
 use cad_rows::{Place, Tree, discard_tree};
@@ -46,6 +47,7 @@ fn gives_void(piece: Piece<'_>) -> bool
 }
 
 /// What a function gives whose body ended so; IllTyped where it should have returned a value.
+#[inline(never)]
 pub fn value_of_flow(alloc: Global, void: bool, flow: Flow) -> Result<Tree, Stop>
     ensures { (type : PureType) → void ≡ spec.is_void type → Gives pure_tree (spec.value_of_flow type (flow_of flow)) result }
 {
@@ -146,6 +148,7 @@ fn run_body<C: Callees>(
 }
 
 /// The body that runs, where there is one.
+#[inline(never)]
 fn run_first<C: Callees>(
     own: Option<Piece<'_>>,
     others: &[Piece<'_>],
@@ -179,6 +182,7 @@ fn prepare<C: Callees>(
 }
 
 /// The same, and the body.
+#[inline(never)]
 fn run_prepared<C: Callees>(
     own: Option<Piece<'_>>,
     others: &[Piece<'_>],
@@ -213,6 +217,7 @@ fn run_aside<C: Callees>(
 }
 
 /// The same, and postconditions.
+#[inline(never)]
 fn run_tested<C: Callees>(
     own: Option<Piece<'_>>,
     others: &[Piece<'_>],
@@ -247,6 +252,7 @@ fn run_conditioned<C: Callees>(
 }
 
 /// A call ends, with its result.
+#[inline(never)]
 fn leave_with(tree: Tree, state: &mut RunState) -> Result<Tree, Stop>
     ensures { CarriesOut pure_tree (parts.left_with (pure_tree tree)) state.old state.new result }
 {
@@ -267,6 +273,7 @@ pub struct Own {
 }
 
 /// A call begins, and its function runs.
+#[inline(never)]
 fn run_entered<C: Callees>(
     own: Option<Piece<'_>>,
     others: &[Piece<'_>],

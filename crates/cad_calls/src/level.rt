@@ -13,6 +13,7 @@ ghost use Rattle.cad_rows.specs.Views.{pure_row, pure_tree};
 ghost use Rattle.cad_state.specs.Views.{FindsAndCarriesOut};
 ghost use Rattle.cad_world.specs.Declared as declared;
 
+use crate::apart::{discard_own, discard_row, discard_shared, discard_sources};
 use crate::events::call_event;
 use crate::functions::{Own, run};
 use crate::unlabelled::is_unnamed;
@@ -21,13 +22,12 @@ use cad_declarations::{Checked, TypedMember};
 use cad_discards::hold;
 use cad_execution::{Callee, Callees};
 use cad_function_sources::{
-    Piece, Source, discard_own, discard_sources, initializer_piece, interface_sources, piece_of,
-    pieces_of, source_of,
+    Piece, Source, initializer_piece, interface_sources, piece_of, pieces_of, source_of,
 };
 use cad_installations::{FrontEnd, Initializers, add};
 use cad_outcomes::Stop;
-use cad_rows::{Place, Tree, discard_row};
-use cad_state::{RunState, discard_shared};
+use cad_rows::{Place, Tree};
+use cad_state::RunState;
 use cad_syntax::{Address, Name, TypeId};
 
 /// A function as its own type declares it.
@@ -78,6 +78,7 @@ fn run_sources<C: Callees>(
 }
 
 /// The same, by the interfaces of the type.
+#[inline(never)]
 fn run_method<C: Callees>(
     own: &Option<Source>,
     id: &TypeId,
@@ -114,6 +115,7 @@ fn run_method<C: Callees>(
 }
 
 /// A function of a type is called.
+#[inline(never)]
 fn call_method<C: Callees>(
     id: &TypeId,
     name: &Name,
@@ -170,6 +172,7 @@ fn run_initializer<C: Callees>(
 }
 
 /// The written initializer of a type is called.
+#[inline(never)]
 fn call_initializer<C: Callees>(
     id: &TypeId,
     label: u64,
@@ -202,6 +205,7 @@ fn named_function<'s>(checked: &'s Checked, name: &Name) -> Option<&'s TypedMemb
 }
 
 /// A function as it stands outside contracts.
+#[inline(never)]
 fn outside<'s>(checked: &'s Checked, name: &Name) -> Option<Piece<'s>>
     ensures { maybe_piece result ≡ evaluation.outside (declared.function_in (map member_body_of checked.now.bodies.functions.items) name.now) }
 {
@@ -236,6 +240,7 @@ fn run_function<C: Callees>(
 }
 
 /// A function outside contracts is called.
+#[inline(never)]
 fn call_function<C: Callees>(
     name: &Name,
     arguments: Vec<Place>,

@@ -1,6 +1,7 @@
 //! Functions and initializers that are called, with their conditions.
 #![tactic(auto)]
 
+mod apart;
 mod conditions;
 mod events;
 mod functions;

@@ -30,6 +30,7 @@ fn type_of(piece: Piece<'_>) -> Result<Option<TypeId>, AllocError>
 }
 
 /// The code of a declaration runs from then on.
+#[inline(never)]
 pub fn move_into(piece: Piece<'_>, state: &mut RunState) -> Result<(), Stop>
     ensures { CarriesOut no_value (spec.moved_to (piece_of piece.entry).within) state.old state.new result }
 {
@@ -64,6 +65,7 @@ fn keep_function<C: Callees>(
 }
 
 /// They aren't wanted any more.
+#[inline(never)]
 fn pass_function(function: &TypedFunction, state: &mut RunState) -> Result<(), Stop>
     ensures { CarriesOut no_value (spec.passed_before (length (function_of function.now).before)) state.old state.new result }
 {
@@ -109,6 +111,7 @@ fn own_precondition<C: Callees>(
 }
 
 /// Preconditions: inherited ones first.
+#[inline(never)]
 pub fn preconditions<C: Callees>(
     own: Option<Piece<'_>>,
     others: &[Piece<'_>],
@@ -159,6 +162,7 @@ fn keep_others<C: Callees>(
 }
 
 /// The values of `before`, in the order in which postconditions will run: own ones first, inherited ones from the last.
+#[inline(never)]
 pub fn keep_before_all<C: Callees>(
     own: Option<Piece<'_>>,
     others: &[Piece<'_>],
@@ -178,6 +182,7 @@ pub fn keep_before_all<C: Callees>(
 }
 
 /// A variable holds the result.
+#[inline(never)]
 fn fill_result(declared: &CadType, variable: &Variable, state: &mut RunState) -> Result<(), Stop>
     ensures { CarriesOut no_value (parts.result_filled (pure_type declared.now) (variable_of variable.now)) state.old state.new result }
 {
@@ -285,6 +290,7 @@ fn other_postconditions<C: Callees>(
 }
 
 /// Postconditions: own ones first, and inherited ones from the last.
+#[inline(never)]
 pub fn postconditions<C: Callees>(
     own: Option<Piece<'_>>,
     others: &[Piece<'_>],

@@ -20,6 +20,7 @@ use cad_state::RunState;
 use cad_syntax::CadType;
 
 /// Whether the test of a loop holds.
+#[inline(never)]
 pub(crate) fn holds<C: Callees>(
     test: &Term,
     callees: &C,
@@ -35,6 +36,7 @@ pub(crate) fn holds<C: Callees>(
 }
 
 /// Whether a test holds, after the unit of its statement.
+#[inline(never)]
 pub(crate) fn first_holds<C: Callees>(
     test: &Term,
     callees: &C,
@@ -105,6 +107,7 @@ fn or_nil(
 }
 
 /// The content of an optional; where it is nil, that stays in the variable from which it was taken.
+#[inline(never)]
 fn content_of(moved: Option<u32>, tree: Tree, state: &mut RunState) -> Result<Option<Tree>, Stop>
     ensures { CarriesOut (option_map pure_tree) (parts.content_of moved (pure_tree tree)) state.old state.new result }
 {
@@ -115,6 +118,7 @@ fn content_of(moved: Option<u32>, tree: Tree, state: &mut RunState) -> Result<Op
 }
 
 /// The content of the optional of `if let`.
+#[inline(never)]
 pub(crate) fn unwrap<C: Callees>(
     value: &Argument,
     callees: &C,
@@ -130,6 +134,7 @@ pub(crate) fn unwrap<C: Callees>(
 }
 
 /// The content of what was cast.
+#[inline(never)]
 fn content_cast(found: Option<Tree>, state: &mut RunState) -> Result<Option<Tree>, Stop>
     ensures { CarriesOut (option_map pure_tree) (parts.content_cast (option_map pure_tree found)) state.old state.new result }
 {
@@ -156,6 +161,7 @@ fn cast_value<C: Callees>(
 }
 
 /// The value of a place that is of a type, taken out of it; None where it isn't, and it stays.
+#[inline(never)]
 pub(crate) fn cast<C: Callees>(
     place: &Place,
     target: &CadType,
@@ -172,6 +178,7 @@ pub(crate) fn cast<C: Callees>(
 }
 
 /// The elements that `for` goes over.
+#[inline(never)]
 pub(crate) fn elements_of<C: Callees>(
     array: &Argument,
     callees: &C,
@@ -204,6 +211,7 @@ fn is_free(nil: bool, case: &Term) -> bool
 }
 
 /// Whether the value of a case is that of the `switch`.
+#[inline(never)]
 pub(crate) fn is_chosen<C: Callees>(
     case: &Term,
     nil: bool,

@@ -6,6 +6,7 @@ use crate::flow::Flow;
 use cad_outcomes::Stop;
 
 /// What a statement came to, where that ends its block.
+#[inline(never)]
 pub(crate) fn statement_end(ran: Result<Flow, Stop>) -> Option<Result<Flow, Stop>>
     ensures { result ≡ results.statement_end ran }
 {
@@ -21,6 +22,7 @@ pub(crate) fn statement_end(ran: Result<Flow, Stop>) -> Option<Result<Flow, Stop
 }
 
 /// What a turn came to, where that ends its loop.
+#[inline(never)]
 pub(crate) fn turn_end(ran: Result<Flow, Stop>) -> Option<Result<Flow, Stop>>
     ensures { result ≡ results.turn_end ran }
 {
@@ -36,6 +38,7 @@ pub(crate) fn turn_end(ran: Result<Flow, Stop>) -> Option<Result<Flow, Stop>>
 }
 
 /// What a case came to, where it is the one that runs.
+#[inline(never)]
 pub(crate) fn case_end(ran: Result<Option<Flow>, Stop>) -> Option<Result<Option<Flow>, Stop>>
     ensures { result ≡ results.case_end ran }
 {
@@ -49,6 +52,7 @@ pub(crate) fn case_end(ran: Result<Option<Flow>, Stop>) -> Option<Result<Option<
 }
 
 /// A case that ran.
+#[inline(never)]
 pub(crate) fn case_ran(ran: Result<Flow, Stop>) -> Result<Option<Flow>, Stop>
     ensures { result ≡ results.case_ran ran }
 {

@@ -65,6 +65,7 @@ pub(crate) fn leave_switch(flow: Flow) -> Flow
 }
 
 /// A switch is left by what ran in it.
+#[inline(never)]
 pub(crate) fn leave(ran: Result<Flow, Stop>) -> Result<Flow, Stop>
     ensures { result ≡ results.left_of ran }
 {
@@ -75,6 +76,7 @@ pub(crate) fn leave(ran: Result<Flow, Stop>) -> Result<Flow, Stop>
 }
 
 /// Variables from a number on go, however what stands before ended. IllTyped where one of them holds a resource.
+#[inline(never)]
 pub(crate) fn close(first: u32, flow: Flow, state: &mut RunState) -> Result<Flow, Stop>
     ensures { CarriesOut flow_of (parts.end_with first (flow_of flow)) state.old state.new result }
 {

@@ -24,6 +24,7 @@ use cad_state::RunState;
 use cad_syntax::{CadType, TypeId};
 
 /// The truth that a value is; IllTyped where it is none.
+#[inline(never)]
 pub fn truth(tree: Tree) -> Result<bool, Stop>
     ensures { Gives (λ x. x) (values.truth (pure_tree tree)) result }
 {
@@ -112,6 +113,7 @@ fn event_value(id: &TypeId, row: Vec<cad_rows::Place>, state: &mut RunState) -> 
 }
 
 /// An event of a row of values joins the events.
+#[inline(never)]
 fn emit_row(id: &TypeId, row: Vec<cad_rows::Place>, state: &mut RunState) -> Result<(), Stop>
     ensures { CarriesOut no_value (parts.emit_row id.now (pure_row row.items)) state.old state.new result }
 {
@@ -146,6 +148,7 @@ fn case_with(is_free: bool, value: &Tree, case: &Tree, state: &mut RunState) -> 
 }
 
 /// The same, and the case's value is let go.
+#[inline(never)]
 pub(crate) fn is_case(
     is_free: bool,
     value: &Tree,

@@ -13,6 +13,7 @@ use cad_outcomes::Stop;
 use cad_state::RunState;
 
 /// What a place leads to, after the unit of its statement. Errors are those of the place.
+#[inline(never)]
 pub(crate) fn first_place<C: Callees>(
     place: &Place,
     writes: bool,
@@ -29,6 +30,7 @@ pub(crate) fn first_place<C: Callees>(
 }
 
 /// Where a place stands that is written. Errors are those of the place.
+#[inline(never)]
 pub(crate) fn locate<C: Callees>(
     place: &Place,
     callees: &C,
@@ -44,6 +46,7 @@ pub(crate) fn locate<C: Callees>(
 }
 
 /// The same, after the unit of the statement.
+#[inline(never)]
 pub(crate) fn first_location<C: Callees>(
     place: &Place,
     callees: &C,

@@ -29,6 +29,7 @@ use cad_values::Value;
 use std::alloc::Global;
 
 /// `let a: T = e`
+#[inline(never)]
 pub(crate) fn declare<C: Callees>(
     variable: &Variable,
     value: &Term,
@@ -63,6 +64,7 @@ fn exchange_value<C: Callees>(
 }
 
 /// The value of an expression comes to a location, and what stood there to a variable.
+#[inline(never)]
 fn exchange_into<C: Callees>(
     location: &Location,
     variable: &Variable,
@@ -81,6 +83,7 @@ fn exchange_into<C: Callees>(
 }
 
 /// `let old: T <- place <- e`
+#[inline(never)]
 pub(crate) fn exchange<C: Callees>(
     variable: &Variable,
     place: &Place,
@@ -103,6 +106,7 @@ pub(crate) fn exchange<C: Callees>(
 }
 
 /// The value of an expression is assigned to a location.
+#[inline(never)]
 fn assign_at<C: Callees>(
     location: &Location,
     value: &Term,
@@ -120,6 +124,7 @@ fn assign_at<C: Callees>(
 }
 
 /// `place = e`
+#[inline(never)]
 pub(crate) fn assign<C: Callees>(
     place: &Place,
     value: &Argument,
@@ -140,6 +145,7 @@ pub(crate) fn assign<C: Callees>(
 }
 
 /// The value of an expression comes to a location that is nil.
+#[inline(never)]
 fn force_assign_at<C: Callees>(
     location: &Location,
     value: &Term,
@@ -157,6 +163,7 @@ fn force_assign_at<C: Callees>(
 }
 
 /// `place <-! e`
+#[inline(never)]
 pub(crate) fn force_assign<C: Callees>(
     place: &Place,
     value: &Argument,
@@ -177,6 +184,7 @@ pub(crate) fn force_assign<C: Callees>(
 }
 
 /// What stands at a location and what stands in a place change places.
+#[inline(never)]
 fn swap_with<C: Callees>(
     left: &Location,
     left_type: &CadType,
@@ -199,6 +207,7 @@ fn swap_with<C: Callees>(
 }
 
 /// `a <-> b`
+#[inline(never)]
 pub(crate) fn swap<C: Callees>(
     left: &Place,
     left_type: &CadType,
@@ -221,6 +230,7 @@ pub(crate) fn swap<C: Callees>(
 }
 
 /// An expression whose value goes.
+#[inline(never)]
 pub(crate) fn expression<C: Callees>(
     value: &Term,
     callees: &C,
@@ -236,6 +246,7 @@ pub(crate) fn expression<C: Callees>(
 }
 
 /// `break`
+#[inline(never)]
 pub(crate) fn break_loop(state: &mut RunState) -> Result<Flow, Stop>
     ensures { FindsAndCarriesOut flow_of parts.break_flow state.old state.new result }
 {
@@ -246,6 +257,7 @@ pub(crate) fn break_loop(state: &mut RunState) -> Result<Flow, Stop>
 }
 
 /// `continue`
+#[inline(never)]
 pub(crate) fn continue_loop(state: &mut RunState) -> Result<Flow, Stop>
     ensures { FindsAndCarriesOut flow_of parts.continue_flow state.old state.new result }
 {
@@ -270,6 +282,7 @@ fn void_tree(alloc: Global) -> Tree
 }
 
 /// `return` without a value
+#[inline(never)]
 fn return_nothing(state: &mut RunState) -> Result<Flow, Stop>
     ensures { FindsAndCarriesOut flow_of parts.return_flow state.old state.new result }
 {
@@ -283,6 +296,7 @@ fn return_nothing(state: &mut RunState) -> Result<Flow, Stop>
 }
 
 /// `return`
+#[inline(never)]
 pub(crate) fn return_value<C: Callees>(
     value: &Option<Argument>,
     callees: &C,
@@ -314,6 +328,7 @@ fn first_emit<C: Callees>(
 }
 
 /// `emit E(..)`
+#[inline(never)]
 pub(crate) fn emit<C: Callees>(
     event: &TypeId,
     arguments: &[Argument],

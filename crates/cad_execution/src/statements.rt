@@ -83,6 +83,7 @@ fn run_over<C: Callees>(
 
 /// A block over a variable that holds a value.
 #[cycle(runs)]
+#[inline(never)]
 fn with_variable<C: Callees>(
     body: &TypedBlock,
     variable: &Variable,
@@ -119,6 +120,7 @@ fn run_turn<C: Callees>(
 
 /// The turns of `while`, at most so many; the limit beyond. One unit is taken before a turn, after the test has been true.
 #[cycle(runs)]
+#[inline(never)]
 fn repeat<C: Callees>(
     body: &TypedBlock,
     test: &Term,
@@ -195,6 +197,7 @@ fn exec_cases<C: Callees>(
 
 /// The value of a `switch`, and the first case that has it.
 #[cycle(runs)]
+#[inline(never)]
 fn exec_chosen<C: Callees>(
     cases: &[TypedCase],
     value: &Term,
@@ -241,6 +244,7 @@ fn run_counted<C: Callees>(
 
 /// A block over the variables of a counter and of an element.
 #[cycle(runs)]
+#[inline(never)]
 fn with_counter<C: Callees>(
     body: &TypedBlock,
     index: &Variable,
@@ -317,6 +321,7 @@ fn run_place<C: Callees>(
 
 /// The turn of the next place, unless the loop has ended.
 #[cycle(runs)]
+#[inline(never)]
 fn run_next<C: Callees>(
     body: &TypedBlock,
     index: &Option<Variable>,
@@ -342,6 +347,7 @@ fn run_next<C: Callees>(
 
 /// A turn for each element, in order.
 #[cycle(runs)]
+#[inline(never)]
 fn run_elements<C: Callees>(
     body: &TypedBlock,
     index: &Option<Variable>,
@@ -372,6 +378,7 @@ fn run_elements<C: Callees>(
 
 /// A statement. One unit is taken before it.
 #[cycle(runs)]
+#[inline(never)]
 fn exec<C: Callees>(
     statement: &TypedStatement,
     turns: u64,
@@ -412,6 +419,36 @@ fn exec<C: Callees>(
             right_type,
         } => plain::swap(left, left_type, right, right_type, callees, state),
         TypedStatement::Expression { at: _, value } => plain::expression(value, callees, state),
+        TypedStatement::If { .. } => exec_if(statement, turns, callees, state),
+        TypedStatement::IfLet { .. } => exec_if_let(statement, turns, callees, state),
+        TypedStatement::IfCast { .. } => exec_if_cast(statement, turns, callees, state),
+        TypedStatement::While { .. } => exec_while(statement, turns, callees, state),
+        TypedStatement::For { .. } => exec_for(statement, turns, callees, state),
+        TypedStatement::Switch { .. } => exec_switch(statement, turns, callees, state),
+        TypedStatement::Break { at: _ } => plain::break_loop(state),
+        TypedStatement::Continue { at: _ } => plain::continue_loop(state),
+        TypedStatement::Return { at: _, value } => plain::return_value(value, callees, state),
+        TypedStatement::Emit {
+            at: _,
+            event,
+            arguments,
+        } => plain::emit(event, arguments, callees, state),
+    }
+}
+
+/// `if`, in a function by itself, which takes room on the stack for its own values alone. No run gives it any other statement.
+#[cycle(runs)]
+#[inline(never)]
+fn exec_if<C: Callees>(
+    statement: &TypedStatement,
+    turns: u64,
+    callees: &C,
+    state: &mut RunState,
+) -> Result<Flow, Stop>
+    requires { C.is_ready callees.now }
+    ensures { FindsAndCarriesOut flow_of (spec.exec (C.front callees.now) (C.calls callees.now) turns (statement_of statement.now)) state.old state.new result }
+{
+    match statement {
         TypedStatement::If {
             at: _,
             test,
@@ -427,6 +464,71 @@ fn exec<C: Callees>(
             }
             Err(stop) => Err(stop),
         },
+        _ => Err(Stop::Memory),
+    }
+}
+
+/// `while`, in the same way.
+#[cycle(runs)]
+#[inline(never)]
+fn exec_while<C: Callees>(
+    statement: &TypedStatement,
+    turns: u64,
+    callees: &C,
+    state: &mut RunState,
+) -> Result<Flow, Stop>
+    requires { C.is_ready callees.now }
+    ensures { FindsAndCarriesOut flow_of (spec.exec (C.front callees.now) (C.calls callees.now) turns (statement_of statement.now)) state.old state.new result }
+{
+    match statement {
+        TypedStatement::While { at: _, test, body } => match state.tick() {
+            Ok(()) => repeat(body, test, turns, callees, state),
+            Err(stop) => Err(stop),
+        },
+        _ => Err(Stop::Memory),
+    }
+}
+
+/// `for`, in the same way.
+#[cycle(runs)]
+#[inline(never)]
+fn exec_for<C: Callees>(
+    statement: &TypedStatement,
+    turns: u64,
+    callees: &C,
+    state: &mut RunState,
+) -> Result<Flow, Stop>
+    requires { C.is_ready callees.now }
+    ensures { FindsAndCarriesOut flow_of (spec.exec (C.front callees.now) (C.calls callees.now) turns (statement_of statement.now)) state.old state.new result }
+{
+    match statement {
+        TypedStatement::For {
+            at: _,
+            index,
+            variable,
+            array,
+            body,
+        } => match elements_of(array, callees, state) {
+            Ok(row) => run_elements(body, index, variable, row, turns, callees, state),
+            Err(stop) => Err(stop),
+        },
+        _ => Err(Stop::Memory),
+    }
+}
+
+/// `if let`, in the same way.
+#[cycle(runs)]
+#[inline(never)]
+fn exec_if_let<C: Callees>(
+    statement: &TypedStatement,
+    turns: u64,
+    callees: &C,
+    state: &mut RunState,
+) -> Result<Flow, Stop>
+    requires { C.is_ready callees.now }
+    ensures { FindsAndCarriesOut flow_of (spec.exec (C.front callees.now) (C.calls callees.now) turns (statement_of statement.now)) state.old state.new result }
+{
+    match statement {
         TypedStatement::IfLet {
             at: _,
             variable,
@@ -440,6 +542,23 @@ fn exec<C: Callees>(
             },
             Err(stop) => Err(stop),
         },
+        _ => Err(Stop::Memory),
+    }
+}
+
+/// `if let a = p as? T`, in the same way.
+#[cycle(runs)]
+#[inline(never)]
+fn exec_if_cast<C: Callees>(
+    statement: &TypedStatement,
+    turns: u64,
+    callees: &C,
+    state: &mut RunState,
+) -> Result<Flow, Stop>
+    requires { C.is_ready callees.now }
+    ensures { FindsAndCarriesOut flow_of (spec.exec (C.front callees.now) (C.calls callees.now) turns (statement_of statement.now)) state.old state.new result }
+{
+    match statement {
         TypedStatement::IfCast {
             at: _,
             variable,
@@ -454,20 +573,23 @@ fn exec<C: Callees>(
             },
             Err(stop) => Err(stop),
         },
-        TypedStatement::While { at: _, test, body } => match state.tick() {
-            Ok(()) => repeat(body, test, turns, callees, state),
-            Err(stop) => Err(stop),
-        },
-        TypedStatement::For {
-            at: _,
-            index,
-            variable,
-            array,
-            body,
-        } => match elements_of(array, callees, state) {
-            Ok(row) => run_elements(body, index, variable, row, turns, callees, state),
-            Err(stop) => Err(stop),
-        },
+        _ => Err(Stop::Memory),
+    }
+}
+
+/// `switch`, in the same way.
+#[cycle(runs)]
+#[inline(never)]
+fn exec_switch<C: Callees>(
+    statement: &TypedStatement,
+    turns: u64,
+    callees: &C,
+    state: &mut RunState,
+) -> Result<Flow, Stop>
+    requires { C.is_ready callees.now }
+    ensures { FindsAndCarriesOut flow_of (spec.exec (C.front callees.now) (C.calls callees.now) turns (statement_of statement.now)) state.old state.new result }
+{
+    match statement {
         TypedStatement::Switch {
             at: _,
             value,
@@ -480,13 +602,6 @@ fn exec<C: Callees>(
             },
             Err(stop) => Err(stop),
         },
-        TypedStatement::Break { at: _ } => plain::break_loop(state),
-        TypedStatement::Continue { at: _ } => plain::continue_loop(state),
-        TypedStatement::Return { at: _, value } => plain::return_value(value, callees, state),
-        TypedStatement::Emit {
-            at: _,
-            event,
-            arguments,
-        } => plain::emit(event, arguments, callees, state),
+        _ => Err(Stop::Memory),
     }
 }

@@ -1,10 +1,10 @@
 -- What goes on from what an action came to.
-use Rattle.std.proofs.Common.{◌≡◌, ap, subst, sym, Result, Ok, Err}
+use Rattle.std.proofs.Common.{◌≡◌, ap, refl, subst, sym, Result, Ok, Err}
 use Rattle.cad_labels.specs.Laws.{Keeps}
 use Rattle.cad_outcomes.specs.Outcomes as o
 use Rattle.cad_outcomes.specs.declared.stop.Stop.{Stop}
 use Rattle.cad_outcomes.specs.declared.stop.Stop.TheVariants.{Memory}
-use Rattle.cad_world.specs.State.{State, ok, Action, ◌>>=◌, give}
+use Rattle.cad_world.specs.State.{State, Outcome, ok, failed, limit, ill, bind, Action, ◌>>=◌, give}
 use Rattle.cad_outcomes.proofs.Steps.{then, stopped}
 use Rattle.cad_state.specs.Views.{state_over, CarriesOut, FindsAndCarriesOut}
 use Rattle.cad_state.specs.declared.state.RunState.{RunState}
@@ -47,6 +47,19 @@ pub goes_twice : {A B C D E F : Type 0} (P : A → Type 0) (Q : C → Type 0) (v
     → GoesOn P view mid f r y z x' → GoesOn Q mid out g x' z v result → GoesOn P view out h r y v result
 goes_twice P Q view mid out f g h r x' y z v result keeps same first second = record {
   goes = λ x p keep start. find_same out (p >>= h) ((p >>= f) >>= g) x v result (λ w ready. same p (state_over w x)) (second.goes x (p >>= f) (keeps p keep) (first.goes x p keep start));
+}
+
+same_behind : {A C : Type 0} (o : Outcome A) (f h : A → Action C) → ((a : A) (s : State) → h a s ≡ f a s) → bind o h ≡ bind o f
+same_behind (ok a s) f h same = same a s
+same_behind (failed n) f h same = refl
+same_behind limit f h same = refl
+same_behind ill f h same = refl
+
+-- what does the same goes on the same
+pub goes_same : {A B C D : Type 0} (P : A → Type 0) (view : B → A) (out : D → C) (f h : A → Action C) (r : Result B Stop) (y z : RunState) (result : Result D Stop)
+    → ((a : A) (s : State) → h a s ≡ f a s) → GoesOn P view out f r y z result → GoesOn P view out h r y z result
+goes_same P view out f h r y z result same goes = record {
+  goes = λ x p keep first. find_same out (p >>= h) (p >>= f) x z result (λ w ready. same_behind (p (state_over w x)) f h same) (goes.goes x p keep first);
 }
 
 -- ---- two steps of one call

@@ -1,6 +1,7 @@
 pub mod Adding
 pub mod Arms
 pub mod Calls
+pub mod Composed
 pub mod Destroying
 pub mod Forms
 pub mod Going

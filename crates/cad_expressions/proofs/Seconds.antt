@@ -33,7 +33,7 @@ use Rattle.cad_world.specs.Receivers.{Receiver, look_at}
 use Rattle.cad_world.specs.Rows.{Tree}
 use Rattle.cad_world.specs.State.{State, Outcome, ok, failed, limit, ill, bind, Action, ◌>>=◌, give, choose, by_truth, with_some}
 use Rattle.cad_expressions.specs.Code.Steps.{GoesOn, evaluated, element_at, element_in, coalesced_with, combined_with, conjoined, disjoined, filled_by, member_read, rounded_to, truth_told, used}
-use Rattle.cad_expressions.proofs.Arms.{truth_told_keeps}
+use Rattle.cad_expressions.proofs.Composed.{truth_told_keeps}
 use Rattle.cad_expressions.proofs.Forms.{get_is}
 use Rattle.cad_expressions.proofs.Going.{goes_twice}
 use Rattle.cad_expressions.proofs.Trees as tree

@@ -15,6 +15,7 @@ use cad_state::RunState;
 use cad_syntax::CadType;
 
 /// Appends a value, as what comes to a place of a type.
+#[inline(never)]
 pub(crate) fn push_value(
     state: &mut RunState,
     declared: &CadType,
@@ -48,6 +49,7 @@ fn push_own(
 }
 
 /// Appends a key and the value under it.
+#[inline(never)]
 pub(crate) fn push_pair(pairs: &mut Vec<Pair>, key: Tree, value: Tree) -> Result<(), Stop>
     ensures { Gives (λ _. pairs_of pairs.new) (steps.pair_of (pure_tree key) (pairs_of pairs.old) (pure_tree value)) result }
 {

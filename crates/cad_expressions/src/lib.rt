@@ -1,6 +1,7 @@
 //! Expressions: what they mean, over what is called.
 #![tactic(auto)]
 
+mod apart;
 mod callees;
 mod ends;
 mod entries;
@@ -12,12 +13,15 @@ mod makes;
 mod members;
 mod nesting;
 mod operands;
+mod place_forms;
 mod places;
 mod reads;
+mod row_forms;
 mod rows;
 mod stands;
 mod terms;
 mod uses;
+mod value_forms;
 mod values;
 
 pub use callees::{Callee, Callees, Quiet};

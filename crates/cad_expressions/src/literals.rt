@@ -24,6 +24,7 @@ use cad_values::Value;
 use std::alloc::Global;
 
 /// The value of an expression without parts; no memory of any other.
+#[inline(never)]
 pub(crate) fn literal(term: &Term, state: &RunState) -> Result<Tree, Stop>
     ensures { (front : Front) (calls : Calls) → FindsAndCarriesOut pure_tree (steps.evaluated front calls (term_of term.now)) state.now state.now result }
 {
@@ -42,6 +43,7 @@ pub(crate) fn literal(term: &Term, state: &RunState) -> Result<Tree, Stop>
 }
 
 /// The value of `Type<T>()`: it is written as a call, and takes the unit of one.
+#[inline(never)]
 pub(crate) fn call_type(state: &mut RunState, declared: &CadType) -> Result<Tree, Stop>
     ensures { FindsAndCarriesOut pure_tree (steps.type_called (pure_type declared.now)) state.old state.new result }
 {

@@ -11,12 +11,13 @@ ghost use Rattle.cad_rows.specs.Views.{pure_row, pure_tree};
 ghost use Rattle.cad_state.specs.Views.{CarriesOut, FindsAndCarriesOut};
 ghost use Rattle.cad_world.specs.Declared as declared;
 
+use crate::apart::discard_row;
 use crate::callees::Callee;
 use crate::evaluator::Evaluator;
 use cad_access::bodies_of;
 use cad_making::{begin, draw_identity, finish};
 use cad_outcomes::Stop;
-use cad_rows::{Place, Tree, discard_row, discard_tree};
+use cad_rows::{Place, Tree, discard_tree};
 use cad_state::RunState;
 use cad_syntax::TypeId;
 
@@ -101,6 +102,7 @@ fn create<E: Evaluator>(
 }
 
 /// Whether the initializer of a type is written.
+#[inline(never)]
 fn has_initializer(state: &RunState, id: &TypeId) -> bool
     ensures { result ≡ steps.is_written (making.initializer_of (declared.bodies_of (run_of state.now) id.now)) }
 {
@@ -150,6 +152,7 @@ fn initialize<E: Evaluator>(
 }
 
 /// The fields of what is made are set by the written initializer.
+#[inline(never)]
 fn set_fields<E: Evaluator>(
     evaluator: &E,
     state: &mut RunState,

@@ -1,5 +1,6 @@
 // What is done with a receiver, in the recursion over expressions.
-ghost use Rattle.std.specs.Prelude.{map};
+ghost use Rattle.std.specs.Prelude.{Bool, map};
+ghost use Rattle.cad_declarations.specs.Typed as e;
 ghost use Rattle.cad_declarations.specs.Typed.{arguments_of};
 ghost use Rattle.cad_declarations.specs.Views.{argument_of, use_of};
 ghost use Rattle.cad_expressions.specs.Code.Steps as steps;
@@ -10,6 +11,7 @@ ghost use Rattle.cad_outcomes.specs.Outcomes.{no_value};
 ghost use Rattle.cad_receivers.specs.Views.{receiver_of};
 ghost use Rattle.cad_rows.specs.Views.{pure_tree};
 ghost use Rattle.cad_state.specs.Views.{FindsAndCarriesOut};
+ghost use Rattle.cad_syntax.specs.Types.{pure_type};
 
 use crate::evaluator::Evaluator;
 use crate::reads::read_member;
@@ -20,6 +22,8 @@ use cad_outcomes::Stop;
 use cad_receivers::{Receiver, check_callable, check_use, get};
 use cad_rows::{Place, Tree};
 use cad_state::RunState;
+use cad_syntax::{CadType, Name};
+use cad_types::Builtin;
 
 /// What is done with a receiver: it is looked at before the arguments, and again after them.
 pub(crate) fn evaluate_use<E: Evaluator>(
@@ -41,22 +45,56 @@ pub(crate) fn evaluate_use<E: Evaluator>(
             is_view: _,
             is_never: _,
             arguments,
-        } => {
-            let ready = check_callable(state, receiver, name);
-            let row = arguments_behind(arguments.as_slice(), evaluator, state, ready);
-            call_method(evaluator, state, name, receiver, row)
-        }
+        } => method_use(name, arguments.as_slice(), evaluator, state, receiver),
         Use::BuiltinField(own) => read_member(state, *own, receiver),
         Use::BuiltinCall {
             member: own,
             types,
             arguments,
-        } => {
-            let ready = check_use(state, receiver, *own);
-            let row = arguments_behind(arguments.as_slice(), evaluator, state, ready);
-            call_member(evaluator, state, *own, types.as_slice(), receiver, row)
-        }
+        } => builtin_use(
+            *own,
+            types.as_slice(),
+            arguments.as_slice(),
+            evaluator,
+            state,
+            receiver,
+        ),
     }
+}
+
+/// A function of a receiver is called.
+#[inline(never)]
+fn method_use<E: Evaluator>(
+    name: &Name,
+    arguments: &[Argument],
+    evaluator: &E,
+    state: &mut RunState,
+    receiver: &Receiver,
+) -> Result<Tree, Stop>
+    requires { E.is_ready evaluator.now }
+    ensures { (view never : Bool) → FindsAndCarriesOut pure_tree (steps.used (E.front evaluator.now) (E.calls evaluator.now) (e.method name.now view never (arguments_of (map argument_of arguments.now))) (receiver_of receiver.now)) state.old state.new result }
+{
+    let ready = check_callable(state, receiver, name);
+    let row = arguments_behind(arguments, evaluator, state, ready);
+    call_method(evaluator, state, name, receiver, row)
+}
+
+/// A built-in member of a receiver is called.
+#[inline(never)]
+fn builtin_use<E: Evaluator>(
+    builtin: Builtin,
+    types: &[CadType],
+    arguments: &[Argument],
+    evaluator: &E,
+    state: &mut RunState,
+    receiver: &Receiver,
+) -> Result<Tree, Stop>
+    requires { E.is_ready evaluator.now }
+    ensures { FindsAndCarriesOut pure_tree (steps.used (E.front evaluator.now) (E.calls evaluator.now) (e.builtin_call builtin (map pure_type types.now) (arguments_of (map argument_of arguments.now))) (receiver_of receiver.now)) state.old state.new result }
+{
+    let ready = check_use(state, receiver, builtin);
+    let row = arguments_behind(arguments, evaluator, state, ready);
+    call_member(evaluator, state, builtin, types, receiver, row)
 }
 
 /// Arguments behind what was done.

@@ -57,6 +57,7 @@ impl<C: Callees, F: Fn(u64, &C, &mut RunState, &Term) -> Result<Tree, Stop>> Eva
 }
 
 /// The value of an expression that is nested at most so deep; no memory of any other.
+#[inline(never)]
 pub(crate) fn evaluate_to<C: Callees>(
     depth: u64,
     callees: &C,

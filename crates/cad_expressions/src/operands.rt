@@ -10,6 +10,7 @@ ghost use Rattle.cad_rows.specs.Views.{pure_tree};
 ghost use Rattle.cad_state.specs.Views.{FindsAndCarriesOut};
 ghost use Rattle.cad_syntax.specs.Types.{pure_type};
 
+use crate::apart::discard_receiver;
 use crate::evaluator::Evaluator;
 use crate::members::evaluate_use;
 use crate::values::{
@@ -19,7 +20,7 @@ use cad_declarations::{Term, Use};
 use cad_grammar::BinaryOperator;
 use cad_operators::{bool_tree, nil_tree};
 use cad_outcomes::Stop;
-use cad_receivers::{Receiver, discard_receiver};
+use cad_receivers::Receiver;
 use cad_rows::Tree;
 use cad_state::RunState;
 use cad_syntax::CadType;
@@ -114,23 +115,62 @@ pub(crate) fn combine<E: Evaluator>(
     requires { E.is_ready evaluator.now }
     ensures { GoesOn HasNone pure_tree pure_tree (steps.combined_with (E.front evaluator.now) (E.calls evaluator.now) operator (term_of right.now)) left state.old state.new result }
 {
+    match operator {
+        BinaryOperator::And => conjoin_values(right, evaluator, state, left),
+        BinaryOperator::Or => disjoin_values(right, evaluator, state, left),
+        _ => apply(right, evaluator, state, operator, left),
+    }
+}
+
+/// What an operator makes of a left operand and a right one, which is evaluated in any case.
+#[inline(never)]
+fn apply<E: Evaluator>(
+    right: &Term,
+    evaluator: &E,
+    state: &mut RunState,
+    operator: BinaryOperator,
+    left: Result<Tree, Stop>,
+) -> Result<Tree, Stop>
+    requires { E.is_ready evaluator.now }
+    ensures { GoesOn HasNone pure_tree pure_tree (steps.applied (E.front evaluator.now) (E.calls evaluator.now) operator (term_of right.now)) left state.old state.new result }
+{
     match left {
-        Ok(x) => match operator {
-            BinaryOperator::And => {
-                let truth = truth_of(Ok(x));
-                conjoin(right, evaluator, state, truth)
-            }
-            BinaryOperator::Or => {
-                let truth = truth_of(Ok(x));
-                disjoin(right, evaluator, state, truth)
-            }
-            _ => {
-                let y = evaluator.value(state, right);
-                binary_of(state, operator, x, y)
-            }
-        },
+        Ok(x) => {
+            let y = evaluator.value(state, right);
+            binary_of(state, operator, x, y)
+        }
         Err(stop) => Err(stop),
     }
+}
+
+/// `&&`, with its left operand.
+#[inline(never)]
+fn conjoin_values<E: Evaluator>(
+    right: &Term,
+    evaluator: &E,
+    state: &mut RunState,
+    left: Result<Tree, Stop>,
+) -> Result<Tree, Stop>
+    requires { E.is_ready evaluator.now }
+    ensures { GoesOn HasNone pure_tree pure_tree (steps.combined_with (E.front evaluator.now) (E.calls evaluator.now) BinaryOperator.And (term_of right.now)) left state.old state.new result }
+{
+    let truth = truth_of(left);
+    conjoin(right, evaluator, state, truth)
+}
+
+/// `||`, with its left operand.
+#[inline(never)]
+fn disjoin_values<E: Evaluator>(
+    right: &Term,
+    evaluator: &E,
+    state: &mut RunState,
+    left: Result<Tree, Stop>,
+) -> Result<Tree, Stop>
+    requires { E.is_ready evaluator.now }
+    ensures { GoesOn HasNone pure_tree pure_tree (steps.combined_with (E.front evaluator.now) (E.calls evaluator.now) BinaryOperator.Or (term_of right.now)) left state.old state.new result }
+{
+    let truth = truth_of(left);
+    disjoin(right, evaluator, state, truth)
 }
 
 /// `&&`, with the truth of its left operand.
@@ -190,6 +230,7 @@ pub(crate) fn coalesce<E: Evaluator>(
 }
 
 /// The content that was found, or what comes in place of nil.
+#[inline(never)]
 fn fill_nil<E: Evaluator>(
     right: &Term,
     evaluator: &E,

@@ -7,11 +7,12 @@ ghost use Rattle.cad_receivers.specs.Views.{receiver_of};
 ghost use Rattle.cad_standing.specs.Views.{standing_of};
 ghost use Rattle.cad_state.specs.Views.{FindsAndCarriesOut};
 
+use crate::apart::discard_receiver;
 use crate::evaluator::Evaluator;
 use crate::stands::{content_at, element_with, field_at, lead};
 use cad_declarations::{Place, Term};
 use cad_outcomes::Stop;
-use cad_receivers::{Receiver, discard_receiver};
+use cad_receivers::Receiver;
 use cad_standing::{Standing, here_contract, here_variable, is_nowhere, own_self, receiver};
 use cad_state::RunState;
 
@@ -49,6 +50,7 @@ pub(crate) fn evaluate_place<E: Evaluator>(
 }
 
 /// The element of what stands in a place, at an index that is evaluated then.
+#[inline(never)]
 fn element_at<E: Evaluator>(
     index: &Term,
     evaluator: &E,
@@ -72,6 +74,7 @@ fn element_at<E: Evaluator>(
 }
 
 /// The element of a receiver, at an index that is evaluated first.
+#[inline(never)]
 fn element_in<E: Evaluator>(
     index: &Term,
     evaluator: &E,

@@ -24,6 +24,7 @@ use cad_values::Value;
 use std::alloc::{AllocError, Global};
 
 /// A built-in member of a receiver is read: IllTyped where the receiver is met without the rights that the member needs.
+#[inline(never)]
 pub(crate) fn read_member(
     state: &mut RunState,
     builtin: Builtin,

@@ -8,12 +8,13 @@ ghost use Rattle.cad_rows.specs.Views.{pure_row};
 ghost use Rattle.cad_state.specs.Views.{FindsAndCarriesOut};
 ghost use Rattle.cad_syntax.specs.Types.{pure_type};
 
+use crate::apart::discard_row;
 use crate::evaluator::Evaluator;
 use crate::growth::push_value;
 use crate::values::memory;
 use cad_declarations::{Argument, Term};
 use cad_outcomes::Stop;
-use cad_rows::{Place, discard_row};
+use cad_rows::Place;
 use cad_state::RunState;
 use cad_syntax::CadType;
 

@@ -20,6 +20,7 @@ use cad_state::RunState;
 use cad_syntax::{Authorization, Name};
 
 /// A copy of what stands in a place.
+#[inline(never)]
 pub(crate) fn copy_at(state: &mut RunState, place: Result<Standing, Stop>) -> Result<Tree, Stop>
     ensures { GoesOn AnyOne standing_of pure_tree steps.copied_from place state.old state.new result }
 {
@@ -30,6 +31,7 @@ pub(crate) fn copy_at(state: &mut RunState, place: Result<Standing, Stop>) -> Re
 }
 
 /// What stands in a place leaves it.
+#[inline(never)]
 pub(crate) fn take_at(state: &mut RunState, place: Result<Standing, Stop>) -> Result<Tree, Stop>
     ensures { GoesOn AnyOne standing_of pure_tree standing.taken_from place state.old state.new result }
 {
@@ -40,6 +42,7 @@ pub(crate) fn take_at(state: &mut RunState, place: Result<Standing, Stop>) -> Re
 }
 
 /// Whether what stands in a place is nil.
+#[inline(never)]
 pub(crate) fn nil_at(
     state: &mut RunState,
     is_negated: bool,
@@ -54,6 +57,7 @@ pub(crate) fn nil_at(
 }
 
 /// A reference to what stands in a place.
+#[inline(never)]
 pub(crate) fn borrow_at(
     state: &mut RunState,
     authorization: &Authorization,
@@ -70,6 +74,7 @@ pub(crate) fn borrow_at(
 }
 
 /// What stands in a place, as what a member is used on.
+#[inline(never)]
 pub(crate) fn receive_at(
     state: &mut RunState,
     place: Result<Standing, Stop>,
@@ -83,6 +88,7 @@ pub(crate) fn receive_at(
 }
 
 /// The same of a chain: none where an optional on the way is nil.
+#[inline(never)]
 pub(crate) fn chain_at(
     state: &mut RunState,
     place: Result<Standing, Stop>,
@@ -96,6 +102,7 @@ pub(crate) fn chain_at(
 }
 
 /// The place to which a reference leads.
+#[inline(never)]
 #[tactic(auto, unfolding(crate::specs::Code::Steps::led))]
 pub(crate) fn lead(reference: Result<Tree, Stop>) -> Result<Standing, Stop>
     ensures { (y : RunState) → GoesOn HasNone pure_tree standing_of steps.led reference y y result }
@@ -107,6 +114,7 @@ pub(crate) fn lead(reference: Result<Tree, Stop>) -> Result<Standing, Stop>
 }
 
 /// A field of what stands in a place.
+#[inline(never)]
 pub(crate) fn field_at(
     state: &mut RunState,
     writes: bool,
@@ -122,6 +130,7 @@ pub(crate) fn field_at(
 }
 
 /// The content of the optional that stands in a place.
+#[inline(never)]
 pub(crate) fn content_at(
     state: &mut RunState,
     forces: bool,
@@ -136,6 +145,7 @@ pub(crate) fn content_at(
 }
 
 /// The element of a receiver at an index.
+#[inline(never)]
 pub(crate) fn element_with(
     state: &mut RunState,
     base: &Receiver,

@@ -1,23 +1,20 @@
-// The value of an expression: one recursion over the typed trees, of which all forms stand here.
+// The value of an expression: a table of its forms, each of which is a function by itself.
 ghost use Rattle.cad_declarations.specs.Views.{term_of};
 ghost use Rattle.cad_expressions.specs.Code.Steps as steps;
 ghost use Rattle.cad_rows.specs.Views.{pure_tree};
 ghost use Rattle.cad_state.specs.Views.{FindsAndCarriesOut};
 
-use crate::ends::destroy_found;
-use crate::entries::evaluate_entries;
 use crate::evaluator::Evaluator;
 use crate::literals::{call_type, literal};
-use crate::makes::{construct_with, create_with};
-use crate::operands::{
-    choose_branch, coalesce, combine, evaluate_behind, index_on, use_in_chain, use_on,
+use crate::place_forms::{
+    borrow_form, chain_form, copy_form, index_form, nil_form, take_form, use_form,
 };
-use crate::places::evaluate_place;
-use crate::rows::{evaluate_arguments, evaluate_terms};
-use crate::stands::{borrow_at, chain_at, copy_at, nil_at, receive_at, take_at};
-use crate::uses::{builtin_with, call_with};
-use crate::values::{
-    array_with, cast_of, dictionary_with, force_of, put_aside, take_down, truth_of, unary_of,
+use crate::row_forms::{
+    array_form, builtin_form, call_form, construct_form, create_form, dictionary_form,
+};
+use crate::value_forms::{
+    binary_form, cast_form, coalesce_form, conditional_form, destroy_form, force_form, hold_form,
+    unary_form,
 };
 use cad_declarations::Term;
 use cad_outcomes::Stop;
@@ -44,128 +41,72 @@ pub(crate) fn evaluate<E: Evaluator>(
         | Term::Case(_, _)
         | Term::Before(_) => literal(term, state),
         Term::Meta(declared) => call_type(state, declared),
-        Term::Copy(place) => {
-            let found = evaluate_place(place, evaluator, state, false);
-            copy_at(state, found)
-        }
-        Term::Take(place) => {
-            let found = evaluate_place(place, evaluator, state, false);
-            take_at(state, found)
-        }
-        Term::IsNil { place, is_negated } => {
-            let found = evaluate_place(place, evaluator, state, false);
-            nil_at(state, *is_negated, found)
-        }
+        Term::Copy(place) => copy_form(place, evaluator, state),
+        Term::Take(place) => take_form(place, evaluator, state),
+        Term::IsNil { place, is_negated } => nil_form(place, *is_negated, evaluator, state),
         Term::Borrow {
             place,
             authorization,
             target: _,
             takes_off,
             gives_optional,
-        } => {
-            let found = evaluate_place(place, evaluator, state, false);
-            borrow_at(state, authorization, *takes_off, *gives_optional, found)
-        }
-        Term::Array { element, items } => {
-            let row = evaluate_terms(items.as_slice(), evaluator, state, element);
-            array_with(element, row)
-        }
+        } => borrow_form(
+            place,
+            authorization,
+            *takes_off,
+            *gives_optional,
+            evaluator,
+            state,
+        ),
+        Term::Array { element, items } => array_form(element, items.as_slice(), evaluator, state),
         Term::Dictionary {
             key,
             value,
             entries,
-        } => {
-            let pairs = evaluate_entries(entries.as_slice(), evaluator, state, key, value);
-            dictionary_with(state, key, value, pairs)
-        }
-        Term::Construct(id, all) => {
-            let row = evaluate_arguments(all.as_slice(), evaluator, state);
-            construct_with(evaluator, state, id, row)
-        }
-        Term::Create(id, all) => {
-            let row = evaluate_arguments(all.as_slice(), evaluator, state);
-            create_with(evaluator, state, id, row)
-        }
+        } => dictionary_form(key, value, entries.as_slice(), evaluator, state),
+        Term::Construct(id, all) => construct_form(id, all.as_slice(), evaluator, state),
+        Term::Create(id, all) => create_form(id, all.as_slice(), evaluator, state),
         Term::Call {
             function,
             is_view: _,
             is_never: _,
             arguments,
-        } => {
-            let row = evaluate_arguments(arguments.as_slice(), evaluator, state);
-            call_with(evaluator, state, function, row)
-        }
+        } => call_form(function, arguments.as_slice(), evaluator, state),
         Term::Builtin {
             member,
             types,
             arguments,
-        } => {
-            let row = evaluate_arguments(arguments.as_slice(), evaluator, state);
-            builtin_with(state, *member, types.as_slice(), row)
-        }
-        Term::On(base, member) => {
-            let found = evaluate_place(base, evaluator, state, false);
-            let receiver = receive_at(state, found);
-            use_on(member, evaluator, state, receiver)
-        }
+        } => builtin_form(
+            *member,
+            types.as_slice(),
+            arguments.as_slice(),
+            evaluator,
+            state,
+        ),
+        Term::On(base, member) => use_form(base, member, evaluator, state),
         Term::Chain {
             base,
             member,
             wraps,
-        } => {
-            let found = evaluate_place(base, evaluator, state, false);
-            let receiver = chain_at(state, found);
-            use_in_chain(member, evaluator, state, *wraps, receiver)
-        }
-        Term::Index { base, of: _, index } => {
-            let found = evaluate_place(base, evaluator, state, false);
-            let receiver = receive_at(state, found);
-            index_on(index, evaluator, state, receiver)
-        }
+        } => chain_form(base, member, *wraps, evaluator, state),
+        Term::Index { base, of: _, index } => index_form(base, index, evaluator, state),
         Term::Hold {
             number,
             declared: _,
             value,
             body,
-        } => {
-            let held = evaluator.value(state, value);
-            let aside = put_aside(state, *number, held);
-            let found = evaluate_behind(body, evaluator, state, aside);
-            take_down(state, *number, found)
-        }
-        Term::Destroy(a) => {
-            let found = evaluator.value(state, a);
-            destroy_found(evaluator, state, found)
-        }
-        Term::Unary(operator, a) => {
-            let found = evaluator.value(state, a);
-            unary_of(state, *operator, found)
-        }
-        Term::Force(a) => {
-            let found = evaluator.value(state, a);
-            force_of(found)
-        }
-        Term::Cast(kind, a, declared) => {
-            let found = evaluator.value(state, a);
-            cast_of(state, *kind, declared, found)
-        }
-        Term::Binary(operator, a, b) => {
-            let left = evaluator.value(state, a);
-            combine(b, evaluator, state, *operator, left)
-        }
+        } => hold_form(*number, value, body, evaluator, state),
+        Term::Destroy(a) => destroy_form(a, evaluator, state),
+        Term::Unary(operator, a) => unary_form(*operator, a, evaluator, state),
+        Term::Force(a) => force_form(a, evaluator, state),
+        Term::Cast(kind, a, declared) => cast_form(*kind, a, declared, evaluator, state),
+        Term::Binary(operator, a, b) => binary_form(*operator, a, b, evaluator, state),
         Term::Coalesce {
             left,
             right,
             takes_off,
             declared,
-        } => {
-            let found = evaluator.value(state, left);
-            coalesce(right, evaluator, state, *takes_off, declared, found)
-        }
-        Term::Conditional(a, b, c) => {
-            let found = evaluator.value(state, a);
-            let truth = truth_of(found);
-            choose_branch(b, c, evaluator, state, truth)
-        }
+        } => coalesce_form(left, right, *takes_off, declared, evaluator, state),
+        Term::Conditional(a, b, c) => conditional_form(a, b, c, evaluator, state),
     }
 }

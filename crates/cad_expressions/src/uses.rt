@@ -15,13 +15,14 @@ ghost use Rattle.cad_state.specs.Views.{CarriesOut, FindsAndCarriesOut};
 ghost use Rattle.cad_syntax.specs.Types.{pure_type};
 ghost use Rattle.cad_world.specs.State.{give, with_some};
 
+use crate::apart::discard_row;
 use crate::callees::Callee;
 use crate::evaluator::Evaluator;
 use cad_builtins::is_read;
 use cad_members::{contracts_account, function, member};
 use cad_outcomes::Stop;
 use cad_receivers::{Receiver, aim, settle_receiver};
-use cad_rows::{Place, Tree, discard_row};
+use cad_rows::{Place, Tree};
 use cad_state::RunState;
 use cad_syntax::{Address, Basic, CadType, Name, TypeId};
 use cad_types::Builtin;
@@ -62,6 +63,7 @@ fn call_function<E: Evaluator>(
 }
 
 /// A built-in function is called, or a built-in member of a type.
+#[inline(never)]
 pub(crate) fn builtin_with(
     state: &mut RunState,
     builtin: Builtin,
@@ -115,6 +117,7 @@ pub(crate) fn call_method<E: Evaluator>(
 }
 
 /// A unit, and then what a receiver is.
+#[inline(never)]
 fn aim_again(state: &mut RunState, receiver: &Receiver) -> Result<(TypeId, u64), Stop>
     ensures { FindsAndCarriesOut aimed (steps.aimed_again (receiver_of receiver.now)) state.old state.new result }
 {
@@ -171,6 +174,7 @@ pub(crate) fn call_member<E: Evaluator>(
 }
 
 /// The address of the account of whose contracts a receiver is the part; IllTyped of anything else.
+#[inline(never)]
 fn contracts_address(state: &mut RunState, receiver: &Receiver) -> Result<Address, Stop>
     ensures { FindsAndCarriesOut (λ a. a) (at_spot (receiver_of receiver.now) (λ spot. with_some (in_tree (account_in_value Basic.AccountContracts) spot.tree) give)) state.old state.new result }
 {
@@ -181,6 +185,7 @@ fn contracts_address(state: &mut RunState, receiver: &Receiver) -> Result<Addres
 }
 
 /// A contract is added to the account of whose contracts a receiver is the part.
+#[inline(never)]
 fn add_contract<E: Evaluator>(
     evaluator: &E,
     state: &mut RunState,

@@ -45,6 +45,7 @@ pub(crate) fn discard_found(value: Result<Tree, Stop>) {
 }
 
 /// An array literal of its elements.
+#[inline(never)]
 pub(crate) fn array_with(element: &CadType, row: Result<Vec<Place>, Stop>) -> Result<Tree, Stop>
     ensures { (y : RunState) → GoesOn HasNoneInRow items_row pure_tree (uses.array_of (pure_type element.now)) row y y result }
 {
@@ -68,6 +69,7 @@ fn array_of(element: &CadType, row: Vec<Place>) -> Result<Tree, Stop>
 }
 
 /// A dictionary literal of its keys and values.
+#[inline(never)]
 pub(crate) fn dictionary_with(
     state: &mut RunState,
     key: &CadType,
@@ -117,6 +119,7 @@ fn copy_types(key: &CadType, value: &CadType) -> Result<(CadType, CadType), Stop
 }
 
 /// A value comes to a hidden variable.
+#[inline(never)]
 pub(crate) fn put_aside(
     state: &mut RunState,
     number: u32,
@@ -131,6 +134,7 @@ pub(crate) fn put_aside(
 }
 
 /// Hidden variables end behind a value.
+#[inline(never)]
 pub(crate) fn take_down(
     state: &mut RunState,
     number: u32,
@@ -158,6 +162,7 @@ fn end_behind(state: &mut RunState, number: u32, value: Tree) -> Result<Tree, St
 }
 
 /// What an operator of one operand makes of it.
+#[inline(never)]
 pub(crate) fn unary_of(
     state: &mut RunState,
     operator: UnaryOperator,
@@ -172,6 +177,7 @@ pub(crate) fn unary_of(
 }
 
 /// What an operator makes of two operands.
+#[inline(never)]
 pub(crate) fn binary_of(
     state: &mut RunState,
     operator: BinaryOperator,
@@ -190,6 +196,7 @@ pub(crate) fn binary_of(
 }
 
 /// The content of an optional that is forced.
+#[inline(never)]
 pub(crate) fn force_of(value: Result<Tree, Stop>) -> Result<Tree, Stop>
     ensures { (y : RunState) → GoesOn HasNone pure_tree pure_tree uses.forced value y y result }
 {
@@ -200,6 +207,7 @@ pub(crate) fn force_of(value: Result<Tree, Stop>) -> Result<Tree, Stop>
 }
 
 /// A value that is cast.
+#[inline(never)]
 pub(crate) fn cast_of(
     state: &mut RunState,
     kind: CastKind,
@@ -215,6 +223,7 @@ pub(crate) fn cast_of(
 }
 
 /// The truth that a value is.
+#[inline(never)]
 pub(crate) fn truth_of(value: Result<Tree, Stop>) -> Result<bool, Stop>
     ensures { (y : RunState) → GoesOn HasNone pure_tree (λ (b : Bool). b) steps.truth_told value y y result }
 {
@@ -232,6 +241,7 @@ pub(crate) fn truth_of(value: Result<Tree, Stop>) -> Result<bool, Stop>
 }
 
 /// The truth that a second operand is, as a value.
+#[inline(never)]
 pub(crate) fn truth_only_of(state: &mut RunState, value: Result<Tree, Stop>) -> Result<Tree, Stop>
     ensures { GoesOn HasNone pure_tree pure_tree uses.truth_only value state.old state.new result }
 {
@@ -246,6 +256,7 @@ pub(crate) fn truth_only_of(state: &mut RunState, value: Result<Tree, Stop>) -> 
 }
 
 /// The content of an optional, or the optional itself; none of nil.
+#[inline(never)]
 pub(crate) fn content_or_whole(
     takes_off: bool,
     value: Result<Tree, Stop>,
@@ -259,6 +270,7 @@ pub(crate) fn content_or_whole(
 }
 
 /// A value in as many optionals as a type asks for.
+#[inline(never)]
 pub(crate) fn round_to(declared: &CadType, value: Result<Tree, Stop>) -> Result<Tree, Stop>
     ensures { (y : RunState) → GoesOn HasNone pure_tree pure_tree (steps.rounded_to (pure_type declared.now)) value y y result }
 {
@@ -269,6 +281,7 @@ pub(crate) fn round_to(declared: &CadType, value: Result<Tree, Stop>) -> Result<
 }
 
 /// A value in one optional more, if it is wrapped.
+#[inline(never)]
 pub(crate) fn wrap_if(wraps: bool, value: Result<Tree, Stop>) -> Result<Tree, Stop>
     ensures { (y : RunState) → GoesOn HasNone pure_tree pure_tree (steps.wrapped_by wraps) value y y result }
 {
@@ -279,6 +292,7 @@ pub(crate) fn wrap_if(wraps: bool, value: Result<Tree, Stop>) -> Result<Tree, St
 }
 
 /// What stands in a receiver at an index.
+#[inline(never)]
 pub(crate) fn read_index(
     state: &mut RunState,
     base: &Receiver,
@@ -297,6 +311,7 @@ pub(crate) fn read_index(
 }
 
 /// A value becomes what comes to a place of a type.
+#[inline(never)]
 pub(crate) fn hand_over(
     state: &mut RunState,
     declared: &CadType,

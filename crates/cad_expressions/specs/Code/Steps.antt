@@ -24,6 +24,7 @@ use Rattle.cad_evaluation.specs.Containers.{void_tree}
 use Rattle.cad_evaluation.specs.Ending.{ended, destroyed}
 use Rattle.cad_evaluation.specs.Making.{construct, create, draw_identity, finish}
 use Rattle.cad_evaluation.specs.Numbers.{truth_of, bool_tree}
+use Rattle.cad_evaluation.specs.Operators.{binary}
 use Rattle.cad_evaluation.specs.Reading.{composite_id, copied, read_index}
 use Rattle.cad_evaluation.specs.Standing.{Standing, led_by, base_of, field_of, element_of, value_at, receiver_from, content_at, onward}
 use Rattle.cad_evaluation.specs.Terms.{eval, eval_place, eval_use, eval_terms, eval_arguments, eval_entries, combined, chained}
@@ -145,6 +146,10 @@ ended_by calls t = destroyed calls t >> give void_tree
 
 unfoldable pub combined_with : Front → Calls → BinaryOperator → e.TermTree → Tree → Action Tree
 combined_with front calls operation b x = combined operation x (evaluated front calls b)
+
+-- the right operand is evaluated, whatever the left one is
+unfoldable pub applied : Front → Calls → BinaryOperator → e.TermTree → Tree → Action Tree
+applied front calls operation b x = evaluated front calls b >>= binary operation x
 
 unfoldable pub coalesced_with : Front → Calls → Bool → PureType → e.TermTree → Tree → Action Tree
 coalesced_with front calls takes type b x = coalesced takes type x (evaluated front calls b)

@@ -60,63 +60,63 @@ exec-returns-in-Return g t c =
 
 pub exec-returns-in-Emit : goal.exec-returns-in-Emit
 exec-returns-in-Emit g t c =
-    at_form (g.C.Callees.front c.args.callees.now) (g.C.Callees.calls c.args.callees.now) c.args.turns (statement_of c.args.statement.now) (e.emit c.in-Emit.at c.in-Emit.event (arguments_of (map argument_of c.in-Emit.arguments.items))) c.args.state.now c.emit.new.state (c.emit.result) (emit_at c.args.statement.now c.in-Emit.at c.in-Emit.event c.in-Emit.arguments c.in-Emit.is) (subst (λ all. FindsAndCarriesOut flow_of (exec (g.C.Callees.front c.args.callees.now) (g.C.Callees.calls c.args.callees.now) c.args.turns (e.emit c.in-Emit.at c.in-Emit.event (arguments_of (map argument_of all)))) c.args.state.now c.emit.new.state c.emit.result) c.deref-in-Emit.ensures.value (c.emit.ensures c.in-Emit.at c.args.turns))
+    at_form (g.C.Callees.front c.args.callees.now) (g.C.Callees.calls c.args.callees.now) c.args.turns (statement_of c.args.statement.now) (e.emit c.in-Emit.at c.in-Emit.event (arguments_of (map argument_of c.in-Emit.arguments.items))) c.args.state.now c.emit.new.state (c.emit.result) (emit_at c.args.statement.now c.in-Emit.at c.in-Emit.event c.in-Emit.arguments c.in-Emit.is) (subst (λ all. FindsAndCarriesOut flow_of (exec (g.C.Callees.front c.args.callees.now) (g.C.Callees.calls c.args.callees.now) c.args.turns (e.emit c.in-Emit.at c.in-Emit.event (arguments_of (map argument_of all)))) c.args.state.now c.emit.new.state c.emit.result) c.deref.ensures.value (c.emit.ensures c.in-Emit.at c.args.turns))
 
-pub exec-returns-then-is : goal.exec-returns-then-is
-exec-returns-then-is g t c =
+pub exec_if-returns-then-is : goal.exec_if-returns-then-is
+exec_if-returns-then-is g t c =
     at_form (g.C.Callees.front c.args.callees.now) (g.C.Callees.calls c.args.callees.now) c.args.turns (statement_of c.args.statement.now) (e.if_else c.in-If.at (term_of c.in-If.test) (block_of c.in-If.then) (block_of c.in-If.otherwise)) c.args.state.now c.exec_block.new.state (c.exec_block.result) (if_at c.args.statement.now c.in-If.at c.in-If.test c.in-If.then c.in-If.otherwise c.in-If.is) (if_ok (g.C.Callees.front c.args.callees.now) (g.C.Callees.calls c.args.callees.now) c.in-If.at c.args.turns (term_of c.in-If.test) (block_of c.in-If.then) (block_of c.in-If.otherwise) c.in-Ok.is' c.args.state.now c.first_holds.new.state c.exec_block.new.state c.exec_block.result (g.met.C.Callees.keeps c.args.callees.now) c.in-Ok.ensures c.if-is.true c.exec_block.ensures)
 
-pub exec-returns-else-is : goal.exec-returns-else-is
-exec-returns-else-is g t c =
+pub exec_if-returns-else-is : goal.exec_if-returns-else-is
+exec_if-returns-else-is g t c =
     at_form (g.C.Callees.front c.args.callees.now) (g.C.Callees.calls c.args.callees.now) c.args.turns (statement_of c.args.statement.now) (e.if_else c.in-If.at (term_of c.in-If.test) (block_of c.in-If.then) (block_of c.in-If.otherwise)) c.args.state.now c.exec_block-else-is.new.state (c.exec_block-else-is.result) (if_at c.args.statement.now c.in-If.at c.in-If.test c.in-If.then c.in-If.otherwise c.in-If.is) (else_ok (g.C.Callees.front c.args.callees.now) (g.C.Callees.calls c.args.callees.now) c.in-If.at c.args.turns (term_of c.in-If.test) (block_of c.in-If.then) (block_of c.in-If.otherwise) c.in-Ok.is' c.args.state.now c.first_holds.new.state c.exec_block-else-is.new.state c.exec_block-else-is.result (g.met.C.Callees.keeps c.args.callees.now) c.in-Ok.ensures c.if-is.false c.exec_block-else-is.ensures)
 
-pub exec-returns-in-Err : goal.exec-returns-in-Err
-exec-returns-in-Err g t c =
+pub exec_if-returns-in-Err : goal.exec_if-returns-in-Err
+exec_if-returns-in-Err g t c =
     at_fails (g.C.Callees.front c.args.callees.now) (g.C.Callees.calls c.args.callees.now) c.args.turns (statement_of c.args.statement.now) (e.if_else c.in-If.at (term_of c.in-If.test) (block_of c.in-If.then) (block_of c.in-If.otherwise)) c.args.state.now c.in-Err.stop (if_at c.args.statement.now c.in-If.at c.in-If.test c.in-If.then c.in-If.otherwise c.in-If.is) (if_err (g.C.Callees.front c.args.callees.now) (g.C.Callees.calls c.args.callees.now) c.in-If.at c.args.turns (term_of c.in-If.test) (block_of c.in-If.then) (block_of c.in-If.otherwise) c.args.state.now c.in-Err.stop c.in-Err.ensures)
 
-pub exec-returns-in-Some : goal.exec-returns-in-Some
-exec-returns-in-Some g t c =
-    at_form (g.C.Callees.front c.args.callees.now) (g.C.Callees.calls c.args.callees.now) c.args.turns (statement_of c.args.statement.now) (e.if_let c.in-IfLet.at (variable_of c.in-IfLet.variable) (term_of c.in-IfLet.value.value) (pure_type c.in-IfLet.value.target) (block_of c.in-IfLet.then) (block_of c.in-IfLet.otherwise)) c.args.state.now c.with_variable.new.state (c.with_variable.result) (if_let_at c.args.statement.now c.in-IfLet.at c.in-IfLet.variable c.in-IfLet.value c.in-IfLet.then c.in-IfLet.otherwise c.in-IfLet.is) (let_some (g.C.Callees.front c.args.callees.now) (g.C.Callees.calls c.args.callees.now) c.in-IfLet.at c.args.turns (variable_of c.in-IfLet.variable) (term_of c.in-IfLet.value.value) (pure_type c.in-IfLet.value.target) (block_of c.in-IfLet.then) (block_of c.in-IfLet.otherwise) c.in-Ok-unwrap.found c.in-Some.inside c.args.state.now c.unwrap.new.state c.with_variable.new.state c.with_variable.result (g.met.C.Callees.keeps c.args.callees.now) c.in-Ok-unwrap.ensures c.in-Some.is c.with_variable.ensures)
+pub exec_if_let-returns-in-Some : goal.exec_if_let-returns-in-Some
+exec_if_let-returns-in-Some g t c =
+    at_form (g.C.Callees.front c.args.callees.now) (g.C.Callees.calls c.args.callees.now) c.args.turns (statement_of c.args.statement.now) (e.if_let c.in-IfLet.at (variable_of c.in-IfLet.variable) (term_of c.in-IfLet.value.value) (pure_type c.in-IfLet.value.target) (block_of c.in-IfLet.then) (block_of c.in-IfLet.otherwise)) c.args.state.now c.with_variable.new.state (c.with_variable.result) (if_let_at c.args.statement.now c.in-IfLet.at c.in-IfLet.variable c.in-IfLet.value c.in-IfLet.then c.in-IfLet.otherwise c.in-IfLet.is) (let_some (g.C.Callees.front c.args.callees.now) (g.C.Callees.calls c.args.callees.now) c.in-IfLet.at c.args.turns (variable_of c.in-IfLet.variable) (term_of c.in-IfLet.value.value) (pure_type c.in-IfLet.value.target) (block_of c.in-IfLet.then) (block_of c.in-IfLet.otherwise) c.in-Ok.found c.in-Some.inside c.args.state.now c.unwrap.new.state c.with_variable.new.state c.with_variable.result (g.met.C.Callees.keeps c.args.callees.now) c.in-Ok.ensures c.in-Some.is c.with_variable.ensures)
 
-pub exec-returns-in-None : goal.exec-returns-in-None
-exec-returns-in-None g t c =
-    at_form (g.C.Callees.front c.args.callees.now) (g.C.Callees.calls c.args.callees.now) c.args.turns (statement_of c.args.statement.now) (e.if_let c.in-IfLet.at (variable_of c.in-IfLet.variable) (term_of c.in-IfLet.value.value) (pure_type c.in-IfLet.value.target) (block_of c.in-IfLet.then) (block_of c.in-IfLet.otherwise)) c.args.state.now c.exec_block-in-None.new.state (c.exec_block-in-None.result) (if_let_at c.args.statement.now c.in-IfLet.at c.in-IfLet.variable c.in-IfLet.value c.in-IfLet.then c.in-IfLet.otherwise c.in-IfLet.is) (let_none (g.C.Callees.front c.args.callees.now) (g.C.Callees.calls c.args.callees.now) c.in-IfLet.at c.args.turns (variable_of c.in-IfLet.variable) (term_of c.in-IfLet.value.value) (pure_type c.in-IfLet.value.target) (block_of c.in-IfLet.then) (block_of c.in-IfLet.otherwise) c.in-Ok-unwrap.found c.args.state.now c.unwrap.new.state c.exec_block-in-None.new.state c.exec_block-in-None.result (g.met.C.Callees.keeps c.args.callees.now) c.in-Ok-unwrap.ensures c.in-None.is c.exec_block-in-None.ensures)
+pub exec_if_let-returns-in-None : goal.exec_if_let-returns-in-None
+exec_if_let-returns-in-None g t c =
+    at_form (g.C.Callees.front c.args.callees.now) (g.C.Callees.calls c.args.callees.now) c.args.turns (statement_of c.args.statement.now) (e.if_let c.in-IfLet.at (variable_of c.in-IfLet.variable) (term_of c.in-IfLet.value.value) (pure_type c.in-IfLet.value.target) (block_of c.in-IfLet.then) (block_of c.in-IfLet.otherwise)) c.args.state.now c.exec_block.new.state (c.exec_block.result) (if_let_at c.args.statement.now c.in-IfLet.at c.in-IfLet.variable c.in-IfLet.value c.in-IfLet.then c.in-IfLet.otherwise c.in-IfLet.is) (let_none (g.C.Callees.front c.args.callees.now) (g.C.Callees.calls c.args.callees.now) c.in-IfLet.at c.args.turns (variable_of c.in-IfLet.variable) (term_of c.in-IfLet.value.value) (pure_type c.in-IfLet.value.target) (block_of c.in-IfLet.then) (block_of c.in-IfLet.otherwise) c.in-Ok.found c.args.state.now c.unwrap.new.state c.exec_block.new.state c.exec_block.result (g.met.C.Callees.keeps c.args.callees.now) c.in-Ok.ensures c.in-None.is c.exec_block.ensures)
 
-pub exec-returns-in-Err-unwrap : goal.exec-returns-in-Err-unwrap
-exec-returns-in-Err-unwrap g t c =
-    at_fails (g.C.Callees.front c.args.callees.now) (g.C.Callees.calls c.args.callees.now) c.args.turns (statement_of c.args.statement.now) (e.if_let c.in-IfLet.at (variable_of c.in-IfLet.variable) (term_of c.in-IfLet.value.value) (pure_type c.in-IfLet.value.target) (block_of c.in-IfLet.then) (block_of c.in-IfLet.otherwise)) c.args.state.now c.in-Err-unwrap.stop (if_let_at c.args.statement.now c.in-IfLet.at c.in-IfLet.variable c.in-IfLet.value c.in-IfLet.then c.in-IfLet.otherwise c.in-IfLet.is) (let_err (g.C.Callees.front c.args.callees.now) (g.C.Callees.calls c.args.callees.now) c.in-IfLet.at c.args.turns (variable_of c.in-IfLet.variable) (term_of c.in-IfLet.value.value) (pure_type c.in-IfLet.value.target) (block_of c.in-IfLet.then) (block_of c.in-IfLet.otherwise) c.args.state.now c.in-Err-unwrap.stop c.in-Err-unwrap.ensures)
+pub exec_if_let-returns-in-Err : goal.exec_if_let-returns-in-Err
+exec_if_let-returns-in-Err g t c =
+    at_fails (g.C.Callees.front c.args.callees.now) (g.C.Callees.calls c.args.callees.now) c.args.turns (statement_of c.args.statement.now) (e.if_let c.in-IfLet.at (variable_of c.in-IfLet.variable) (term_of c.in-IfLet.value.value) (pure_type c.in-IfLet.value.target) (block_of c.in-IfLet.then) (block_of c.in-IfLet.otherwise)) c.args.state.now c.in-Err.stop (if_let_at c.args.statement.now c.in-IfLet.at c.in-IfLet.variable c.in-IfLet.value c.in-IfLet.then c.in-IfLet.otherwise c.in-IfLet.is) (let_err (g.C.Callees.front c.args.callees.now) (g.C.Callees.calls c.args.callees.now) c.in-IfLet.at c.args.turns (variable_of c.in-IfLet.variable) (term_of c.in-IfLet.value.value) (pure_type c.in-IfLet.value.target) (block_of c.in-IfLet.then) (block_of c.in-IfLet.otherwise) c.args.state.now c.in-Err.stop c.in-Err.ensures)
 
-pub exec-returns-in-Some-found : goal.exec-returns-in-Some-found
-exec-returns-in-Some-found g t c =
-    at_form (g.C.Callees.front c.args.callees.now) (g.C.Callees.calls c.args.callees.now) c.args.turns (statement_of c.args.statement.now) (e.if_cast c.in-IfCast.at (variable_of c.in-IfCast.variable) (place_of c.in-IfCast.place) (pure_type c.in-IfCast.target) (block_of c.in-IfCast.then) (block_of c.in-IfCast.otherwise)) c.args.state.now c.with_variable-in-Some-found.new.state (c.with_variable-in-Some-found.result) (if_cast_at c.args.statement.now c.in-IfCast.at c.in-IfCast.variable c.in-IfCast.place c.in-IfCast.target c.in-IfCast.then c.in-IfCast.otherwise c.in-IfCast.is) (cast_some (g.C.Callees.front c.args.callees.now) (g.C.Callees.calls c.args.callees.now) c.in-IfCast.at c.args.turns (variable_of c.in-IfCast.variable) (place_of c.in-IfCast.place) (pure_type c.in-IfCast.target) (block_of c.in-IfCast.then) (block_of c.in-IfCast.otherwise) c.in-Ok-cast.found c.in-Some-found.inside c.args.state.now c.cast.new.state c.with_variable-in-Some-found.new.state c.with_variable-in-Some-found.result (g.met.C.Callees.keeps c.args.callees.now) c.in-Ok-cast.ensures c.in-Some-found.is c.with_variable-in-Some-found.ensures)
+pub exec_if_cast-returns-in-Some : goal.exec_if_cast-returns-in-Some
+exec_if_cast-returns-in-Some g t c =
+    at_form (g.C.Callees.front c.args.callees.now) (g.C.Callees.calls c.args.callees.now) c.args.turns (statement_of c.args.statement.now) (e.if_cast c.in-IfCast.at (variable_of c.in-IfCast.variable) (place_of c.in-IfCast.place) (pure_type c.in-IfCast.target) (block_of c.in-IfCast.then) (block_of c.in-IfCast.otherwise)) c.args.state.now c.with_variable.new.state (c.with_variable.result) (if_cast_at c.args.statement.now c.in-IfCast.at c.in-IfCast.variable c.in-IfCast.place c.in-IfCast.target c.in-IfCast.then c.in-IfCast.otherwise c.in-IfCast.is) (cast_some (g.C.Callees.front c.args.callees.now) (g.C.Callees.calls c.args.callees.now) c.in-IfCast.at c.args.turns (variable_of c.in-IfCast.variable) (place_of c.in-IfCast.place) (pure_type c.in-IfCast.target) (block_of c.in-IfCast.then) (block_of c.in-IfCast.otherwise) c.in-Ok.found c.in-Some.inside c.args.state.now c.cast.new.state c.with_variable.new.state c.with_variable.result (g.met.C.Callees.keeps c.args.callees.now) c.in-Ok.ensures c.in-Some.is c.with_variable.ensures)
 
-pub exec-returns-in-None-found : goal.exec-returns-in-None-found
-exec-returns-in-None-found g t c =
-    at_form (g.C.Callees.front c.args.callees.now) (g.C.Callees.calls c.args.callees.now) c.args.turns (statement_of c.args.statement.now) (e.if_cast c.in-IfCast.at (variable_of c.in-IfCast.variable) (place_of c.in-IfCast.place) (pure_type c.in-IfCast.target) (block_of c.in-IfCast.then) (block_of c.in-IfCast.otherwise)) c.args.state.now c.exec_block-in-None-found.new.state (c.exec_block-in-None-found.result) (if_cast_at c.args.statement.now c.in-IfCast.at c.in-IfCast.variable c.in-IfCast.place c.in-IfCast.target c.in-IfCast.then c.in-IfCast.otherwise c.in-IfCast.is) (cast_none (g.C.Callees.front c.args.callees.now) (g.C.Callees.calls c.args.callees.now) c.in-IfCast.at c.args.turns (variable_of c.in-IfCast.variable) (place_of c.in-IfCast.place) (pure_type c.in-IfCast.target) (block_of c.in-IfCast.then) (block_of c.in-IfCast.otherwise) c.in-Ok-cast.found c.args.state.now c.cast.new.state c.exec_block-in-None-found.new.state c.exec_block-in-None-found.result (g.met.C.Callees.keeps c.args.callees.now) c.in-Ok-cast.ensures c.in-None-found.is c.exec_block-in-None-found.ensures)
+pub exec_if_cast-returns-in-None : goal.exec_if_cast-returns-in-None
+exec_if_cast-returns-in-None g t c =
+    at_form (g.C.Callees.front c.args.callees.now) (g.C.Callees.calls c.args.callees.now) c.args.turns (statement_of c.args.statement.now) (e.if_cast c.in-IfCast.at (variable_of c.in-IfCast.variable) (place_of c.in-IfCast.place) (pure_type c.in-IfCast.target) (block_of c.in-IfCast.then) (block_of c.in-IfCast.otherwise)) c.args.state.now c.exec_block.new.state (c.exec_block.result) (if_cast_at c.args.statement.now c.in-IfCast.at c.in-IfCast.variable c.in-IfCast.place c.in-IfCast.target c.in-IfCast.then c.in-IfCast.otherwise c.in-IfCast.is) (cast_none (g.C.Callees.front c.args.callees.now) (g.C.Callees.calls c.args.callees.now) c.in-IfCast.at c.args.turns (variable_of c.in-IfCast.variable) (place_of c.in-IfCast.place) (pure_type c.in-IfCast.target) (block_of c.in-IfCast.then) (block_of c.in-IfCast.otherwise) c.in-Ok.found c.args.state.now c.cast.new.state c.exec_block.new.state c.exec_block.result (g.met.C.Callees.keeps c.args.callees.now) c.in-Ok.ensures c.in-None.is c.exec_block.ensures)
 
-pub exec-returns-in-Err-cast : goal.exec-returns-in-Err-cast
-exec-returns-in-Err-cast g t c =
-    at_fails (g.C.Callees.front c.args.callees.now) (g.C.Callees.calls c.args.callees.now) c.args.turns (statement_of c.args.statement.now) (e.if_cast c.in-IfCast.at (variable_of c.in-IfCast.variable) (place_of c.in-IfCast.place) (pure_type c.in-IfCast.target) (block_of c.in-IfCast.then) (block_of c.in-IfCast.otherwise)) c.args.state.now c.in-Err-cast.stop (if_cast_at c.args.statement.now c.in-IfCast.at c.in-IfCast.variable c.in-IfCast.place c.in-IfCast.target c.in-IfCast.then c.in-IfCast.otherwise c.in-IfCast.is) (cast_err (g.C.Callees.front c.args.callees.now) (g.C.Callees.calls c.args.callees.now) c.in-IfCast.at c.args.turns (variable_of c.in-IfCast.variable) (place_of c.in-IfCast.place) (pure_type c.in-IfCast.target) (block_of c.in-IfCast.then) (block_of c.in-IfCast.otherwise) c.args.state.now c.in-Err-cast.stop c.in-Err-cast.ensures)
+pub exec_if_cast-returns-in-Err : goal.exec_if_cast-returns-in-Err
+exec_if_cast-returns-in-Err g t c =
+    at_fails (g.C.Callees.front c.args.callees.now) (g.C.Callees.calls c.args.callees.now) c.args.turns (statement_of c.args.statement.now) (e.if_cast c.in-IfCast.at (variable_of c.in-IfCast.variable) (place_of c.in-IfCast.place) (pure_type c.in-IfCast.target) (block_of c.in-IfCast.then) (block_of c.in-IfCast.otherwise)) c.args.state.now c.in-Err.stop (if_cast_at c.args.statement.now c.in-IfCast.at c.in-IfCast.variable c.in-IfCast.place c.in-IfCast.target c.in-IfCast.then c.in-IfCast.otherwise c.in-IfCast.is) (cast_err (g.C.Callees.front c.args.callees.now) (g.C.Callees.calls c.args.callees.now) c.in-IfCast.at c.args.turns (variable_of c.in-IfCast.variable) (place_of c.in-IfCast.place) (pure_type c.in-IfCast.target) (block_of c.in-IfCast.then) (block_of c.in-IfCast.otherwise) c.args.state.now c.in-Err.stop c.in-Err.ensures)
 
-pub exec-returns-in-Ok-tick : goal.exec-returns-in-Ok-tick
-exec-returns-in-Ok-tick g t c =
-    at_form (g.C.Callees.front c.args.callees.now) (g.C.Callees.calls c.args.callees.now) c.args.turns (statement_of c.args.statement.now) (e.while_loop c.in-While.at (term_of c.in-While.test) (block_of c.in-While.body)) c.args.state.now c.repeat.new.state (c.repeat.result) (while_at c.args.statement.now c.in-While.at c.in-While.test c.in-While.body c.in-While.is) (while_ok (g.C.Callees.front c.args.callees.now) (g.C.Callees.calls c.args.callees.now) c.in-While.at c.args.turns (term_of c.in-While.test) (block_of c.in-While.body) c.args.state.now c.tick.new.self c.repeat.new.state c.repeat.result c.in-Ok-tick.ensures c.repeat.ensures)
+pub exec_while-returns-in-Ok : goal.exec_while-returns-in-Ok
+exec_while-returns-in-Ok g t c =
+    at_form (g.C.Callees.front c.args.callees.now) (g.C.Callees.calls c.args.callees.now) c.args.turns (statement_of c.args.statement.now) (e.while_loop c.in-While.at (term_of c.in-While.test) (block_of c.in-While.body)) c.args.state.now c.repeat.new.state (c.repeat.result) (while_at c.args.statement.now c.in-While.at c.in-While.test c.in-While.body c.in-While.is) (while_ok (g.C.Callees.front c.args.callees.now) (g.C.Callees.calls c.args.callees.now) c.in-While.at c.args.turns (term_of c.in-While.test) (block_of c.in-While.body) c.args.state.now c.tick.new.self c.repeat.new.state c.repeat.result c.in-Ok.ensures c.repeat.ensures)
 
-pub exec-returns-in-Err-tick : goal.exec-returns-in-Err-tick
-exec-returns-in-Err-tick g t c =
-    at_fails (g.C.Callees.front c.args.callees.now) (g.C.Callees.calls c.args.callees.now) c.args.turns (statement_of c.args.statement.now) (e.while_loop c.in-While.at (term_of c.in-While.test) (block_of c.in-While.body)) c.args.state.now c.in-Err-tick.stop (while_at c.args.statement.now c.in-While.at c.in-While.test c.in-While.body c.in-While.is) (while_stop (g.C.Callees.front c.args.callees.now) (g.C.Callees.calls c.args.callees.now) c.in-While.at c.args.turns (term_of c.in-While.test) (block_of c.in-While.body) c.args.state.now c.in-Err-tick.stop c.in-Err-tick.ensures)
+pub exec_while-returns-in-Err : goal.exec_while-returns-in-Err
+exec_while-returns-in-Err g t c =
+    at_fails (g.C.Callees.front c.args.callees.now) (g.C.Callees.calls c.args.callees.now) c.args.turns (statement_of c.args.statement.now) (e.while_loop c.in-While.at (term_of c.in-While.test) (block_of c.in-While.body)) c.args.state.now c.in-Err.stop (while_at c.args.statement.now c.in-While.at c.in-While.test c.in-While.body c.in-While.is) (while_stop (g.C.Callees.front c.args.callees.now) (g.C.Callees.calls c.args.callees.now) c.in-While.at c.args.turns (term_of c.in-While.test) (block_of c.in-While.body) c.args.state.now c.in-Err.stop c.in-Err.ensures)
 
-pub exec-returns-in-Some-found-2 : goal.exec-returns-in-Some-found-2
-exec-returns-in-Some-found-2 g t c =
-    at_form (g.C.Callees.front c.args.callees.now) (g.C.Callees.calls c.args.callees.now) c.args.turns (statement_of c.args.statement.now) (e.switch c.in-Switch.at (term_of c.in-Switch.value) (cases_of (map case_of c.in-Switch.cases.items)) (block_of c.in-Switch.default)) c.args.state.now c.exec_chosen.new.state ((Ok c.leave_switch.result)) (switch_at c.args.statement.now c.in-Switch.at c.in-Switch.value c.in-Switch.cases c.in-Switch.default c.in-Switch.is) (switch_some (g.C.Callees.front c.args.callees.now) (g.C.Callees.calls c.args.callees.now) c.in-Switch.at c.args.turns (term_of c.in-Switch.value) (cases_of (map case_of c.in-Switch.cases.items)) (block_of c.in-Switch.default) c.in-Ok-exec_chosen.found c.in-Some-found-2.flow c.leave_switch.result c.args.state.now c.exec_chosen.new.state (g.met.C.Callees.keeps c.args.callees.now) (subst (λ all. FindsAndCarriesOut (option_map flow_of) (parts.exec_chosen (g.C.Callees.front c.args.callees.now) (g.C.Callees.calls c.args.callees.now) c.args.turns (term_of c.in-Switch.value) (cases_of (map case_of all))) c.args.state.now c.exec_chosen.new.state (Ok c.in-Ok-exec_chosen.found)) c.deref.ensures.value c.in-Ok-exec_chosen.ensures) c.in-Some-found-2.is c.leave_switch.ensures)
+pub exec_switch-returns-in-Some : goal.exec_switch-returns-in-Some
+exec_switch-returns-in-Some g t c =
+    at_form (g.C.Callees.front c.args.callees.now) (g.C.Callees.calls c.args.callees.now) c.args.turns (statement_of c.args.statement.now) (e.switch c.in-Switch.at (term_of c.in-Switch.value) (cases_of (map case_of c.in-Switch.cases.items)) (block_of c.in-Switch.default)) c.args.state.now c.exec_chosen.new.state ((Ok c.leave_switch.result)) (switch_at c.args.statement.now c.in-Switch.at c.in-Switch.value c.in-Switch.cases c.in-Switch.default c.in-Switch.is) (switch_some (g.C.Callees.front c.args.callees.now) (g.C.Callees.calls c.args.callees.now) c.in-Switch.at c.args.turns (term_of c.in-Switch.value) (cases_of (map case_of c.in-Switch.cases.items)) (block_of c.in-Switch.default) c.in-Ok.found c.in-Some.flow c.leave_switch.result c.args.state.now c.exec_chosen.new.state (g.met.C.Callees.keeps c.args.callees.now) (subst (λ all. FindsAndCarriesOut (option_map flow_of) (parts.exec_chosen (g.C.Callees.front c.args.callees.now) (g.C.Callees.calls c.args.callees.now) c.args.turns (term_of c.in-Switch.value) (cases_of (map case_of all))) c.args.state.now c.exec_chosen.new.state (Ok c.in-Ok.found)) c.deref.ensures.value c.in-Ok.ensures) c.in-Some.is c.leave_switch.ensures)
 
-pub exec-returns-in-None-found-2 : goal.exec-returns-in-None-found-2
-exec-returns-in-None-found-2 g t c =
-    at_form (g.C.Callees.front c.args.callees.now) (g.C.Callees.calls c.args.callees.now) c.args.turns (statement_of c.args.statement.now) (e.switch c.in-Switch.at (term_of c.in-Switch.value) (cases_of (map case_of c.in-Switch.cases.items)) (block_of c.in-Switch.default)) c.args.state.now c.exec_block-in-None-found-2.new.state (c.leave.result) (switch_at c.args.statement.now c.in-Switch.at c.in-Switch.value c.in-Switch.cases c.in-Switch.default c.in-Switch.is) (switch_none (g.C.Callees.front c.args.callees.now) (g.C.Callees.calls c.args.callees.now) c.in-Switch.at c.args.turns (term_of c.in-Switch.value) (cases_of (map case_of c.in-Switch.cases.items)) (block_of c.in-Switch.default) c.in-Ok-exec_chosen.found c.exec_block-in-None-found-2.result c.leave.result c.args.state.now c.exec_chosen.new.state c.exec_block-in-None-found-2.new.state (g.met.C.Callees.keeps c.args.callees.now) (subst (λ all. FindsAndCarriesOut (option_map flow_of) (parts.exec_chosen (g.C.Callees.front c.args.callees.now) (g.C.Callees.calls c.args.callees.now) c.args.turns (term_of c.in-Switch.value) (cases_of (map case_of all))) c.args.state.now c.exec_chosen.new.state (Ok c.in-Ok-exec_chosen.found)) c.deref.ensures.value c.in-Ok-exec_chosen.ensures) c.in-None-found-2.is c.exec_block-in-None-found-2.ensures c.leave.ensures)
+pub exec_switch-returns-in-None : goal.exec_switch-returns-in-None
+exec_switch-returns-in-None g t c =
+    at_form (g.C.Callees.front c.args.callees.now) (g.C.Callees.calls c.args.callees.now) c.args.turns (statement_of c.args.statement.now) (e.switch c.in-Switch.at (term_of c.in-Switch.value) (cases_of (map case_of c.in-Switch.cases.items)) (block_of c.in-Switch.default)) c.args.state.now c.exec_block.new.state (c.leave.result) (switch_at c.args.statement.now c.in-Switch.at c.in-Switch.value c.in-Switch.cases c.in-Switch.default c.in-Switch.is) (switch_none (g.C.Callees.front c.args.callees.now) (g.C.Callees.calls c.args.callees.now) c.in-Switch.at c.args.turns (term_of c.in-Switch.value) (cases_of (map case_of c.in-Switch.cases.items)) (block_of c.in-Switch.default) c.in-Ok.found c.exec_block.result c.leave.result c.args.state.now c.exec_chosen.new.state c.exec_block.new.state (g.met.C.Callees.keeps c.args.callees.now) (subst (λ all. FindsAndCarriesOut (option_map flow_of) (parts.exec_chosen (g.C.Callees.front c.args.callees.now) (g.C.Callees.calls c.args.callees.now) c.args.turns (term_of c.in-Switch.value) (cases_of (map case_of all))) c.args.state.now c.exec_chosen.new.state (Ok c.in-Ok.found)) c.deref.ensures.value c.in-Ok.ensures) c.in-None.is c.exec_block.ensures c.leave.ensures)
 
-pub exec-returns-in-Err-exec_chosen : goal.exec-returns-in-Err-exec_chosen
-exec-returns-in-Err-exec_chosen g t c =
-    at_fails (g.C.Callees.front c.args.callees.now) (g.C.Callees.calls c.args.callees.now) c.args.turns (statement_of c.args.statement.now) (e.switch c.in-Switch.at (term_of c.in-Switch.value) (cases_of (map case_of c.in-Switch.cases.items)) (block_of c.in-Switch.default)) c.args.state.now c.in-Err-exec_chosen.stop (switch_at c.args.statement.now c.in-Switch.at c.in-Switch.value c.in-Switch.cases c.in-Switch.default c.in-Switch.is) (switch_err (g.C.Callees.front c.args.callees.now) (g.C.Callees.calls c.args.callees.now) c.in-Switch.at c.args.turns (term_of c.in-Switch.value) (cases_of (map case_of c.in-Switch.cases.items)) (block_of c.in-Switch.default) c.args.state.now c.in-Err-exec_chosen.stop (subst (λ all. Fails (parts.exec_chosen (g.C.Callees.front c.args.callees.now) (g.C.Callees.calls c.args.callees.now) c.args.turns (term_of c.in-Switch.value) (cases_of (map case_of all))) c.args.state.now c.in-Err-exec_chosen.stop) c.deref.ensures.value c.in-Err-exec_chosen.ensures))
+pub exec_switch-returns-in-Err : goal.exec_switch-returns-in-Err
+exec_switch-returns-in-Err g t c =
+    at_fails (g.C.Callees.front c.args.callees.now) (g.C.Callees.calls c.args.callees.now) c.args.turns (statement_of c.args.statement.now) (e.switch c.in-Switch.at (term_of c.in-Switch.value) (cases_of (map case_of c.in-Switch.cases.items)) (block_of c.in-Switch.default)) c.args.state.now c.in-Err.stop (switch_at c.args.statement.now c.in-Switch.at c.in-Switch.value c.in-Switch.cases c.in-Switch.default c.in-Switch.is) (switch_err (g.C.Callees.front c.args.callees.now) (g.C.Callees.calls c.args.callees.now) c.in-Switch.at c.args.turns (term_of c.in-Switch.value) (cases_of (map case_of c.in-Switch.cases.items)) (block_of c.in-Switch.default) c.args.state.now c.in-Err.stop (subst (λ all. Fails (parts.exec_chosen (g.C.Callees.front c.args.callees.now) (g.C.Callees.calls c.args.callees.now) c.args.turns (term_of c.in-Switch.value) (cases_of (map case_of all))) c.args.state.now c.in-Err.stop) c.deref.ensures.value c.in-Err.ensures))
 
 pub exec_block-returns-in-Ok : goal.exec_block-returns-in-Ok
 exec_block-returns-in-Ok g t c =
@@ -280,10 +280,46 @@ pub run_elements-returns-in-Some-ended : goal.run_elements-returns-in-Some-ended
 run_elements-returns-in-Some-ended g t c =
     λ none. run_ended (parts.elements_left (g.C.Callees.front c.args.callees.now) (g.C.Callees.calls c.args.callees.now) c.args.turns (option_map variable_of c.args.index.now) (variable_of c.args.variable.now) (block_of c.args.body.now) 0 (map pure_place c.args.row.items)) (parts.elements_left (g.C.Callees.front c.args.callees.now) (g.C.Callees.calls c.args.callees.now) c.args.turns (option_map variable_of c.args.index.now) (variable_of c.args.variable.now) (block_of c.args.body.now) c.loop-place.i (map pure_place (into_iter_items c.loop-place.left))) c.args.state.now c.loop-place.state c.loop-place.ended c.in-Some-ended.ran c.in-Some-ended.is (c.loop-place.invariant.1 none).1
 
-pub exec-returns-in-Ok-elements_of : goal.exec-returns-in-Ok-elements_of
-exec-returns-in-Ok-elements_of g t c =
-    at_form (g.C.Callees.front c.args.callees.now) (g.C.Callees.calls c.args.callees.now) c.args.turns (statement_of c.args.statement.now) (e.for_loop c.in-For.at (option_map variable_of c.in-For.index) (variable_of c.in-For.variable) (term_of c.in-For.array.value) (pure_type c.in-For.array.target) (block_of c.in-For.body)) c.args.state.now c.run_elements.new.state (c.run_elements.result) (for_at c.args.statement.now c.in-For.at c.in-For.index c.in-For.variable c.in-For.array c.in-For.body c.in-For.is) (for_ok (g.C.Callees.front c.args.callees.now) (g.C.Callees.calls c.args.callees.now) c.in-For.at c.args.turns (option_map variable_of c.in-For.index) (variable_of c.in-For.variable) (term_of c.in-For.array.value) (pure_type c.in-For.array.target) (block_of c.in-For.body) c.in-Ok-elements_of.row c.args.state.now c.elements_of.new.state c.run_elements.new.state c.run_elements.result (g.met.C.Callees.keeps c.args.callees.now) c.in-Ok-elements_of.ensures c.run_elements.ensures)
+pub exec_for-returns-in-Ok : goal.exec_for-returns-in-Ok
+exec_for-returns-in-Ok g t c =
+    at_form (g.C.Callees.front c.args.callees.now) (g.C.Callees.calls c.args.callees.now) c.args.turns (statement_of c.args.statement.now) (e.for_loop c.in-For.at (option_map variable_of c.in-For.index) (variable_of c.in-For.variable) (term_of c.in-For.array.value) (pure_type c.in-For.array.target) (block_of c.in-For.body)) c.args.state.now c.run_elements.new.state (c.run_elements.result) (for_at c.args.statement.now c.in-For.at c.in-For.index c.in-For.variable c.in-For.array c.in-For.body c.in-For.is) (for_ok (g.C.Callees.front c.args.callees.now) (g.C.Callees.calls c.args.callees.now) c.in-For.at c.args.turns (option_map variable_of c.in-For.index) (variable_of c.in-For.variable) (term_of c.in-For.array.value) (pure_type c.in-For.array.target) (block_of c.in-For.body) c.in-Ok.row c.args.state.now c.elements_of.new.state c.run_elements.new.state c.run_elements.result (g.met.C.Callees.keeps c.args.callees.now) c.in-Ok.ensures c.run_elements.ensures)
 
-pub exec-returns-in-Err-elements_of : goal.exec-returns-in-Err-elements_of
-exec-returns-in-Err-elements_of g t c =
-    at_fails (g.C.Callees.front c.args.callees.now) (g.C.Callees.calls c.args.callees.now) c.args.turns (statement_of c.args.statement.now) (e.for_loop c.in-For.at (option_map variable_of c.in-For.index) (variable_of c.in-For.variable) (term_of c.in-For.array.value) (pure_type c.in-For.array.target) (block_of c.in-For.body)) c.args.state.now c.in-Err-elements_of.stop (for_at c.args.statement.now c.in-For.at c.in-For.index c.in-For.variable c.in-For.array c.in-For.body c.in-For.is) (for_err (g.C.Callees.front c.args.callees.now) (g.C.Callees.calls c.args.callees.now) c.in-For.at c.args.turns (option_map variable_of c.in-For.index) (variable_of c.in-For.variable) (term_of c.in-For.array.value) (pure_type c.in-For.array.target) (block_of c.in-For.body) c.args.state.now c.in-Err-elements_of.stop c.in-Err-elements_of.ensures)
+pub exec_for-returns-in-Err : goal.exec_for-returns-in-Err
+exec_for-returns-in-Err g t c =
+    at_fails (g.C.Callees.front c.args.callees.now) (g.C.Callees.calls c.args.callees.now) c.args.turns (statement_of c.args.statement.now) (e.for_loop c.in-For.at (option_map variable_of c.in-For.index) (variable_of c.in-For.variable) (term_of c.in-For.array.value) (pure_type c.in-For.array.target) (block_of c.in-For.body)) c.args.state.now c.in-Err.stop (for_at c.args.statement.now c.in-For.at c.in-For.index c.in-For.variable c.in-For.array c.in-For.body c.in-For.is) (for_err (g.C.Callees.front c.args.callees.now) (g.C.Callees.calls c.args.callees.now) c.in-For.at c.args.turns (option_map variable_of c.in-For.index) (variable_of c.in-For.variable) (term_of c.in-For.array.value) (pure_type c.in-For.array.target) (block_of c.in-For.body) c.args.state.now c.in-Err.stop c.in-Err.ensures)
+
+pub exec-returns-in-IfLet : goal.exec-returns-in-IfLet
+exec-returns-in-IfLet g t c = c.exec_if_let.ensures
+
+pub exec-returns-in-IfCast : goal.exec-returns-in-IfCast
+exec-returns-in-IfCast g t c = c.exec_if_cast.ensures
+
+pub exec-returns-in-Switch : goal.exec-returns-in-Switch
+exec-returns-in-Switch g t c = c.exec_switch.ensures
+
+pub exec_if_let-returns-in_default : goal.exec_if_let-returns-in_default
+exec_if_let-returns-in_default g t c = λ w ready. tt
+
+pub exec_if_cast-returns-in_default : goal.exec_if_cast-returns-in_default
+exec_if_cast-returns-in_default g t c = λ w ready. tt
+
+pub exec_switch-returns-in_default : goal.exec_switch-returns-in_default
+exec_switch-returns-in_default g t c = λ w ready. tt
+
+pub exec-returns-in-If : goal.exec-returns-in-If
+exec-returns-in-If g t c = c.exec_if.ensures
+
+pub exec-returns-in-While : goal.exec-returns-in-While
+exec-returns-in-While g t c = c.exec_while.ensures
+
+pub exec-returns-in-For : goal.exec-returns-in-For
+exec-returns-in-For g t c = c.exec_for.ensures
+
+pub exec_if-returns-in_default : goal.exec_if-returns-in_default
+exec_if-returns-in_default g t c = λ w ready. tt
+
+pub exec_while-returns-in_default : goal.exec_while-returns-in_default
+exec_while-returns-in_default g t c = λ w ready. tt
+
+pub exec_for-returns-in_default : goal.exec_for-returns-in_default
+exec_for-returns-in_default g t c = λ w ready. tt

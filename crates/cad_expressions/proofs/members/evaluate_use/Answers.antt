@@ -7,10 +7,10 @@ pub returns-in-Field : goal.returns-in-Field
 returns-in-Field g c = get_arm (g.E.Evaluator.front c.args.evaluator.now) (g.E.Evaluator.calls c.args.evaluator.now) c.args.member.now _ _ (receiver_of c.args.receiver.now) c.args.state.now c.get.new.state c.get.result c.in-Field.is c.get.ensures
 
 pub returns-in-Method : goal.returns-in-Method
-returns-in-Method g c = method_arm (g.E.Evaluator.front c.args.evaluator.now) (g.E.Evaluator.calls c.args.evaluator.now) (g.met.E.Evaluator.keeps c.args.evaluator.now) (receiver_of c.args.receiver.now) _ _ _ _ _ _ c.args.state.now _ _ _ _ _ _ c.in-Method.is c.as_slice.ensures.value c.check_callable-ready.ensures c.arguments_behind-row.ensures c.call_method.ensures
+returns-in-Method g c = method_arm (g.E.Evaluator.front c.args.evaluator.now) (g.E.Evaluator.calls c.args.evaluator.now) (receiver_of c.args.receiver.now) _ _ _ _ _ _ c.args.state.now _ _ c.in-Method.is c.as_slice.ensures.value (c.method_use.ensures _ _)
 
 pub returns-in-BuiltinField : goal.returns-in-BuiltinField
 returns-in-BuiltinField g c = builtin_field_arm (g.E.Evaluator.front c.args.evaluator.now) (g.E.Evaluator.calls c.args.evaluator.now) c.args.member.now _ (receiver_of c.args.receiver.now) c.args.state.now c.read_member.new.state c.read_member.result c.in-BuiltinField.is (c.read_member.ensures (g.E.Evaluator.front c.args.evaluator.now) (g.E.Evaluator.calls c.args.evaluator.now))
 
 pub returns-in-BuiltinCall : goal.returns-in-BuiltinCall
-returns-in-BuiltinCall g c = builtin_call_arm (g.E.Evaluator.front c.args.evaluator.now) (g.E.Evaluator.calls c.args.evaluator.now) (g.met.E.Evaluator.keeps c.args.evaluator.now) (receiver_of c.args.receiver.now) _ _ _ _ _ _ c.args.state.now _ _ _ _ _ _ c.in-BuiltinCall.is c.as_slice-in-BuiltinCall-2.ensures.value c.as_slice-in-BuiltinCall.ensures.value c.check_use-ready.ensures c.arguments_behind-row-in-BuiltinCall.ensures c.call_member.ensures
+returns-in-BuiltinCall g c = builtin_call_arm (g.E.Evaluator.front c.args.evaluator.now) (g.E.Evaluator.calls c.args.evaluator.now) (receiver_of c.args.receiver.now) _ _ _ _ _ _ c.args.state.now _ _ c.in-BuiltinCall.is c.as_slice-in-BuiltinCall.ensures.value c.as_slice-in-BuiltinCall-2.ensures.value c.builtin_use.ensures

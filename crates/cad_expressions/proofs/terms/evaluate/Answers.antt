@@ -9,64 +9,64 @@ pub returns-in-Meta : goal.returns-in-Meta
 returns-in-Meta g c = meta_arm (g.E.Evaluator.front c.args.evaluator.now) (g.E.Evaluator.calls c.args.evaluator.now) c.args.term.now c.args.state.now c.call_type.new.state c.call_type.result _ c.in-Meta.is c.call_type.ensures
 
 pub returns-in-Copy : goal.returns-in-Copy
-returns-in-Copy g c = copy_arm (g.E.Evaluator.front c.args.evaluator.now) (g.E.Evaluator.calls c.args.evaluator.now) (g.met.E.Evaluator.keeps c.args.evaluator.now) _ _ _ c.args.state.now _ _ _ _ c.in-Copy.is c.deref.ensures c.evaluate_place-found.ensures c.copy_at.ensures
+returns-in-Copy g c = copy_arm (g.E.Evaluator.front c.args.evaluator.now) (g.E.Evaluator.calls c.args.evaluator.now) _ _ _ c.args.state.now _ _ c.in-Copy.is c.deref.ensures c.copy_form.ensures
 
 pub returns-in-Take : goal.returns-in-Take
-returns-in-Take g c = take_arm (g.E.Evaluator.front c.args.evaluator.now) (g.E.Evaluator.calls c.args.evaluator.now) (g.met.E.Evaluator.keeps c.args.evaluator.now) _ _ _ c.args.state.now _ _ _ _ c.in-Take.is c.deref-in-Take.ensures c.evaluate_place-found-in-Take.ensures c.take_at.ensures
+returns-in-Take g c = take_arm (g.E.Evaluator.front c.args.evaluator.now) (g.E.Evaluator.calls c.args.evaluator.now) _ _ _ c.args.state.now _ _ c.in-Take.is c.deref-in-Take.ensures c.take_form.ensures
 
 pub returns-in-IsNil : goal.returns-in-IsNil
-returns-in-IsNil g c = is_nil_arm (g.E.Evaluator.front c.args.evaluator.now) (g.E.Evaluator.calls c.args.evaluator.now) (g.met.E.Evaluator.keeps c.args.evaluator.now) _ _ _ _ c.args.state.now _ _ _ _ c.in-IsNil.is c.deref-in-IsNil.ensures c.evaluate_place-found-in-IsNil.ensures c.nil_at.ensures
+returns-in-IsNil g c = is_nil_arm (g.E.Evaluator.front c.args.evaluator.now) (g.E.Evaluator.calls c.args.evaluator.now) _ _ _ _ c.args.state.now _ _ c.in-IsNil.is c.deref-in-IsNil.ensures c.nil_form.ensures
 
 pub returns-in-Borrow : goal.returns-in-Borrow
-returns-in-Borrow g c = borrow_arm (g.E.Evaluator.front c.args.evaluator.now) (g.E.Evaluator.calls c.args.evaluator.now) (g.met.E.Evaluator.keeps c.args.evaluator.now) _ _ _ _ _ _ _ c.args.state.now _ _ _ _ c.in-Borrow.is c.deref-in-Borrow.ensures c.evaluate_place-found-in-Borrow.ensures c.borrow_at.ensures
+returns-in-Borrow g c = borrow_arm (g.E.Evaluator.front c.args.evaluator.now) (g.E.Evaluator.calls c.args.evaluator.now) _ _ _ _ _ _ _ c.args.state.now _ _ c.in-Borrow.is c.deref-in-Borrow.ensures (c.borrow_form.ensures _)
 
 pub returns-in-Array : goal.returns-in-Array
-returns-in-Array g c = array_arm (g.E.Evaluator.front c.args.evaluator.now) (g.E.Evaluator.calls c.args.evaluator.now) (g.met.E.Evaluator.keeps c.args.evaluator.now) _ _ _ _ c.args.state.now _ _ _ _ c.in-Array.is c.as_slice.ensures.value c.evaluate_terms-row.ensures (c.array_with.ensures c.evaluate_terms-row.new.state)
+returns-in-Array g c = array_arm (g.E.Evaluator.front c.args.evaluator.now) (g.E.Evaluator.calls c.args.evaluator.now) _ _ _ _ c.args.state.now _ _ c.in-Array.is c.as_slice.ensures.value c.array_form.ensures
 
 pub returns-in-Dictionary : goal.returns-in-Dictionary
-returns-in-Dictionary g c = dictionary_arm (g.E.Evaluator.front c.args.evaluator.now) (g.E.Evaluator.calls c.args.evaluator.now) (g.met.E.Evaluator.keeps c.args.evaluator.now) _ _ _ _ _ c.args.state.now _ _ _ _ c.in-Dictionary.is c.as_slice-in-Dictionary.ensures.value c.evaluate_entries-pairs.ensures c.dictionary_with.ensures
+returns-in-Dictionary g c = dictionary_arm (g.E.Evaluator.front c.args.evaluator.now) (g.E.Evaluator.calls c.args.evaluator.now) _ _ _ _ _ c.args.state.now _ _ c.in-Dictionary.is c.as_slice-in-Dictionary.ensures.value c.dictionary_form.ensures
 
 pub returns-in-Construct : goal.returns-in-Construct
-returns-in-Construct g c = construct_arm (g.E.Evaluator.front c.args.evaluator.now) (g.E.Evaluator.calls c.args.evaluator.now) (g.met.E.Evaluator.keeps c.args.evaluator.now) _ _ _ _ c.args.state.now _ _ _ _ c.in-Construct.is c.as_slice-in-Construct.ensures.value c.evaluate_arguments-row.ensures c.construct_with.ensures
+returns-in-Construct g c = construct_arm (g.E.Evaluator.front c.args.evaluator.now) (g.E.Evaluator.calls c.args.evaluator.now) _ _ _ _ c.args.state.now _ _ c.in-Construct.is c.as_slice-in-Construct.ensures.value c.construct_form.ensures
 
 pub returns-in-Create : goal.returns-in-Create
-returns-in-Create g c = create_arm (g.E.Evaluator.front c.args.evaluator.now) (g.E.Evaluator.calls c.args.evaluator.now) (g.met.E.Evaluator.keeps c.args.evaluator.now) _ _ _ _ c.args.state.now _ _ _ _ c.in-Create.is c.as_slice-in-Create.ensures.value c.evaluate_arguments-row-in-Create.ensures c.create_with.ensures
+returns-in-Create g c = create_arm (g.E.Evaluator.front c.args.evaluator.now) (g.E.Evaluator.calls c.args.evaluator.now) _ _ _ _ c.args.state.now _ _ c.in-Create.is c.as_slice-in-Create.ensures.value c.create_form.ensures
 
 pub returns-in-Call : goal.returns-in-Call
-returns-in-Call g c = call_arm (g.E.Evaluator.front c.args.evaluator.now) (g.E.Evaluator.calls c.args.evaluator.now) (g.met.E.Evaluator.keeps c.args.evaluator.now) _ _ _ _ _ _ c.args.state.now _ _ _ _ c.in-Call.is c.as_slice-in-Call.ensures.value c.evaluate_arguments-row-in-Call.ensures c.call_with.ensures
+returns-in-Call g c = call_arm (g.E.Evaluator.front c.args.evaluator.now) (g.E.Evaluator.calls c.args.evaluator.now) _ _ _ _ _ _ c.args.state.now _ _ c.in-Call.is c.as_slice-in-Call.ensures.value (c.call_form.ensures _ _)
 
 pub returns-in-Builtin : goal.returns-in-Builtin
-returns-in-Builtin g c = builtin_arm (g.E.Evaluator.front c.args.evaluator.now) (g.E.Evaluator.calls c.args.evaluator.now) (g.met.E.Evaluator.keeps c.args.evaluator.now) _ _ _ _ _ _ c.args.state.now _ _ _ _ c.in-Builtin.is c.as_slice-in-Builtin-2.ensures.value c.as_slice-in-Builtin.ensures.value c.evaluate_arguments-row-in-Builtin.ensures c.builtin_with.ensures
+returns-in-Builtin g c = builtin_arm (g.E.Evaluator.front c.args.evaluator.now) (g.E.Evaluator.calls c.args.evaluator.now) _ _ _ _ _ _ c.args.state.now _ _ c.in-Builtin.is c.as_slice-in-Builtin.ensures.value c.as_slice-in-Builtin-2.ensures.value c.builtin_form.ensures
 
 pub returns-in-On : goal.returns-in-On
-returns-in-On g c = on_arm (g.E.Evaluator.front c.args.evaluator.now) (g.E.Evaluator.calls c.args.evaluator.now) (g.met.E.Evaluator.keeps c.args.evaluator.now) _ _ _ _ _ c.args.state.now _ _ _ _ _ _ c.in-On.is c.deref-in-On.ensures c.deref-in-On-2.ensures c.evaluate_place-found-in-On.ensures c.receive_at-receiver.ensures c.use_on.ensures
+returns-in-On g c = on_arm (g.E.Evaluator.front c.args.evaluator.now) (g.E.Evaluator.calls c.args.evaluator.now) _ _ _ _ _ c.args.state.now _ _ c.in-On.is c.deref-in-On.ensures c.deref-in-On-2.ensures c.use_form.ensures
 
 pub returns-in-Chain : goal.returns-in-Chain
-returns-in-Chain g c = chain_arm (g.E.Evaluator.front c.args.evaluator.now) (g.E.Evaluator.calls c.args.evaluator.now) (g.met.E.Evaluator.keeps c.args.evaluator.now) _ _ _ _ _ _ c.args.state.now _ _ _ _ _ _ c.in-Chain.is c.deref-in-Chain.ensures c.deref-in-Chain-2.ensures c.evaluate_place-found-in-Chain.ensures c.chain_at-receiver.ensures c.use_in_chain.ensures
+returns-in-Chain g c = chain_arm (g.E.Evaluator.front c.args.evaluator.now) (g.E.Evaluator.calls c.args.evaluator.now) _ _ _ _ _ _ c.args.state.now _ _ c.in-Chain.is c.deref-in-Chain.ensures c.deref-in-Chain-2.ensures c.chain_form.ensures
 
 pub returns-in-Index : goal.returns-in-Index
-returns-in-Index g c = index_arm (g.E.Evaluator.front c.args.evaluator.now) (g.E.Evaluator.calls c.args.evaluator.now) (g.met.E.Evaluator.keeps c.args.evaluator.now) _ _ _ _ _ _ c.args.state.now _ _ _ _ _ _ c.in-Index.is c.deref-in-Index.ensures c.deref-in-Index-2.ensures c.evaluate_place-found-in-Index.ensures c.receive_at-receiver-in-Index.ensures c.index_on.ensures
+returns-in-Index g c = index_arm (g.E.Evaluator.front c.args.evaluator.now) (g.E.Evaluator.calls c.args.evaluator.now) _ _ _ _ _ _ c.args.state.now _ _ c.in-Index.is c.deref-in-Index.ensures c.deref-in-Index-2.ensures (c.index_form.ensures _)
 
 pub returns-in-Hold : goal.returns-in-Hold
-returns-in-Hold g c = hold_arm (g.E.Evaluator.front c.args.evaluator.now) (g.E.Evaluator.calls c.args.evaluator.now) (g.met.E.Evaluator.keeps c.args.evaluator.now) _ _ _ _ _ _ _ c.args.state.now _ _ _ _ _ _ _ _ c.in-Hold.is c.deref-in-Hold.ensures c.deref-in-Hold-2.ensures c.value-held.ensures c.put_aside-aside.ensures c.evaluate_behind-found.ensures c.take_down.ensures
+returns-in-Hold g c = hold_arm (g.E.Evaluator.front c.args.evaluator.now) (g.E.Evaluator.calls c.args.evaluator.now) _ _ _ _ _ _ _ c.args.state.now _ _ c.in-Hold.is c.deref-in-Hold.ensures c.deref-in-Hold-2.ensures (c.hold_form.ensures _)
 
 pub returns-in-Destroy : goal.returns-in-Destroy
-returns-in-Destroy g c = destroy_arm (g.E.Evaluator.front c.args.evaluator.now) (g.E.Evaluator.calls c.args.evaluator.now) (g.met.E.Evaluator.keeps c.args.evaluator.now) _ _ _ c.args.state.now _ _ _ _ c.in-Destroy.is c.deref-in-Destroy.ensures c.value-found.ensures c.destroy_found.ensures
+returns-in-Destroy g c = destroy_arm (g.E.Evaluator.front c.args.evaluator.now) (g.E.Evaluator.calls c.args.evaluator.now) _ _ _ c.args.state.now _ _ c.in-Destroy.is c.deref-in-Destroy.ensures c.destroy_form.ensures
 
 pub returns-in-Unary : goal.returns-in-Unary
-returns-in-Unary g c = unary_arm (g.E.Evaluator.front c.args.evaluator.now) (g.E.Evaluator.calls c.args.evaluator.now) (g.met.E.Evaluator.keeps c.args.evaluator.now) _ _ _ _ c.args.state.now _ _ _ _ c.in-Unary.is c.deref-in-Unary.ensures c.value-found-in-Unary.ensures c.unary_of.ensures
+returns-in-Unary g c = unary_arm (g.E.Evaluator.front c.args.evaluator.now) (g.E.Evaluator.calls c.args.evaluator.now) _ _ _ _ c.args.state.now _ _ c.in-Unary.is c.deref-in-Unary.ensures c.unary_form.ensures
 
 pub returns-in-Force : goal.returns-in-Force
-returns-in-Force g c = force_arm (g.E.Evaluator.front c.args.evaluator.now) (g.E.Evaluator.calls c.args.evaluator.now) (g.met.E.Evaluator.keeps c.args.evaluator.now) _ _ _ c.args.state.now _ _ _ _ c.in-Force.is c.deref-in-Force.ensures c.value-found-in-Force.ensures (c.force_of.ensures c.value-found-in-Force.new.state)
+returns-in-Force g c = force_arm (g.E.Evaluator.front c.args.evaluator.now) (g.E.Evaluator.calls c.args.evaluator.now) _ _ _ c.args.state.now _ _ c.in-Force.is c.deref-in-Force.ensures c.force_form.ensures
 
 pub returns-in-Cast : goal.returns-in-Cast
-returns-in-Cast g c = cast_arm (g.E.Evaluator.front c.args.evaluator.now) (g.E.Evaluator.calls c.args.evaluator.now) (g.met.E.Evaluator.keeps c.args.evaluator.now) _ _ _ _ _ c.args.state.now _ _ _ _ c.in-Cast.is c.deref-in-Cast.ensures c.value-found-in-Cast.ensures c.cast_of.ensures
+returns-in-Cast g c = cast_arm (g.E.Evaluator.front c.args.evaluator.now) (g.E.Evaluator.calls c.args.evaluator.now) _ _ _ _ _ c.args.state.now _ _ c.in-Cast.is c.deref-in-Cast.ensures c.cast_form.ensures
 
 pub returns-in-Binary : goal.returns-in-Binary
-returns-in-Binary g c = binary_arm (g.E.Evaluator.front c.args.evaluator.now) (g.E.Evaluator.calls c.args.evaluator.now) (g.met.E.Evaluator.keeps c.args.evaluator.now) _ _ _ _ _ _ c.args.state.now _ _ _ _ c.in-Binary.is c.deref-in-Binary.ensures c.deref-in-Binary-2.ensures c.value-left.ensures c.combine.ensures
+returns-in-Binary g c = binary_arm (g.E.Evaluator.front c.args.evaluator.now) (g.E.Evaluator.calls c.args.evaluator.now) _ _ _ _ _ _ c.args.state.now _ _ c.in-Binary.is c.deref-in-Binary.ensures c.deref-in-Binary-2.ensures c.binary_form.ensures
 
 pub returns-in-Coalesce : goal.returns-in-Coalesce
-returns-in-Coalesce g c = coalesce_arm (g.E.Evaluator.front c.args.evaluator.now) (g.E.Evaluator.calls c.args.evaluator.now) (g.met.E.Evaluator.keeps c.args.evaluator.now) _ _ _ _ _ _ _ c.args.state.now _ _ _ _ c.in-Coalesce.is c.deref-in-Coalesce.ensures c.deref-in-Coalesce-2.ensures c.value-found-in-Coalesce.ensures c.coalesce.ensures
+returns-in-Coalesce g c = coalesce_arm (g.E.Evaluator.front c.args.evaluator.now) (g.E.Evaluator.calls c.args.evaluator.now) _ _ _ _ _ _ _ c.args.state.now _ _ c.in-Coalesce.is c.deref-in-Coalesce.ensures c.deref-in-Coalesce-2.ensures c.coalesce_form.ensures
 
 pub returns-in-Conditional : goal.returns-in-Conditional
-returns-in-Conditional g c = conditional_arm (g.E.Evaluator.front c.args.evaluator.now) (g.E.Evaluator.calls c.args.evaluator.now) (g.met.E.Evaluator.keeps c.args.evaluator.now) _ _ _ _ _ _ _ c.args.state.now _ _ _ _ _ _ c.in-Conditional.is c.deref-in-Conditional.ensures c.deref-in-Conditional-2.ensures c.deref-in-Conditional-3.ensures c.value-found-in-Conditional.ensures (c.truth_of-truth.ensures c.value-found-in-Conditional.new.state) c.choose_branch.ensures
+returns-in-Conditional g c = conditional_arm (g.E.Evaluator.front c.args.evaluator.now) (g.E.Evaluator.calls c.args.evaluator.now) _ _ _ _ _ _ _ c.args.state.now _ _ c.in-Conditional.is c.deref-in-Conditional.ensures c.deref-in-Conditional-2.ensures c.deref-in-Conditional-3.ensures c.conditional_form.ensures

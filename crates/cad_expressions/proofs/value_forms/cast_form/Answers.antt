@@ -1,0 +1,5 @@
+use Rattle.cad_expressions.proofs.Composed.{cast_parts}
+use Rattle.cad_expressions.proofs.value_forms.cast_form.Goals as goal
+
+pub returns : goal.returns
+returns g c = cast_parts (g.E.Evaluator.front c.args.evaluator.now) (g.E.Evaluator.calls c.args.evaluator.now) (g.met.E.Evaluator.keeps c.args.evaluator.now) _ _ _ c.args.state.now _ _ _ _ c.value-found.ensures c.cast_of.ensures

@@ -1,0 +1,5 @@
+use Rattle.cad_expressions.proofs.Composed.{coalesce_parts}
+use Rattle.cad_expressions.proofs.value_forms.coalesce_form.Goals as goal
+
+pub returns : goal.returns
+returns g c = coalesce_parts (g.E.Evaluator.front c.args.evaluator.now) (g.E.Evaluator.calls c.args.evaluator.now) (g.met.E.Evaluator.keeps c.args.evaluator.now) _ _ _ _ c.args.state.now _ _ _ _ c.value-found.ensures c.coalesce.ensures

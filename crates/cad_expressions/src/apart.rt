@@ -1,0 +1,16 @@
+// How values are let go behind what is called. None of these is inlined, so that a form holds no room on the stack for them while
+// its parts are evaluated.
+use cad_receivers::Receiver;
+use cad_rows::Place;
+
+/// Lets a row of values go.
+#[inline(never)]
+pub(crate) fn discard_row(row: Vec<Place>) {
+    cad_rows::discard_row(row)
+}
+
+/// Lets a receiver go.
+#[inline(never)]
+pub(crate) fn discard_receiver(receiver: Receiver) {
+    cad_receivers::discard_receiver(receiver)
+}
