@@ -9,7 +9,7 @@ It reads the front end's verdict alone, over the libraries of crates/*/out/rlib,
 import pathlib, subprocess, sys, tempfile
 
 ROOT = pathlib.Path(__file__).resolve().parent.parent
-KIT = pathlib.Path("/opt/rattle")
+KIT = pathlib.Path(subprocess.run(["rt", "doc"], capture_output=True, text=True, check=True).stdout.strip()).parent
 REFUSED = "error[linear-value-let-go]"
 
 # by crates, the types of these values, and the calls that end them
