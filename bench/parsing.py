@@ -12,34 +12,10 @@ usage: bench/parsing.py [PROGRAM]
 import json, pathlib, resource, subprocess, sys, tempfile
 
 ROOT = pathlib.Path(__file__).resolve().parent.parent
-CONTRACT = """access(all) contract Token%d {
-  access(all) entitlement Withdraw
-  access(all) event Moved(id: UInt64, amount: UFix64)
-  access(all) var supply: UFix64
-  access(all) resource interface Receiver {
-    access(all) fun deposit(from: @Vault)
-  }
-  access(all) resource Vault: Receiver {
-    access(all) var balance: UFix64
-    init(balance: UFix64) { self.balance = balance }
-    access(Withdraw) fun withdraw(amount: UFix64): @Vault {
-      pre { self.balance >= amount: "too little" }
-      self.balance = self.balance - amount
-      return <-create Vault(balance: amount)
-    }
-    access(all) fun deposit(from: @Vault) {
-      self.balance = self.balance + from.balance
-      emit Moved(id: self.uuid, amount: from.balance)
-      destroy from
-    }
-  }
-  access(all) fun empty(): @Vault { return <-create Vault(balance: 0.0) }
-  init() {
-    self.supply = 1000.0
-    self.account.storage.save(<-create Vault(balance: 1000.0), to: /storage/token)
-  }
-}
-"""
+sys.path.insert(0, str(ROOT / "tests"))
+import generate
+
+CONTRACT = generate.TOKEN.replace("contract Token", "contract Token%d")
 COMPARED = "access(all) fun main(): [Bool] { return [%s] }"
 # What is read, the code of so many parts, their number, the lines of a run, and what each reply has in it.
 ROWS = [
