@@ -14,8 +14,7 @@ import sys
 import tempfile
 
 import libraries
-
-KIT = "/opt/rattle"
+from libraries import KIT
 
 
 def tree_of(top):
@@ -27,20 +26,10 @@ def tree_of(top):
         return libraries.git(top, "write-tree", env=env).strip()
 
 
-def in_order(text, crate, found, kit):
-    """Adds what a crate stands on, each behind what it uses, and the crates of the kit among it."""
-    for low in text.needs[crate]:
-        if low not in text.needs:
-            kit.add(low)
-        elif low not in found:
-            in_order(text, low, found, kit)
-            found.append(low)
-
-
 def words_of(top, built, crate, flags):
     """The words of `rattle check`, and the crates that it reads as source."""
     text, order, kit = libraries.Text(top, tree_of(top), [crate]), [], {"core", "std"}
-    in_order(text, crate, order, kit)
+    libraries.in_order(text, crate, order, kit)
     sources = []
     for it in order:
         if not os.path.isdir(text.library(built, it)) or any(low in sources for low in text.below(it)):

@@ -295,6 +295,192 @@ def references():
     yield "a type as a result", [(gives("AnyStruct", "Type<Int>()"), failed(134))]
 
 
+# ---- accounts: each program reaches others than those that sign
+
+
+SHARE = """a.storage.save(%d, to: /storage/n)
+a.capabilities.publish(a.capabilities.storage.issue<&Int>(/storage/n), at: /public/n)"""
+LIST = """a.storage.save([0], to: /storage/all)
+a.capabilities.publish(a.capabilities.storage.issue<auth(Mutate) &[Int]>(/storage/all), at: /public/all)"""
+
+
+def shared(count):
+    """So many accounts, each of which publishes its own number."""
+    yield from [(ACCOUNT, account(n)) for n in range(1, count + 1)]
+    yield from [(prepared(SHARE % n, hex(n)), done()) for n in range(1, count + 1)]
+
+
+def listed(count):
+    """So many accounts, each of which publishes a list that holds 0, to which everybody may append."""
+    yield from [(ACCOUNT, account(n)) for n in range(1, count + 1)]
+    yield from [(prepared(LIST, hex(n)), done()) for n in range(1, count + 1)]
+
+
+def addresses(last):
+    return "[" + ", ".join(hex(n) for n in range(1, last + 1)) + "]"
+
+
+def total(last):
+    """A script: the sum of what the accounts up to this one publish, where they are there and publish a number."""
+    return script(
+        "access(all) fun main(): Int { let all: [Address] = " + addresses(last) + "\nvar sum = 0\nfor each in all {"
+        " if let n = getAccount(each).capabilities.borrow<&Int>(/public/n) { sum = sum + *n } }\nreturn sum }"
+    )
+
+
+def appended(last, what, *signers, end=""):
+    """A transaction that appends a number to the lists of the accounts up to this one, and then ends so."""
+    given = ", ".join(f"a{n}: &Account" for n in range(len(signers)))
+    code = "transaction { " + (f"prepare({given}) {{}} " if signers else "") + "execute { let all: [Address] = " + addresses(last) + "\nfor each in all {"
+    code += f" getAccount(each).capabilities.borrow<auth(Mutate) &[Int]>(/public/all)!.append({what}) }}\n{end} }} }}"
+    return transaction(code, *signers)
+
+
+def lists(last):
+    """A script: the last numbers of the lists of the accounts up to this one, one behind the other, and how many there are in all."""
+    return script(
+        "access(all) fun main(): String { let all: [Address] = " + addresses(last) + "\nvar text = \"\"\nvar count = 0\nfor each in all {"
+        " let list = getAccount(each).capabilities.borrow<&[Int]>(/public/all)!\ncount = count + list.length\n"
+        "text = text.concat(list[list.length - 1].toString()).concat(\" \") }\nreturn text.concat(count.toString()) }"
+    )
+
+
+def told(*numbers):
+    return result("String", " ".join(map(str, numbers)))
+
+
+NOWHERE = """access(all) fun main(): Bool {
+  let a = getAccount(%s)
+  let c = a.capabilities.get<&Int>(/public/n)
+  assert(a.address == %s && c.address == %s && c.id == 0)
+  assert(a.storage.type(at: /storage/n) == nil && !a.storage.check<Int>(from: /storage/n))
+  assert(!a.capabilities.exists(/public/n) && a.capabilities.borrow<&Int>(/public/n) == nil)
+  return c.borrow() == nil && !c.check()
+}"""
+BOX = """access(all) contract Box {
+  access(all) fun put(_ n: Int) {
+    let old = self.account.storage.load<Int>(from: /storage/n) ?? 0
+    self.account.storage.save(old + n, to: /storage/n)
+  }
+  access(all) fun get(): Int? { return self.account.storage.copy<Int>(from: /storage/n) }
+}"""
+TAKE = """let v <- b.storage.load<@Token.Vault>(from: /storage/token)!
+a.storage.save(<-v, to: /storage/other)"""
+OWNER = "getAccount(%s).capabilities.borrow<&Token.Vault>(/public/token)!.owner!.address"
+
+
+def both(code, *signers, before=""):
+    """A transaction whose prepare has all rights on two accounts."""
+    return transaction(before + "transaction { prepare(a: auth(Storage) &Account, b: auth(Storage) &Account) {\n" + code + "\n} }", *signers)
+
+
+def accounts():
+    for number in "0x0", "0x3", "0xffffffffffffffff":
+        yield f"an account that isn't there looks empty: {number}", [*shared(2), (script(NOWHERE % (number, number, number)), TRUE)]
+    sums = (2, 3), (15, 120), (16, 136), (17, 153), (20, 210), (25, 210)
+    yield "what the first of 20 accounts publish", [*shared(20), *[(total(last), result("Int", str(sum_of))) for last, sum_of in sums]]
+    reached = "access(all) fun main(): Bool { return getAccount(0x1).capabilities.exists(/public/n) && getAccount(0x2).capabilities.exists(/public/n) }"
+    yield "units are those of one run, however often it begins", [*shared(2), (script(reached, limit=5), LIMIT), (script(reached, limit=6), TRUE)]
+    yield "transactions that nobody or others sign change up to 18 accounts", [
+        *listed(18),
+        (appended(18, 1), done()),
+        (lists(18), told(*[1] * 18, 36)),
+        (appended(17, 2), done()),
+        (lists(18), told(*[2] * 17, 1, 53)),
+        (appended(16, 3, "0x11"), done()),
+        (lists(18), told(*[3] * 16, 2, 1, 69)),
+        (appended(2, 4, "0x5", "0x12"), done()),
+        (lists(18), told(4, 4, *[3] * 14, 2, 1, 71)),
+        (appended(1, 5), done()),
+        (lists(18), told(5, 4, *[3] * 14, 2, 1, 72)),
+    ]
+    stopped = appended(3, 7, "0x1", end='panic("stop")')
+    yield "a transaction that fails changes none of the accounts that it reached", [
+        *listed(3),
+        (stopped, failed(109)),
+        (lists(3), told(0, 0, 0, 3)),
+        (appended(4, 7), failed(106)),
+        (lists(3), told(0, 0, 0, 3)),
+    ]
+    names = [f"a{n}" for n in range(1, 19)]
+    given = ", ".join(f"{name}: auth(Storage) &Account" for name in names)
+    loaded = " + ".join(f"{name}.storage.load<Int>(from: /storage/n)!" for name in names)
+    gathered = "transaction { prepare(" + given + ") { a18.storage.save(" + loaded + ", to: /storage/n) } }"
+    signers = [hex(n) for n in range(1, 19)]
+    yield "18 signers", [
+        *shared(20),
+        (transaction(gathered, *signers), done()),
+        (total(17), result("Int", "0")),
+        (total(18), result("Int", "171")),
+        (transaction(gathered, *signers), failed(106)),
+        (total(20), result("Int", "210")),
+        (transaction(gathered, *signers[:-1]), bad(26)),
+        (transaction(gathered, *signers[:-1], "0x15"), bad(26)),
+    ]
+    yield "an account that signs twice, or more often than there are parameters", [
+        *shared(1),
+        (transaction("transaction { prepare(a: &Account) {} }", *["0x1"] * 100000), bad(26)),
+        (both("a.storage.save(5, to: /storage/m)\nassert(b.storage.load<Int>(from: /storage/m)! == 5)", "0x1", "0x1"), done()),
+        (gives("Bool", "getAccount(0x1).storage.type(at: /storage/m) == nil"), TRUE),
+    ]
+    kept = "a.storage.save(getAccount(0x2).capabilities.get<&Int>(/public/n), to: /storage/c)"
+    lent = "let c = a.storage.copy<Capability<&Int>>(from: /storage/c)!\n%s"
+    gone = "a.capabilities.storage.getController(byCapabilityID: 1)!.delete()"
+    yield "a capability of another account, stored, used and taken back", [
+        *shared(3),
+        (prepared(kept, "0x3"), done()),
+        (prepared(lent % "assert(c.address == 0x2 && c.id == 1 && c.check() && *(c.borrow()!) == 2)", "0x3"), done()),
+        (prepared(lent % "a.capabilities.publish(c, at: /public/c)", "0x3"), failed(117)),
+        (prepared(gone, "0x2"), done()),
+        (prepared(lent % "assert(c.address == 0x2 && c.id == 1 && !c.check() && c.borrow() == nil)", "0x3"), done()),
+        (total(3), result("Int", "4")),
+    ]
+    put = "import Box from 0x1\ntransaction { prepare(a: &Account) { Box.put(%d) } }"
+    get = script("import Box from 0x1\naccess(all) fun main(): Int? { return Box.get() }")
+    some = '{"reply":"ok","result":{"type":"Optional","value":{"type":"Int","value":"%d"}}}'
+    yield "a contract stores in its account, whoever signs", [
+        (ACCOUNT, account(1)),
+        (ACCOUNT, account(2)),
+        (deploy("Box", BOX), done()),
+        (get, '{"reply":"ok","result":{"type":"Optional","value":null}}'),
+        (transaction(put % 3, "0x2"), done()),
+        (transaction(put % 4, "0x1"), done()),
+        (get, some % 7),
+        (gives("Bool", "getAccount(0x2).storage.type(at: /storage/n) == nil"), TRUE),
+    ]
+    seven = 'a.contracts.add(name: "Seven", code: "access(all) contract Seven { access(all) fun n(): Int { return 7 } }".utf8)'
+    adds = "transaction { prepare(a: auth(Contracts) &Account) {\n" + seven + "\n} execute { let all: [Address] = " + addresses(3)
+    adds += "\nfor each in all { getAccount(each).capabilities.borrow<auth(Mutate) &[Int]>(/public/all)!.append(9) }%s } }"
+    use = script("import Seven from 0x2\naccess(all) fun main(): Int { return Seven.n() }")
+    yield "a contract is added by a transaction that reaches other accounts", [
+        *listed(3),
+        (transaction(adds % '\npanic("stop")', "0x2"), failed(109)),
+        (use, rejected(0, "Seven", "resolve")),
+        (lists(3), told(0, 0, 0, 3)),
+        (transaction(adds % "", "0x2"), done()),
+        (use, result("Int", "7")),
+        (lists(3), told(9, 9, 9, 6)),
+        (transaction(adds % "", "0x2"), failed(118)),
+        (lists(3), told(9, 9, 9, 6)),
+    ]
+    yield "a vault goes from one account to another", [
+        *SENT,
+        (tokens("Address", OWNER % "0x2"), result("Address", "0x0000000000000002")),
+        (ACCOUNT, account(3)),
+        (both(TAKE, "0x3", "0x2", before="import Token from 0x1\n"), done()),
+        (gives("Bool", "getAccount(0x2).storage.type(at: /storage/token) == nil"), TRUE),
+        (tokens("Bool", "getAccount(0x2).capabilities.borrow<&Token.Vault>(/public/token) == nil"), TRUE),
+        (tokens("Bool", "getAccount(0x3).storage.check<@Token.Vault>(from: /storage/other)"), TRUE),
+        (transaction(SETUP, "0x3"), done('"4"')),
+        (transaction(PUBLISH, "0x3"), done()),
+        (tokens("Address", OWNER % "0x3"), result("Address", "0x0000000000000003")),
+        (transaction(TRANSFER, "0x1", arguments=[value("UFix64", "1.0"), value("Address", "0x2")]), failed(109)),
+        (transaction(TRANSFER, "0x1", arguments=[value("UFix64", "1.0"), value("Address", "0x4")]), failed(109)),
+        (transaction(SETUP, "0x2"), done('"5"')),
+        (tokens("Address", OWNER % "0x2"), result("Address", "0x0000000000000002")),
+    ]
+
+
 # ---- contracts
 
 
@@ -371,7 +557,7 @@ def main():
         sys.exit(__doc__)
     program = str(pathlib.Path(sys.argv[1]).resolve())
     tried, wrong = 0, 0
-    for part in numbers, texts, containers, requests, token, capabilities, references, contracts:
+    for part in numbers, texts, containers, requests, token, capabilities, references, accounts, contracts:
         for what, pairs in part():
             tried += 1
             found = list(differences(program, pairs))

@@ -1,5 +1,6 @@
 -- Calls, by their parts.
 use Rattle.std.proofs.Common.{◌≡◌, refl, sym, ap, subst}
+use Rattle.std.specs.Global.{Box}
 use Rattle.std.specs.Prelude.{ℕ, Bool, true, false, List, length, Option, Some, None, reverse, Result, Ok, Err}
 use Rattle.cad_syntax.specs.Types.{PureType}
 use Rattle.cad_syntax.specs.declared.type_id.TypeId.{TypeId}
@@ -14,6 +15,7 @@ use Rattle.cad_evaluation.specs.Ending.{ended}
 use Rattle.cad_evaluation.specs.Numbers.{truth_of}
 use Rattle.cad_evaluation.specs.Statements.{emits}
 use Rattle.cad_evaluation.specs.Terms.{eval}
+use Rattle.cad_execution.specs.Passed.{tree_in}
 use Rattle.cad_function_sources.specs.Sources.{as_run}
 use Rattle.cad_labels.specs.Laws.{HasNone, AnyOne, CalleesKeep}
 use Rattle.cad_labels.proofs.Forms.{keeps_spend}
@@ -32,16 +34,16 @@ use Rattle.cad_world.specs.State.{Outcome, bind, Action, ◌>>◌, done, fail, b
 
 -- ---- conditions
 
-pub message_ok : (front : Front) (calls : Calls) (a : e.TermTree) (b : Tree) (x y : RunState) → FindsAndCarriesOut pure_tree (eval front calls a) x y (Ok b)
+pub message_ok : (front : Front) (calls : Calls) (a : e.TermTree) (b : Box Tree) (x y : RunState) → FindsAndCarriesOut tree_in (eval front calls a) x y (Ok b)
     → FindsAndCarriesOut no_value (spec.message_of front calls (Some a)) x y (Ok tt)
 message_ok front calls a b x y first w ready = ap (λ o. bind o (λ _. done)) (first w ready)
 
 pub message_err : (front : Front) (calls : Calls) (a : e.TermTree) (x : RunState) (stop : Stop) → Fails (eval front calls a) x stop → Fails (spec.message_of front calls (Some a)) x stop
 message_err front calls a x stop h = stops (eval front calls a) (λ _. done) x stop h
 
-pub value_ok : (front : Front) (calls : Calls) (a : e.TermTree) (x y z : RunState) (r : Result Tree Stop)
-    → CarriesOut no_value tick x y (Ok tt) → FindsAndCarriesOut pure_tree (eval front calls a) y z r → FindsAndCarriesOut pure_tree (parts.value_of front calls a) x z r
-value_ok front calls a x y z r first second = both AnyOne tick (λ _. eval front calls a) no_value pure_tree tt x y z r (keeps_spend 1) (λ w ready. first w) second
+pub value_ok : (front : Front) (calls : Calls) (a : e.TermTree) (x y z : RunState) (r : Result (Box Tree) Stop)
+    → CarriesOut no_value tick x y (Ok tt) → FindsAndCarriesOut tree_in (eval front calls a) y z r → FindsAndCarriesOut tree_in (parts.value_of front calls a) x z r
+value_ok front calls a x y z r first second = both AnyOne tick (λ _. eval front calls a) no_value tree_in tt x y z r (keeps_spend 1) (λ w ready. first w) second
 
 pub value_err : (front : Front) (calls : Calls) (a : e.TermTree) (x : RunState) (stop : Stop) → FailsAnyhow tick x stop → Fails (parts.value_of front calls a) x stop
 value_err front calls a x stop h = stops tick (λ _. eval front calls a) x stop (λ w ready. h w)
@@ -53,11 +55,11 @@ failed_ok front calls m x y first w ready = ap (λ (o : Outcome (Unit {0})). bin
 pub failed_err : (front : Front) (calls : Calls) (m : Option e.TermTree) (x : RunState) (stop : Stop) → Fails (spec.message_of front calls m) x stop → Fails (parts.failed_test front calls m) x stop
 failed_err front calls m x stop h = stops (spec.message_of front calls m) (λ _. fail 108) x stop h
 
-pub test_ok : (front : Front) (calls : Calls) (at : ℕ) (a : e.TermTree) (m : Option e.TermTree) (b : Tree) (x y z : RunState) (r : Result (Unit {0}) Stop) → CalleesKeep calls
-    → FindsAndCarriesOut pure_tree (parts.value_of front calls a) x y (Ok b) → FindsAndCarriesOut no_value (parts.judged front calls m (pure_tree b)) y z r
+pub test_ok : (front : Front) (calls : Calls) (at : ℕ) (a : e.TermTree) (m : Option e.TermTree) (b : Box Tree) (x y z : RunState) (r : Result (Unit {0}) Stop) → CalleesKeep calls
+    → FindsAndCarriesOut tree_in (parts.value_of front calls a) x y (Ok b) → FindsAndCarriesOut no_value (parts.judged front calls m (tree_in b)) y z r
     → FindsAndCarriesOut no_value (spec.tested front calls (e.test at a m)) x z r
 test_ok front calls at a m b x y z r keep first second =
-    both HasNone (parts.value_of front calls a) (λ t. parts.judged front calls m t) pure_tree no_value b x y z r (keeping.value_keeps front calls a keep) first second
+    both HasNone (parts.value_of front calls a) (λ t. parts.judged front calls m t) tree_in no_value b x y z r (keeping.value_keeps front calls a keep) first second
 
 pub test_err : (front : Front) (calls : Calls) (at : ℕ) (a : e.TermTree) (m : Option e.TermTree) (x : RunState) (stop : Stop)
     → Fails (parts.value_of front calls a) x stop → Fails (spec.tested front calls (e.test at a m)) x stop
@@ -71,9 +73,9 @@ pub emit_err : (front : Front) (calls : Calls) (at : ℕ) (id : TypeId) (all : e
     → FailsAnyhow tick x stop → Fails (spec.tested front calls (e.emitted at id all)) x stop
 emit_err front calls at id all x stop h = stops tick (λ _. emits front calls id all) x stop (λ w ready. h w)
 
-pub kept_ok : (front : Front) (calls : Calls) (a : e.TermTree) (b : Tree) (x y z : RunState) (r : Result (Unit {0}) Stop)
-    → FindsAndCarriesOut pure_tree (eval front calls a) x y (Ok b) → CarriesOut no_value (spec.kept_before (pure_tree b)) y z r → FindsAndCarriesOut no_value (parts.value_kept front calls a) x z r
-kept_ok front calls a b x y z r first second = both_any (eval front calls a) spec.kept_before pure_tree no_value b x y z r first second
+pub kept_ok : (front : Front) (calls : Calls) (a : e.TermTree) (b : Box Tree) (x y z : RunState) (r : Result (Unit {0}) Stop)
+    → FindsAndCarriesOut tree_in (eval front calls a) x y (Ok b) → CarriesOut no_value (spec.kept_before (tree_in b)) y z r → FindsAndCarriesOut no_value (parts.value_kept front calls a) x z r
+kept_ok front calls a b x y z r first second = both_any (eval front calls a) spec.kept_before tree_in no_value b x y z r first second
 
 pub kept_err : (front : Front) (calls : Calls) (a : e.TermTree) (x : RunState) (stop : Stop) → Fails (eval front calls a) x stop → Fails (parts.value_kept front calls a) x stop
 kept_err front calls a x stop h = stops (eval front calls a) spec.kept_before x stop h

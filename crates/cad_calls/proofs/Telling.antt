@@ -12,7 +12,7 @@ use Rattle.cad_evaluation.specs.Ending.{event_of}
 use Rattle.cad_evaluation.specs.Evaluation.{defaults, destroyed_body, destroying_nothing, event_made, looked, looking}
 use Rattle.cad_evaluation.specs.Terms.{eval, eval_arguments}
 use Rattle.cad_evaluation.specs.Uses.{before}
-use Rattle.cad_execution.specs.Passed.{items_row}
+use Rattle.cad_execution.specs.Passed.{items_row, tree_in}
 use Rattle.cad_function_sources.specs.Sources.{bodies_in}
 use Rattle.cad_function_sources.specs.declared.sources.Source.{Source}
 use Rattle.cad_labels.specs.Laws.{AnyOne}
@@ -20,7 +20,6 @@ use Rattle.cad_label_runs.proofs.Evaluation.{looking_keeps}
 use Rattle.cad_outcomes.specs.Outcomes.{no_value}
 use Rattle.cad_outcomes.specs.declared.stop.Stop.{Stop}
 use Rattle.cad_outcomes.specs.declared.stop.Stop.TheVariants.{IllTyped}
-use Rattle.cad_rows.specs.Views.{pure_tree}
 use Rattle.cad_rows.specs.declared.tree.Place.{Place}
 use Rattle.cad_rows.specs.declared.tree.Tree.{Tree}
 use Rattle.cad_state.proofs.Finding.{find_same}
@@ -30,7 +29,7 @@ use Rattle.cad_world.specs.Declared.{bodies_of}
 use Rattle.cad_world.specs.Rows as rows
 use Rattle.cad_world.specs.State.{State, Outcome, ok, failed, limit, ill, bind, Action, ◌>>=◌, ◌>>◌, give}
 use Rattle.cad_world.specs.Transfers.{transferred}
-use Rattle.std.specs.Global.{Vec}
+use Rattle.std.specs.Global.{Box, Vec}
 
 -- ---- default arguments are arguments
 
@@ -59,27 +58,27 @@ pub row_err : (front : Front) (calls : Calls) (id : TypeId) (l : ℕ) (d : e.Des
     → FailsAnyhow (looking id l) x stop → Fails (parts.event_row front calls id l d) x stop
 row_err front calls id l d x stop h = stops (looking id l) (λ _. defaults front calls d.arguments) x stop (λ w ready. h w)
 
-pub inside_ok : (front : Front) (calls : Calls) (id : TypeId) (l : ℕ) (d : e.DestroyedBody) (b : Vec Place) (x y z : RunState) (r : Result Tree Stop)
-    → FindsAndCarriesOut items_row (parts.event_row front calls id l d) x y (Ok b) → CarriesOut pure_tree (event_of d.event (items_row b)) y z r
-    → FindsAndCarriesOut pure_tree (parts.event_inside front calls id l d) x z r
-inside_ok front calls id l d b x y z r first second = both_any (parts.event_row front calls id l d) (event_of d.event) items_row pure_tree b x y z r first second
+pub inside_ok : (front : Front) (calls : Calls) (id : TypeId) (l : ℕ) (d : e.DestroyedBody) (b : Vec Place) (x y z : RunState) (r : Result (Box Tree) Stop)
+    → FindsAndCarriesOut items_row (parts.event_row front calls id l d) x y (Ok b) → CarriesOut tree_in (event_of d.event (items_row b)) y z r
+    → FindsAndCarriesOut tree_in (parts.event_inside front calls id l d) x z r
+inside_ok front calls id l d b x y z r first second = both_any (parts.event_row front calls id l d) (event_of d.event) items_row tree_in b x y z r first second
 
 pub inside_err : (front : Front) (calls : Calls) (id : TypeId) (l : ℕ) (d : e.DestroyedBody) (x : RunState) (stop : Stop)
     → Fails (parts.event_row front calls id l d) x stop → Fails (parts.event_inside front calls id l d) x stop
 inside_err front calls id l d x stop h = stops (parts.event_row front calls id l d) (event_of d.event) x stop h
 
-pub out_ok : (t : rows.Tree) (b : Tree) (x y : RunState) → pure_tree b ≡ t → CarriesOut no_value looked x y (Ok tt) → CarriesOut pure_tree (parts.looked_with t) x y (Ok b)
+pub out_ok : (t : rows.Tree) (b : Box Tree) (x y : RunState) → tree_in b ≡ t → CarriesOut no_value looked x y (Ok tt) → CarriesOut tree_in (parts.looked_with t) x y (Ok b)
 out_ok t b x y is first =
-    subst (λ (k : rows.Tree). CarriesOut pure_tree (parts.looked_with k) x y (Ok b)) is
-    (any_then looked (λ _. give (pure_tree b)) no_value pure_tree tt x y y (Ok b) first (λ w. refl))
+    subst (λ (k : rows.Tree). CarriesOut tree_in (parts.looked_with k) x y (Ok b)) is
+    (any_then looked (λ _. give (tree_in b)) no_value tree_in tt x y y (Ok b) first (λ w. refl))
 
 pub out_err : (t : rows.Tree) (x : RunState) (stop : Stop) → FailsAnyhow looked x stop → FailsAnyhow (parts.looked_with t) x stop
 out_err t x stop h = any_stops looked (λ _. give t) x stop h
 
-pub made_ok : (front : Front) (calls : Calls) (id : TypeId) (l : ℕ) (d : e.DestroyedBody) (b : Tree) (x y z : RunState) (r : Result Tree Stop)
-    → FindsAndCarriesOut pure_tree (parts.event_inside front calls id l d) x y (Ok b) → CarriesOut pure_tree (parts.looked_with (pure_tree b)) y z r
-    → FindsAndCarriesOut pure_tree (event_made front calls id l d) x z r
-made_ok front calls id l d b x y z r first second = both_any (parts.event_inside front calls id l d) (λ t. parts.looked_with t) pure_tree pure_tree b x y z r first second
+pub made_ok : (front : Front) (calls : Calls) (id : TypeId) (l : ℕ) (d : e.DestroyedBody) (b : Box Tree) (x y z : RunState) (r : Result (Box Tree) Stop)
+    → FindsAndCarriesOut tree_in (parts.event_inside front calls id l d) x y (Ok b) → CarriesOut tree_in (parts.looked_with (tree_in b)) y z r
+    → FindsAndCarriesOut tree_in (event_made front calls id l d) x z r
+made_ok front calls id l d b x y z r first second = both_any (parts.event_inside front calls id l d) (λ t. parts.looked_with t) tree_in tree_in b x y z r first second
 
 pub made_err : (front : Front) (calls : Calls) (id : TypeId) (l : ℕ) (d : e.DestroyedBody) (x : RunState) (stop : Stop)
     → Fails (parts.event_inside front calls id l d) x stop → Fails (event_made front calls id l d) x stop
@@ -87,9 +86,9 @@ made_err front calls id l d x stop h = stops (parts.event_inside front calls id 
 
 -- ---- where it is declared
 
-pub told_some : (front : Front) (calls : Calls) (id : TypeId) (l : ℕ) (o : Option e.DestroyedBody) (d : e.DestroyedBody) (x z : RunState) (r : Result Tree Stop) → o ≡ Some d
-    → FindsAndCarriesOut pure_tree (event_made front calls id l d) x z r → FindsAndCarriesOut pure_tree (parts.event_told front calls id l o) x z r
-told_some front calls id l o d x z r is h = subst (λ (k : Option e.DestroyedBody). FindsAndCarriesOut pure_tree (parts.event_told front calls id l k) x z r) (sym is) h
+pub told_some : (front : Front) (calls : Calls) (id : TypeId) (l : ℕ) (o : Option e.DestroyedBody) (d : e.DestroyedBody) (x z : RunState) (r : Result (Box Tree) Stop) → o ≡ Some d
+    → FindsAndCarriesOut tree_in (event_made front calls id l d) x z r → FindsAndCarriesOut tree_in (parts.event_told front calls id l o) x z r
+told_some front calls id l o d x z r is h = subst (λ (k : Option e.DestroyedBody). FindsAndCarriesOut tree_in (parts.event_told front calls id l k) x z r) (sym is) h
 
 pub told_none : (front : Front) (calls : Calls) (id : TypeId) (l : ℕ) (o : Option e.DestroyedBody) (x : RunState) → o ≡ None → Fails (parts.event_told front calls id l o) x IllTyped
 told_none front calls id l o x is = subst (λ (k : Option e.DestroyedBody). Fails (parts.event_told front calls id l k) x IllTyped) (sym is) (λ w ready. refl)
@@ -99,9 +98,9 @@ found_event : (id : TypeId) (o : Option Source) (bodies : Option e.TypeBody)
 found_event id None bodies is = ap destroyed_body (sym is)
 found_event id (Some x) bodies is = ap destroyed_body is.1
 
-pub end_by : (front : Front) (calls : Calls) (id : TypeId) (l : ℕ) (o : Option Source) (x z : RunState) (r : Result Tree Stop)
+pub end_by : (front : Front) (calls : Calls) (id : TypeId) (l : ℕ) (o : Option Source) (x z : RunState) (r : Result (Box Tree) Stop)
     → MatchOption o (bodies_of (run_of x) id ≡ None) (λ y. (y.id ≡ id) × (bodies_in y ≡ bodies_of (run_of x) id))
-    → FindsAndCarriesOut pure_tree (parts.event_told front (destroying_nothing calls) id l (event_in o)) x z r → FindsAndCarriesOut pure_tree (parts.end_told front calls id l) x z r
+    → FindsAndCarriesOut tree_in (parts.event_told front (destroying_nothing calls) id l (event_in o)) x z r → FindsAndCarriesOut tree_in (parts.end_told front calls id l) x z r
 end_by front calls id l o x z r found h =
-    find_same pure_tree (parts.end_told front calls id l) (parts.event_told front (destroying_nothing calls) id l (destroyed_body (bodies_of (run_of x) id))) x z r (λ w ready. refl)
-    (subst (λ (k : Option e.DestroyedBody). FindsAndCarriesOut pure_tree (parts.event_told front (destroying_nothing calls) id l k) x z r) (found_event id o (bodies_of (run_of x) id) found) h)
+    find_same tree_in (parts.end_told front calls id l) (parts.event_told front (destroying_nothing calls) id l (destroyed_body (bodies_of (run_of x) id))) x z r (λ w ready. refl)
+    (subst (λ (k : Option e.DestroyedBody). FindsAndCarriesOut tree_in (parts.event_told front (destroying_nothing calls) id l k) x z r) (found_event id o (bodies_of (run_of x) id) found) h)

@@ -4,16 +4,16 @@ ghost use Rattle.cad_calls.specs.Code.Parts as parts;
 ghost use Rattle.cad_declarations.specs.Typed as e;
 ghost use Rattle.cad_declarations.specs.Views.{before_of, condition_of, targeted, term_of};
 ghost use Rattle.cad_evaluation.specs.Bodies as spec;
+ghost use Rattle.cad_execution.specs.Passed.{tree_in};
 ghost use Rattle.cad_outcomes.specs.Outcomes.{no_value};
-ghost use Rattle.cad_rows.specs.Views.{pure_tree};
 ghost use Rattle.cad_state.specs.Views.{FindsAndCarriesOut};
 
+use crate::apart::keep_before;
 use cad_declarations::{Argument, Term, TypedBefore, TypedCondition};
-use cad_execution::{Callees, emit_event, eval};
-use cad_making::keep_before;
+use cad_execution::{Callees, discard_boxed, emit_event, eval};
 use cad_operators::truth_in;
 use cad_outcomes::{RunError, Stop};
-use cad_rows::{Tree, discard_tree};
+use cad_rows::Tree;
 use cad_state::RunState;
 use cad_syntax::TypeId;
 
@@ -23,8 +23,8 @@ fn evaluate<C: Callees>(message: &Term, callees: &C, state: &mut RunState) -> Re
     ensures { FindsAndCarriesOut no_value (spec.message_of (C.front callees.now) (C.calls callees.now) (Some (term_of message.now))) state.old state.new result }
 {
     match eval(message, callees, state) {
-        Ok(tree) => {
-            discard_tree(tree);
+        Ok(value) => {
+            discard_boxed(value);
             Ok(())
         }
         Err(stop) => Err(stop),
@@ -47,9 +47,9 @@ fn evaluate_message<C: Callees>(
 }
 
 /// The value of a test, after the unit of its condition.
-fn test_value<C: Callees>(test: &Term, callees: &C, state: &mut RunState) -> Result<Tree, Stop>
+fn test_value<C: Callees>(test: &Term, callees: &C, state: &mut RunState) -> Result<Box<Tree>, Stop>
     requires { C.is_ready callees.now }
-    ensures { FindsAndCarriesOut pure_tree (parts.value_of (C.front callees.now) (C.calls callees.now) (term_of test.now)) state.old state.new result }
+    ensures { FindsAndCarriesOut tree_in (parts.value_of (C.front callees.now) (C.calls callees.now) (term_of test.now)) state.old state.new result }
 {
     match state.tick() {
         Ok(()) => eval(test, callees, state),
@@ -75,16 +75,16 @@ fn fail_test<C: Callees>(
 /// What a test with this value comes to; IllTyped where that is no truth.
 #[inline(never)]
 fn judge<C: Callees>(
-    tree: Tree,
+    value: Box<Tree>,
     message: &Option<Term>,
     callees: &C,
     state: &mut RunState,
 ) -> Result<(), Stop>
     requires { C.is_ready callees.now }
-    ensures { FindsAndCarriesOut no_value (parts.judged (C.front callees.now) (C.calls callees.now) (option_map term_of message.now) (pure_tree tree)) state.old state.new result }
+    ensures { FindsAndCarriesOut no_value (parts.judged (C.front callees.now) (C.calls callees.now) (option_map term_of message.now) (tree_in value)) state.old state.new result }
 {
-    let found = truth_in(&tree);
-    discard_tree(tree);
+    let found = truth_in(&value);
+    discard_boxed(value);
     match found {
         Some(holds) => {
             if holds {
@@ -108,7 +108,7 @@ fn test<C: Callees>(
     ensures { (at : ℕ) → FindsAndCarriesOut no_value (spec.tested (C.front callees.now) (C.calls callees.now) (e.test at (term_of tested.now) (option_map term_of message.now))) state.old state.new result }
 {
     match test_value(tested, callees, state) {
-        Ok(tree) => judge(tree, message, callees, state),
+        Ok(value) => judge(value, message, callees, state),
         Err(stop) => Err(stop),
     }
 }

@@ -4,17 +4,16 @@ ghost use Rattle.cad_calls.specs.Code.Parts as parts;
 ghost use Rattle.cad_calls.specs.Pieces.{event_in};
 ghost use Rattle.cad_declarations.specs.Views.{destroyed_of};
 ghost use Rattle.cad_evaluation.specs.Evaluation.{destroying_nothing, event_made};
-ghost use Rattle.cad_execution.specs.Passed.{items_row};
-ghost use Rattle.cad_rows.specs.Views.{pure_tree};
+ghost use Rattle.cad_execution.specs.Passed.{items_row, tree_in};
 ghost use Rattle.cad_state.specs.Views.{CarriesOut, FindsAndCarriesOut};
 
-use crate::apart::discard_own;
+use crate::apart::{discard_own, event};
 use cad_declarations::DestroyedEvent;
-use cad_execution::{Callees, Quiet, eval_arguments};
+use cad_execution::{Callees, Quiet, discard_boxed, eval_arguments};
 use cad_function_sources::{Source, destroyed_event, source_of};
-use cad_making::{event, look_in, look_out};
+use cad_making::{look_in, look_out};
 use cad_outcomes::Stop;
-use cad_rows::{Place, Tree, discard_tree};
+use cad_rows::{Place, Tree};
 use cad_state::RunState;
 use cad_syntax::TypeId;
 
@@ -43,9 +42,9 @@ fn make_inside<C: Callees>(
     label: u64,
     callees: &C,
     state: &mut RunState,
-) -> Result<Tree, Stop>
+) -> Result<Box<Tree>, Stop>
     requires { C.is_ready callees.now }
-    ensures { FindsAndCarriesOut pure_tree (parts.event_inside (C.front callees.now) (C.calls callees.now) id.now label (destroyed_of destroyed.now)) state.old state.new result }
+    ensures { FindsAndCarriesOut tree_in (parts.event_inside (C.front callees.now) (C.calls callees.now) id.now label (destroyed_of destroyed.now)) state.old state.new result }
 {
     match evaluate_defaults(destroyed, id, label, callees, state) {
         Ok(row) => event(state, &destroyed.event, row),
@@ -55,13 +54,13 @@ fn make_inside<C: Callees>(
 
 /// The resource isn't `self` any more; the event is handed over.
 #[inline(never)]
-fn look_out_with(tree: Tree, state: &mut RunState) -> Result<Tree, Stop>
-    ensures { CarriesOut pure_tree (parts.looked_with (pure_tree tree)) state.old state.new result }
+fn look_out_with(value: Box<Tree>, state: &mut RunState) -> Result<Box<Tree>, Stop>
+    ensures { CarriesOut tree_in (parts.looked_with (tree_in value)) state.old state.new result }
 {
     match look_out(state) {
-        Ok(()) => Ok(tree),
+        Ok(()) => Ok(value),
         Err(stop) => {
-            discard_tree(tree);
+            discard_boxed(value);
             Err(stop)
         }
     }
@@ -75,12 +74,12 @@ fn make_event<C: Callees>(
     label: u64,
     callees: &C,
     state: &mut RunState,
-) -> Result<Tree, Stop>
+) -> Result<Box<Tree>, Stop>
     requires { C.is_ready callees.now }
-    ensures { FindsAndCarriesOut pure_tree (event_made (C.front callees.now) (C.calls callees.now) id.now label (destroyed_of destroyed.now)) state.old state.new result }
+    ensures { FindsAndCarriesOut tree_in (event_made (C.front callees.now) (C.calls callees.now) id.now label (destroyed_of destroyed.now)) state.old state.new result }
 {
     match make_inside(destroyed, id, label, callees, state) {
-        Ok(tree) => look_out_with(tree, state),
+        Ok(value) => look_out_with(value, state),
         Err(stop) => Err(stop),
     }
 }
@@ -102,9 +101,9 @@ fn tell_event<C: Callees>(
     label: u64,
     callees: &C,
     state: &mut RunState,
-) -> Result<Tree, Stop>
+) -> Result<Box<Tree>, Stop>
     requires { C.is_ready callees.now }
-    ensures { FindsAndCarriesOut pure_tree (parts.event_told (C.front callees.now) (C.calls callees.now) id.now label (event_in own.now)) state.old state.new result }
+    ensures { FindsAndCarriesOut tree_in (parts.event_told (C.front callees.now) (C.calls callees.now) id.now label (event_in own.now)) state.old state.new result }
 {
     match own_event(own) {
         Some(destroyed) => make_event(destroyed, id, label, callees, state),
@@ -119,9 +118,9 @@ fn tell_quietly<C: Callees>(
     label: u64,
     callees: &C,
     state: &mut RunState,
-) -> Result<Tree, Stop>
+) -> Result<Box<Tree>, Stop>
     requires { C.is_ready callees.now }
-    ensures { FindsAndCarriesOut pure_tree (parts.event_told (C.front callees.now) (destroying_nothing (C.calls callees.now)) id.now label (event_in own.now)) state.old state.new result }
+    ensures { FindsAndCarriesOut tree_in (parts.event_told (C.front callees.now) (destroying_nothing (C.calls callees.now)) id.now label (event_in own.now)) state.old state.new result }
 {
     let quiet = Quiet { inner: callees };
     let result = tell_event(own, id, label, &quiet, state);
@@ -137,9 +136,9 @@ pub fn call_event<C: Callees>(
     label: u64,
     callees: &C,
     state: &mut RunState,
-) -> Result<Tree, Stop>
+) -> Result<Box<Tree>, Stop>
     requires { C.is_ready callees.now }
-    ensures { FindsAndCarriesOut pure_tree (parts.end_told (C.front callees.now) (C.calls callees.now) id.now label) state.old state.new result }
+    ensures { FindsAndCarriesOut tree_in (parts.end_told (C.front callees.now) (C.calls callees.now) id.now label) state.old state.new result }
 {
     match source_of(state, id) {
         Ok(own) => {

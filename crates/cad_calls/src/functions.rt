@@ -4,8 +4,10 @@ ghost use Rattle.cad_calls.specs.Code.Parts as parts;
 ghost use Rattle.cad_calls.specs.Pieces.{maybe_piece};
 ghost use Rattle.cad_declarations.specs.Views.{block_of};
 ghost use Rattle.cad_evaluation.specs.Bodies as spec;
+ghost use Rattle.cad_evaluation.specs.Containers as containers;
 ghost use Rattle.cad_evaluation.specs.Evaluation as evaluation;
 ghost use Rattle.cad_evaluation.specs.Statements.{exec_block};
+ghost use Rattle.cad_execution.specs.Passed.{tree_in};
 ghost use Rattle.cad_execution.specs.Views.{flow_of};
 ghost use Rattle.cad_function_sources.specs.Sources.{piece_of};
 ghost use Rattle.cad_labels.specs.Laws.{HasNoneInRow};
@@ -13,17 +15,17 @@ ghost use Rattle.cad_outcomes.specs.Outcomes.{Gives, no_value};
 ghost use Rattle.cad_rows.specs.Views.{pure_row, pure_tree};
 ghost use Rattle.cad_state.specs.Views.{CarriesOut, FindsAndCarriesOut};
 ghost use Rattle.cad_syntax.specs.Types.{PureType, pure_type};
-ghost use Rattle.cad_world.specs.State.{with_some};
+ghost use Rattle.cad_world.specs.State.{give, with_some};
 
 use crate::apart::{enter, put_result, take_result};
 use crate::pieces::{keep_before_all, move_into, postconditions, preconditions};
 use cad_declarations::TypedBlock;
-use cad_execution::{Callees, Flow, exec_block};
+use cad_execution::{Callees, Flow, boxed, discard_boxed, exec_block};
 use cad_function_sources::Piece;
 use cad_making::leave;
 use cad_operators::plain_tree;
 use cad_outcomes::Stop;
-use cad_rows::{Place, Tree, discard_tree};
+use cad_rows::{Place, Tree};
 use cad_state::RunState;
 use cad_syntax::{Basic, CadType};
 use cad_values::Value;
@@ -46,16 +48,31 @@ fn gives_void(piece: Piece<'_>) -> bool
     piece.initializes || is_void(&piece.function.result)
 }
 
+/// The value of what gives none.
+fn void_tree(alloc: Global) -> Tree
+    ensures { pure_tree result ≡ containers.void_tree }
+{
+    plain_tree(alloc, Value::Void)
+}
+
+/// The same on the heap.
+#[inline(never)]
+fn void_value(alloc: Global) -> Result<Box<Tree>, Stop>
+    ensures { Gives tree_in (give containers.void_tree) result }
+{
+    boxed(Ok(void_tree(alloc)))
+}
+
 /// What a function gives whose body ended so; IllTyped where it should have returned a value.
 #[inline(never)]
-pub fn value_of_flow(alloc: Global, void: bool, flow: Flow) -> Result<Tree, Stop>
-    ensures { (type : PureType) → void ≡ spec.is_void type → Gives pure_tree (spec.value_of_flow type (flow_of flow)) result }
+pub fn value_of_flow(alloc: Global, void: bool, flow: Flow) -> Result<Box<Tree>, Stop>
+    ensures { (type : PureType) → void ≡ spec.is_void type → Gives tree_in (spec.value_of_flow type (flow_of flow)) result }
 {
     match flow {
-        Flow::Returned(tree) => Ok(tree),
+        Flow::Returned(value) => Ok(value),
         Flow::Next => {
             if void {
-                return Ok(plain_tree(alloc, Value::Void));
+                return void_value(alloc);
             }
             Err(Stop::IllTyped)
         }
@@ -137,9 +154,9 @@ fn run_body<C: Callees>(
     turns: u64,
     callees: &C,
     state: &mut RunState,
-) -> Result<Tree, Stop>
+) -> Result<Box<Tree>, Stop>
     requires { C.is_ready callees.now }
-    ensures { FindsAndCarriesOut pure_tree (spec.body_run (C.front callees.now) (C.calls callees.now) turns (piece_of piece.entry)) state.old state.new result }
+    ensures { FindsAndCarriesOut tree_in (spec.body_run (C.front callees.now) (C.calls callees.now) turns (piece_of piece.entry)) state.old state.new result }
 {
     match run_flow(piece, turns, callees, state) {
         Ok(flow) => value_of_flow(*state.making.allocator(), gives_void(piece), flow),
@@ -155,9 +172,9 @@ fn run_first<C: Callees>(
     turns: u64,
     callees: &C,
     state: &mut RunState,
-) -> Result<Tree, Stop>
+) -> Result<Box<Tree>, Stop>
     requires { C.is_ready callees.now }
-    ensures { FindsAndCarriesOut pure_tree (with_some (spec.running (maybe_piece own.entry) (map piece_of others.now)) (spec.body_run (C.front callees.now) (C.calls callees.now) turns)) state.old state.new result }
+    ensures { FindsAndCarriesOut tree_in (with_some (spec.running (maybe_piece own.entry) (map piece_of others.now)) (spec.body_run (C.front callees.now) (C.calls callees.now) turns)) state.old state.new result }
 {
     match running(own, others) {
         Some(piece) => run_body(piece, turns, callees, state),
@@ -189,9 +206,9 @@ fn run_prepared<C: Callees>(
     turns: u64,
     callees: &C,
     state: &mut RunState,
-) -> Result<Tree, Stop>
+) -> Result<Box<Tree>, Stop>
     requires { C.is_ready callees.now }
-    ensures { FindsAndCarriesOut pure_tree (parts.given (C.front callees.now) (C.calls callees.now) turns (maybe_piece own.entry) (map piece_of others.now)) state.old state.new result }
+    ensures { FindsAndCarriesOut tree_in (parts.given (C.front callees.now) (C.calls callees.now) turns (maybe_piece own.entry) (map piece_of others.now)) state.old state.new result }
 {
     match prepare(own, others, callees, state) {
         Ok(()) => run_first(own, others, turns, callees, state),
@@ -211,7 +228,7 @@ fn run_aside<C: Callees>(
     ensures { FindsAndCarriesOut no_value (parts.set_aside (C.front callees.now) (C.calls callees.now) turns (maybe_piece own.entry) (map piece_of others.now)) state.old state.new result }
 {
     match run_prepared(own, others, turns, callees, state) {
-        Ok(tree) => put_result(state, tree),
+        Ok(value) => put_result(state, value),
         Err(stop) => Err(stop),
     }
 }
@@ -241,9 +258,9 @@ fn run_conditioned<C: Callees>(
     turns: u64,
     callees: &C,
     state: &mut RunState,
-) -> Result<Tree, Stop>
+) -> Result<Box<Tree>, Stop>
     requires { C.is_ready callees.now }
-    ensures { FindsAndCarriesOut pure_tree (spec.conditioned (C.front callees.now) (C.calls callees.now) turns (maybe_piece own.entry) (map piece_of others.now)) state.old state.new result }
+    ensures { FindsAndCarriesOut tree_in (spec.conditioned (C.front callees.now) (C.calls callees.now) turns (maybe_piece own.entry) (map piece_of others.now)) state.old state.new result }
 {
     match run_tested(own, others, turns, callees, state) {
         Ok(()) => take_result(state),
@@ -253,13 +270,13 @@ fn run_conditioned<C: Callees>(
 
 /// A call ends, with its result.
 #[inline(never)]
-fn leave_with(tree: Tree, state: &mut RunState) -> Result<Tree, Stop>
-    ensures { CarriesOut pure_tree (parts.left_with (pure_tree tree)) state.old state.new result }
+fn leave_with(value: Box<Tree>, state: &mut RunState) -> Result<Box<Tree>, Stop>
+    ensures { CarriesOut tree_in (parts.left_with (tree_in value)) state.old state.new result }
 {
     match leave(state) {
-        Ok(()) => Ok(tree),
+        Ok(()) => Ok(value),
         Err(stop) => {
-            discard_tree(tree);
+            discard_boxed(value);
             Err(stop)
         }
     }
@@ -282,9 +299,9 @@ fn run_entered<C: Callees>(
     turns: u64,
     callees: &C,
     state: &mut RunState,
-) -> Result<Tree, Stop>
+) -> Result<Box<Tree>, Stop>
     requires { C.is_ready callees.now }
-    ensures { HasNoneInRow (pure_row arguments.items) → FindsAndCarriesOut pure_tree (parts.begun (C.front callees.now) (C.calls callees.now) turns node.label node.initializes (maybe_piece own.entry) (map piece_of others.now) (pure_row arguments.items)) state.old state.new result }
+    ensures { HasNoneInRow (pure_row arguments.items) → FindsAndCarriesOut tree_in (parts.begun (C.front callees.now) (C.calls callees.now) turns node.label node.initializes (maybe_piece own.entry) (map piece_of others.now) (pure_row arguments.items)) state.old state.new result }
 {
     match enter(state, None, node.label, node.initializes, arguments) {
         Ok(()) => run_conditioned(own, others, turns, callees, state),
@@ -302,12 +319,12 @@ pub fn run<C: Callees>(
     turns: u64,
     callees: &C,
     state: &mut RunState,
-) -> Result<Tree, Stop>
+) -> Result<Box<Tree>, Stop>
     requires { C.is_ready callees.now }
-    ensures { HasNoneInRow (pure_row arguments.items) → FindsAndCarriesOut pure_tree (evaluation.run (C.front callees.now) (C.calls callees.now) turns node.label node.initializes (maybe_piece own.entry) (map piece_of others.now) (pure_row arguments.items)) state.old state.new result }
+    ensures { HasNoneInRow (pure_row arguments.items) → FindsAndCarriesOut tree_in (evaluation.run (C.front callees.now) (C.calls callees.now) turns node.label node.initializes (maybe_piece own.entry) (map piece_of others.now) (pure_row arguments.items)) state.old state.new result }
 {
     match run_entered(own, others, node, arguments, turns, callees, state) {
-        Ok(tree) => leave_with(tree, state),
+        Ok(value) => leave_with(value, state),
         Err(stop) => Err(stop),
     }
 }

@@ -3,24 +3,25 @@ ghost use Rattle.std.specs.Prelude.{◌≡◌, [], Some, None, true, false, map,
 ghost use Rattle.cad_access.specs.RunContracts.{run_of};
 ghost use Rattle.cad_calls.specs.Pieces.{initializer_in, maybe_piece, own_of};
 ghost use Rattle.cad_declarations.specs.Views.{member_body_of};
+ghost use Rattle.cad_evaluation.specs.Adding as adding;
 ghost use Rattle.cad_evaluation.specs.Bodies as spec;
 ghost use Rattle.cad_evaluation.specs.Callees.{function, initializer, method};
 ghost use Rattle.cad_evaluation.specs.Evaluation as evaluation;
-ghost use Rattle.cad_execution.specs.Passed.{callee_of};
+ghost use Rattle.cad_execution.specs.Passed.{callee_of, tree_in};
 ghost use Rattle.cad_function_sources.specs.Sources as view;
 ghost use Rattle.cad_labels.specs.Laws.{HasNoneInRow};
-ghost use Rattle.cad_rows.specs.Views.{pure_row, pure_tree};
+ghost use Rattle.cad_rows.specs.Views.{pure_row};
 ghost use Rattle.cad_state.specs.Views.{FindsAndCarriesOut};
 ghost use Rattle.cad_world.specs.Declared as declared;
 
-use crate::apart::{discard_own, discard_row, discard_shared, discard_sources};
+use crate::apart::{discard_own, discard_row, discard_shared, discard_sources, unbox};
 use crate::events::call_event;
 use crate::functions::{Own, run};
 use crate::unlabelled::is_unnamed;
 use cad_access::function_in;
 use cad_declarations::{Checked, TypedMember};
 use cad_discards::hold;
-use cad_execution::{Callee, Callees};
+use cad_execution::{Callee, Callees, boxed};
 use cad_function_sources::{
     Piece, Source, initializer_piece, interface_sources, piece_of, pieces_of, source_of,
 };
@@ -50,9 +51,9 @@ fn run_sources<C: Callees>(
     turns: u64,
     callees: &C,
     state: &mut RunState,
-) -> Result<Tree, Stop>
+) -> Result<Box<Tree>, Stop>
     requires { C.is_ready callees.now }
-    ensures { HasNoneInRow (pure_row arguments.items) → FindsAndCarriesOut pure_tree (evaluation.run (C.front callees.now) (C.calls callees.now) turns (Some label) false (own_of name.now own.now) (view.pieces name.now others.now) (pure_row arguments.items)) state.old state.new result }
+    ensures { HasNoneInRow (pure_row arguments.items) → FindsAndCarriesOut tree_in (evaluation.run (C.front callees.now) (C.calls callees.now) turns (Some label) false (own_of name.now own.now) (view.pieces name.now others.now) (pure_row arguments.items)) state.old state.new result }
 {
     match pieces_of(others, name, *state.making.allocator()) {
         Ok(pieces) => {
@@ -88,9 +89,9 @@ fn run_method<C: Callees>(
     turns: u64,
     callees: &C,
     state: &mut RunState,
-) -> Result<Tree, Stop>
+) -> Result<Box<Tree>, Stop>
     requires { C.is_ready callees.now }
-    ensures { HasNoneInRow (pure_row arguments.items) → FindsAndCarriesOut pure_tree (evaluation.run (C.front callees.now) (C.calls callees.now) turns (Some label) false (own_of name.now own.now) (spec.inherited (run_of state.old) name.now id.now) (pure_row arguments.items)) state.old state.new result }
+    ensures { HasNoneInRow (pure_row arguments.items) → FindsAndCarriesOut tree_in (evaluation.run (C.front callees.now) (C.calls callees.now) turns (Some label) false (own_of name.now own.now) (spec.inherited (run_of state.old) name.now id.now) (pure_row arguments.items)) state.old state.new result }
 {
     match interface_sources(state, id) {
         Ok(others) => {
@@ -124,9 +125,9 @@ fn call_method<C: Callees>(
     turns: u64,
     callees: &C,
     state: &mut RunState,
-) -> Result<Tree, Stop>
+) -> Result<Box<Tree>, Stop>
     requires { C.is_ready callees.now }
-    ensures { HasNoneInRow (pure_row arguments.items) → FindsAndCarriesOut pure_tree (evaluation.called (C.front callees.now) (C.calls callees.now) turns (method id.now name.now label) (pure_row arguments.items)) state.old state.new result }
+    ensures { HasNoneInRow (pure_row arguments.items) → FindsAndCarriesOut tree_in (evaluation.called (C.front callees.now) (C.calls callees.now) turns (method id.now name.now label) (pure_row arguments.items)) state.old state.new result }
 {
     match source_of(state, id) {
         Ok(own) => {
@@ -159,9 +160,9 @@ fn run_initializer<C: Callees>(
     turns: u64,
     callees: &C,
     state: &mut RunState,
-) -> Result<Tree, Stop>
+) -> Result<Box<Tree>, Stop>
     requires { C.is_ready callees.now }
-    ensures { HasNoneInRow (pure_row arguments.items) → FindsAndCarriesOut pure_tree (evaluation.run (C.front callees.now) (C.calls callees.now) turns (Some label) true (initializer_in own.now) [] (pure_row arguments.items)) state.old state.new result }
+    ensures { HasNoneInRow (pure_row arguments.items) → FindsAndCarriesOut tree_in (evaluation.run (C.front callees.now) (C.calls callees.now) turns (Some label) true (initializer_in own.now) [] (pure_row arguments.items)) state.old state.new result }
 {
     let node = Own {
         label: Some(label),
@@ -180,9 +181,9 @@ fn call_initializer<C: Callees>(
     turns: u64,
     callees: &C,
     state: &mut RunState,
-) -> Result<Tree, Stop>
+) -> Result<Box<Tree>, Stop>
     requires { C.is_ready callees.now }
-    ensures { HasNoneInRow (pure_row arguments.items) → FindsAndCarriesOut pure_tree (evaluation.called (C.front callees.now) (C.calls callees.now) turns (initializer id.now label) (pure_row arguments.items)) state.old state.new result }
+    ensures { HasNoneInRow (pure_row arguments.items) → FindsAndCarriesOut tree_in (evaluation.called (C.front callees.now) (C.calls callees.now) turns (initializer id.now label) (pure_row arguments.items)) state.old state.new result }
 {
     match source_of(state, id) {
         Ok(own) => {
@@ -227,9 +228,9 @@ fn run_function<C: Callees>(
     turns: u64,
     callees: &C,
     state: &mut RunState,
-) -> Result<Tree, Stop>
+) -> Result<Box<Tree>, Stop>
     requires { C.is_ready callees.now }
-    ensures { HasNoneInRow (pure_row arguments.items) → FindsAndCarriesOut pure_tree (evaluation.run (C.front callees.now) (C.calls callees.now) turns None false (evaluation.outside (declared.function_in (map member_body_of checked.now.bodies.functions.items) name.now)) [] (pure_row arguments.items)) state.old state.new result }
+    ensures { HasNoneInRow (pure_row arguments.items) → FindsAndCarriesOut tree_in (evaluation.run (C.front callees.now) (C.calls callees.now) turns None false (evaluation.outside (declared.function_in (map member_body_of checked.now.bodies.functions.items) name.now)) [] (pure_row arguments.items)) state.old state.new result }
 {
     let node = Own {
         label: None,
@@ -247,9 +248,9 @@ fn call_function<C: Callees>(
     turns: u64,
     callees: &C,
     state: &mut RunState,
-) -> Result<Tree, Stop>
+) -> Result<Box<Tree>, Stop>
     requires { C.is_ready callees.now }
-    ensures { HasNoneInRow (pure_row arguments.items) → FindsAndCarriesOut pure_tree (evaluation.called (C.front callees.now) (C.calls callees.now) turns (function name.now) (pure_row arguments.items)) state.old state.new result }
+    ensures { HasNoneInRow (pure_row arguments.items) → FindsAndCarriesOut tree_in (evaluation.called (C.front callees.now) (C.calls callees.now) turns (function name.now) (pure_row arguments.items)) state.old state.new result }
 {
     match hold(&state.checked) {
         Ok(checked) => {
@@ -271,9 +272,9 @@ pub fn call_at<C: Callees>(
     turns: u64,
     callees: &C,
     state: &mut RunState,
-) -> Result<Tree, Stop>
+) -> Result<Box<Tree>, Stop>
     requires { C.is_ready callees.now }
-    ensures { HasNoneInRow (pure_row arguments.items) → FindsAndCarriesOut pure_tree (evaluation.called (C.front callees.now) (C.calls callees.now) turns (callee_of callee.entry) (pure_row arguments.items)) state.old state.new result }
+    ensures { HasNoneInRow (pure_row arguments.items) → FindsAndCarriesOut tree_in (evaluation.called (C.front callees.now) (C.calls callees.now) turns (callee_of callee.entry) (pure_row arguments.items)) state.old state.new result }
 {
     match callee {
         Callee::Method { of, name, label } => {
@@ -290,6 +291,21 @@ pub fn call_at<C: Callees>(
     }
 }
 
+/// `contracts.add` at the account of an address. Errors are those of cad_installations.
+#[inline(never)]
+fn add_contract<E: FrontEnd, I: Initializers>(
+    end: &E,
+    by: &I,
+    address: Address,
+    arguments: Vec<Place>,
+    state: &mut RunState,
+) -> Result<Box<Tree>, Stop>
+    requires { I.is_ready by.now }
+    ensures { FindsAndCarriesOut tree_in (adding.add (E.front end.now) (I.calls by.now) (pure_row arguments.items) address) state.old state.new result }
+{
+    boxed(add(end, by, address, arguments, state))
+}
+
 /// Calls that are nested at most so deep, with at most so many turns of each loop.
 #[derive(Clone, Copy, Drop)]
 pub struct Level<'e, E, F> {
@@ -300,7 +316,7 @@ pub struct Level<'e, E, F> {
 
 impl<
     E: FrontEnd,
-    F: Fn(u64, &E, &mut RunState, Callee<'_>, Vec<Place>) -> Result<Tree, Stop>,
+    F: Fn(u64, &E, &mut RunState, Callee<'_>, Vec<Place>) -> Result<Box<Tree>, Stop>,
 > Callees for Level<'_, E, F> {
     ghost use Rattle.cad_calls.specs.Levels.{Nests, level_keeps};
     ghost use Rattle.cad_evaluation.specs.Evaluation.{calls_to};
@@ -316,7 +332,7 @@ impl<
         state: &mut RunState,
         callee: Callee<'_>,
         arguments: Vec<Place>,
-    ) -> Result<Tree, Stop> {
+    ) -> Result<Box<Tree>, Stop> {
         (self.run)(self.fuel, self.end, state, callee, arguments)
     }
 
@@ -325,8 +341,8 @@ impl<
         state: &mut RunState,
         address: Address,
         arguments: Vec<Place>,
-    ) -> Result<Tree, Stop> {
-        add(self.end, self, address, arguments, state)
+    ) -> Result<Box<Tree>, Stop> {
+        add_contract(self.end, self, address, arguments, state)
     }
 
     ghost keeps = { λ l. level_keeps (E.front l.end.now) l.fuel };
@@ -334,7 +350,7 @@ impl<
 
 impl<
     E: FrontEnd,
-    F: Fn(u64, &E, &mut RunState, Callee<'_>, Vec<Place>) -> Result<Tree, Stop>,
+    F: Fn(u64, &E, &mut RunState, Callee<'_>, Vec<Place>) -> Result<Box<Tree>, Stop>,
 > Initializers for Level<'_, E, F> {
     ghost use Rattle.cad_calls.specs.Levels.{Nests};
     ghost use Rattle.cad_evaluation.specs.Evaluation.{calls_to};
@@ -351,7 +367,7 @@ impl<
         arguments: Vec<Place>,
     ) -> Result<Tree, Stop> {
         let initializer = Callee::Initializer { of, label };
-        (self.run)(self.fuel, self.end, state, initializer, arguments)
+        unbox((self.run)(self.fuel, self.end, state, initializer, arguments))
     }
 }
 
@@ -363,8 +379,8 @@ pub fn call_with<E: FrontEnd>(
     state: &mut RunState,
     callee: Callee<'_>,
     arguments: Vec<Place>,
-) -> Result<Tree, Stop>
-    ensures { FindsAndCarriesOut pure_tree (evaluation.calls_to (E.front end.now) fuel (callee_of callee.entry) (pure_row arguments.items)) state.old state.new result }
+) -> Result<Box<Tree>, Stop>
+    ensures { FindsAndCarriesOut tree_in (evaluation.calls_to (E.front end.now) fuel (callee_of callee.entry) (pure_row arguments.items)) state.old state.new result }
 {
     if fuel == 0 {
         discard_row(arguments);

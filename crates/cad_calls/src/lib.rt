@@ -16,4 +16,4 @@ pub use level::{Level, call_with};
 pub use unlabelled::is_unnamed;
 
 // What the crates above use of the ones below.
-pub use cad_execution::{Callee, Callees, Flow, exec_block};
+pub use cad_execution::{Callee, Callees, Flow, exec_block, unboxed};

@@ -21,7 +21,7 @@ use crate::trees::{path_value, wrapped_value};
 use cad_operators::{bool_tree, nil_tree, plain_tree, truth_in};
 use cad_outcomes::Stop;
 use cad_rows::{Place, Tree, add_last, discard_row, discard_tree};
-use cad_run_accounts::controller;
+use cad_run_accounts::{controller, know};
 use cad_state::{Controller, RunState};
 use cad_storage::check;
 use cad_syntax::{Address, Authorization, CadType, Name};
@@ -190,13 +190,24 @@ fn lend_as(state: &mut RunState, cap: &Cap, name: &Name) -> Result<Option<Value>
     }
 }
 
-/// What a capability lends; none where it leads to nothing, or storage has no value of the type.
-fn lend_if(state: &mut RunState, cap: &Cap) -> Result<Option<Value>, Stop>
+/// What a capability lends, where the run has its account; none where it leads to nothing, or storage has no value of the type.
+fn lend_known(state: &mut RunState, cap: &Cap) -> Result<Option<Value>, Stop>
     ensures { FindsAndCarriesOut lent_of (spec.lent_by (capability_of cap.now)) state.old state.new result }
 {
     match aimed_at(state, cap) {
         Ok(Some(name)) => lend_as(state, cap, &name),
         Ok(None) => Ok(None),
+        Err(_) => Err(Stop::Memory),
+    }
+}
+
+/// What a capability lends; none where it leads to nothing, or storage has no value of the type. Memory fails too where the run
+/// doesn't have its account.
+fn lend_if(state: &mut RunState, cap: &Cap) -> Result<Option<Value>, Stop>
+    ensures { FindsAndCarriesOut lent_of (spec.lent_by (capability_of cap.now)) state.old state.new result }
+{
+    match know(state, cap.address) {
+        Ok(()) => lend_known(state, cap),
         Err(_) => Err(Stop::Memory),
     }
 }

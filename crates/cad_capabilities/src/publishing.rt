@@ -98,11 +98,10 @@ fn publish_argument(state: &mut RunState, row: &[Place], address: Address) -> Re
 pub fn publish(state: &mut RunState, row: &[Place], address: Address) -> Result<Tree, Stop>
     ensures { CarriesOut pure_tree (spec.publish (pure_row row.now) address) state.old state.new result }
 {
-    match is_account(state, address) {
-        Ok(true) => publish_argument(state, row, address),
-        Ok(false) => Err(Stop::IllTyped),
-        Err(_) => Err(Stop::Memory),
+    if is_account(state, address) {
+        return publish_argument(state, row, address);
     }
+    Err(Stop::IllTyped)
 }
 
 /// Whether something is published under an identifier.
@@ -179,9 +178,8 @@ fn unpublish_argument(state: &mut RunState, row: &[Place], address: Address) -> 
 pub fn unpublish(state: &mut RunState, row: &[Place], address: Address) -> Result<Tree, Stop>
     ensures { CarriesOut pure_tree (spec.unpublish (pure_row row.now) address) state.old state.new result }
 {
-    match is_account(state, address) {
-        Ok(true) => unpublish_argument(state, row, address),
-        Ok(false) => Err(Stop::IllTyped),
-        Err(_) => Err(Stop::Memory),
+    if is_account(state, address) {
+        return unpublish_argument(state, row, address);
     }
+    Err(Stop::IllTyped)
 }

@@ -21,7 +21,7 @@ use cad_access::own_type;
 use cad_declarations::discard_type;
 use cad_outcomes::{RunError, Stop};
 use cad_rows::{Place, Shape, Tree};
-use cad_run_accounts::controller;
+use cad_run_accounts::{controller, know};
 use cad_state::RunState;
 use cad_syntax::{Address, CadType};
 use cad_values::{Reference, Target, Value};
@@ -72,14 +72,38 @@ pub fn find_node(state: &mut RunState, label: u64) -> Result<(), Stop>
     }
 }
 
+/// The address of the account of the controller to which a reference of this shape leads.
+fn controller_address(shape: &Shape) -> Option<Address> {
+    match shape {
+        Shape::Plain(Value::Reference(reference)) => match &reference.to {
+            Target::Controller { address, .. } => Some(*address),
+            _ => None,
+        },
+        _ => None,
+    }
+}
+
+/// The run has the account of the controller to which a reference of this shape leads, if it leads to one; else memory fails.
+fn know_controller(state: &mut RunState, shape: &Shape) -> Result<(), Stop>
+    ensures { CarriesOut no_value done state.old state.new result }
+{
+    match controller_address(shape) {
+        Some(address) => match know(state, address) {
+            Ok(()) => Ok(()),
+            Err(_) => Err(Stop::Memory),
+        },
+        None => Ok(()),
+    }
+}
+
 /// What a reference of this shape leads to is found, so that its type can be told; Failed with ReferenceInvalid where that is
-/// gone. Of any other shape nothing is done.
+/// gone. Of any other shape nothing is done; memory fails where it leads to a controller whose account the run doesn't have.
 pub fn settle_type(state: &mut RunState, shape: &Shape) -> Result<(), Stop>
     ensures { FindsAndCarriesOut no_value (spec.settled (pure_shape shape.now)) state.old state.new result }
 {
     match label_in(shape) {
         Some(label) => find_node(state, label),
-        None => Ok(()),
+        None => know_controller(state, shape),
     }
 }
 
@@ -94,7 +118,7 @@ fn type_told(told: Result<Option<CadType>, AllocError>) -> Result<CadType, Stop>
     }
 }
 
-/// Whether an account has a controller of a number. Memory fails only where the run has no accounts.
+/// Whether an account has a controller of a number. Memory fails only where the run doesn't have the account.
 pub fn is_controller(state: &RunState, address: Address, id: u64) -> Result<bool, AllocError>
     ensures { IfOk result (λ is. (accounts : List Account) → is ≡ is_some (controller_at (state_over accounts state.now) address.0 id)) }
 {

@@ -14,10 +14,10 @@ use cad_declarations::Checked;
 use cad_deploys::{new_contract, run_deploy};
 use cad_discards::hold;
 use cad_rows::{Place, discard_row};
-use cad_script_replies::{FrontEnd, Unfinished, begin_over};
+use cad_script_replies::{FrontEnd, Unfinished, begin_over, of_world};
 use cad_state::{Contract, discard_contract};
 use cad_syntax::{Bytes, TypeId};
-use cad_transaction_replies::{TransactionOutcome, outcome_of_run};
+use cad_transaction_replies::{TransactionOutcome, outcome_of_run, whole_outcome};
 use cad_worlds::{World, discard_world};
 use std::alloc::{AllocError, Global};
 use std::rc::Rc;
@@ -35,9 +35,13 @@ fn run_over<E: FrontEnd>(
     requires { limit ≤ 1000000 }
     ensures { IsKept (world_of world) → IfOk result (λ it. (o : Outcome) × spec.Ran (E.front end.now) (world_of world) (program_of checked.value) (contract_of contract) (pure_row row.items) limit o × (o ≢ stays (failed 0)) × Tells it o) }
 {
-    let mut state = begin_over(alloc, checked, world, limit);
+    let all = of_world(world);
+    let mut state = begin_over(alloc, checked, all, limit);
     let run = run_deploy(2 * limit + 2, end, contract, row, &mut state);
-    outcome_of_run(alloc, state, run)
+    match outcome_of_run(alloc, state, run) {
+        Ok(outcome) => whole_outcome(outcome),
+        Err(why) => Err(why),
+    }
 }
 
 /// What the deployment of a contract comes to over a World, on a row of arguments.

@@ -1,11 +1,12 @@
 // A contract is deployed.
 ghost use Rattle.cad_deploys.specs.Code.Parts as parts;
 ghost use Rattle.cad_evaluation.specs.Evaluation.{calls_to};
-ghost use Rattle.cad_transaction_runs.specs.Passed.{callee_of};
+ghost use Rattle.cad_transaction_runs.specs.Passed.{callee_of, tree_in};
 ghost use Rattle.cad_outcomes.specs.Outcomes.{no_value};
 ghost use Rattle.cad_rows.specs.Views.{pure_row, pure_tree};
 ghost use Rattle.cad_runs.specs.Run as spec;
-ghost use Rattle.cad_state.specs.Views.{CarriesOut, FindsAndCarriesOut, contract_of};
+ghost use Rattle.cad_state.specs.Views.{FindsAndCarriesOut, contract_of};
+ghost use Rattle.cad_transaction_runs.specs.OverStorable.{CarriesOutOverStorable, FindsAndCarriesOutOverStorable};
 
 use cad_installations::{Initializers, install};
 use cad_making::let_go;
@@ -21,8 +22,8 @@ fn call<E: FrontEnd>(
     state: &mut RunState,
     callee: Callee<'_>,
     arguments: Vec<Place>,
-) -> Result<Tree, Stop>
-    ensures { FindsAndCarriesOut pure_tree (calls_to (E.front end.now) fuel (callee_of callee.entry) (pure_row arguments.items)) state.old state.new result }
+) -> Result<Box<Tree>, Stop>
+    ensures { FindsAndCarriesOut tree_in (calls_to (E.front end.now) fuel (callee_of callee.entry) (pure_row arguments.items)) state.old state.new result }
 {
     call_with(fuel, end, state, callee, arguments)
 }
@@ -49,7 +50,7 @@ fn install_entry<I: Initializers>(
 
 /// What an installation gave goes, and what stands in accounts is judged.
 fn end_deploy(tree: Tree, state: &mut RunState) -> Result<(), Stop>
-    ensures { CarriesOut no_value (parts.deploy_ended (pure_tree tree)) state.old state.new result }
+    ensures { CarriesOutOverStorable no_value (parts.deploy_ended (pure_tree tree)) state.old state.new result }
 {
     match let_go(tree) {
         Ok(()) => judge_stored(state),
@@ -65,7 +66,7 @@ fn deploy<I: Initializers>(
     state: &mut RunState,
 ) -> Result<(), Stop>
     requires { I.is_ready by.now }
-    ensures { FindsAndCarriesOut no_value (spec.run_deploy (I.calls by.now) (contract_of contract) (pure_row arguments.items)) state.old state.new result }
+    ensures { FindsAndCarriesOutOverStorable no_value (spec.run_deploy (I.calls by.now) (contract_of contract) (pure_row arguments.items)) state.old state.new result }
 {
     match install_entry(by, contract, arguments, state) {
         Ok(tree) => end_deploy(tree, state),
@@ -75,7 +76,8 @@ fn deploy<I: Initializers>(
 
 /// A contract is deployed on the arguments of its initializer, which is an entry also where none is written: a unit, its run, and
 /// then what stands in accounts is judged. Errors are those of the initializer, 133 where a value in an account can't be stored, and
-/// 123 where one is too high. No memory of arguments of which a node has a label, and where the run has no accounts.
+/// 123 where one is too high. No memory of arguments of which a node has a label, and where an account is needed that the run
+/// doesn't have.
 pub fn run_deploy<E: FrontEnd>(
     fuel: u64,
     end: &E,
@@ -83,7 +85,7 @@ pub fn run_deploy<E: FrontEnd>(
     arguments: Vec<Place>,
     state: &mut RunState,
 ) -> Result<(), Stop>
-    ensures { FindsAndCarriesOut no_value (spec.run_deploy (calls_to (E.front end.now) fuel) (contract_of contract) (pure_row arguments.items)) state.old state.new result }
+    ensures { FindsAndCarriesOutOverStorable no_value (spec.run_deploy (calls_to (E.front end.now) fuel) (contract_of contract) (pure_row arguments.items)) state.old state.new result }
 {
     let level = Level {
         fuel,

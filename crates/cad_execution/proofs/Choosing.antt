@@ -1,6 +1,7 @@
 -- Statements that choose a block, by their parts.
 use Rattle.std.proofs.Common.{◌≡◌, refl, sym, subst, ap, ◌∙◌, drop, get_or, length, ◌<◌, ◌+◌, add-one, drop-cons}
 use Rattle.std.specs.Prelude.{ℕ, suc, Bool, true, false, ◌||◌, List, [], map, Option, Some, None, option_map, Result, Ok, Err}
+use Rattle.std.specs.Global.{Box}
 use Rattle.cad_syntax.specs.Types.{PureType}
 use Rattle.cad_declarations.specs.Typed as e
 use Rattle.cad_declarations.specs.Views.{case_of}
@@ -26,7 +27,7 @@ use Rattle.cad_label_runs.proofs.Statements.{exec_block_keeps}
 use Rattle.cad_label_runs.proofs.Values.{FlowHasNone, MaybeHasNone}
 use Rattle.cad_outcomes.specs.Outcomes.{no_value}
 use Rattle.cad_outcomes.specs.declared.stop.Stop.{Stop}
-use Rattle.cad_rows.specs.Views.{pure_tree}
+use Rattle.cad_expressions.specs.Views.{tree_in}
 use Rattle.cad_rows.specs.declared.tree.Tree as held
 use Rattle.cad_expressions.proofs.Passed.{casts_first}
 use Rattle.cad_expressions.specs.Passed.{cast_place, if_cast}
@@ -89,44 +90,44 @@ cast_is front calls at n v p type body otherwise s =
     (if_cast v (exec_block front calls n body) (exec_block front calls n otherwise)) (λ o u. cast_then v (exec_block front calls n body) (exec_block front calls n otherwise) o u)
 
 -- what is done with a content that may be there
-with_found : (p : Action (Option Tree)) (q : Action spec.Flow) (v : e.VariableEntry) (body otherwise : Action spec.Flow) (found : Option held.Tree) (inside : held.Tree) (x y z : RunState) (r : Result Flow Stop)
-    → ((s : State) → q s ≡ (p >>= parts.by_content v body otherwise) s) → Keeps MaybeHasNone p → FindsAndCarriesOut (option_map pure_tree) p x y (Ok found) → found ≡ Some inside
-    → (HasNone (pure_tree inside) → FindsAndCarriesOut flow_of (with_variable v (pure_tree inside) body) y z r) → FindsAndCarriesOut flow_of q x z r
+with_found : (p : Action (Option Tree)) (q : Action spec.Flow) (v : e.VariableEntry) (body otherwise : Action spec.Flow) (found : Option (Box held.Tree)) (inside : Box held.Tree) (x y z : RunState) (r : Result Flow Stop)
+    → ((s : State) → q s ≡ (p >>= parts.by_content v body otherwise) s) → Keeps MaybeHasNone p → FindsAndCarriesOut (option_map tree_in) p x y (Ok found) → found ≡ Some inside
+    → (HasNone (tree_in inside) → FindsAndCarriesOut flow_of (with_variable v (tree_in inside) body) y z r) → FindsAndCarriesOut flow_of q x z r
 with_found p q v body otherwise found inside x y z r same keeps h is k = find_same flow_of q (p >>= parts.by_content v body otherwise) x z r (λ w ready. same (state_over w x))
-    (find_then MaybeHasNone p keeps (option_map pure_tree) flow_of (parts.by_content v body otherwise) (Some inside) x y z r
-    (subst (λ (o : Option held.Tree). FindsAndCarriesOut (option_map pure_tree) p x y (Ok o)) is h) k)
+    (find_then MaybeHasNone p keeps (option_map tree_in) flow_of (parts.by_content v body otherwise) (Some inside) x y z r
+    (subst (λ (o : Option (Box held.Tree)). FindsAndCarriesOut (option_map tree_in) p x y (Ok o)) is h) k)
 
-without_found : (p : Action (Option Tree)) (q : Action spec.Flow) (v : e.VariableEntry) (body otherwise : Action spec.Flow) (found : Option held.Tree) (x y z : RunState) (r : Result Flow Stop)
-    → ((s : State) → q s ≡ (p >>= parts.by_content v body otherwise) s) → Keeps MaybeHasNone p → FindsAndCarriesOut (option_map pure_tree) p x y (Ok found) → found ≡ None
+without_found : (p : Action (Option Tree)) (q : Action spec.Flow) (v : e.VariableEntry) (body otherwise : Action spec.Flow) (found : Option (Box held.Tree)) (x y z : RunState) (r : Result Flow Stop)
+    → ((s : State) → q s ≡ (p >>= parts.by_content v body otherwise) s) → Keeps MaybeHasNone p → FindsAndCarriesOut (option_map tree_in) p x y (Ok found) → found ≡ None
     → FindsAndCarriesOut flow_of otherwise y z r → FindsAndCarriesOut flow_of q x z r
 without_found p q v body otherwise found x y z r same keeps h is k = find_same flow_of q (p >>= parts.by_content v body otherwise) x z r (λ w ready. same (state_over w x))
-    (find_then MaybeHasNone p keeps (option_map pure_tree) flow_of (parts.by_content v body otherwise) None x y z r
-    (subst (λ (o : Option held.Tree). FindsAndCarriesOut (option_map pure_tree) p x y (Ok o)) is h) (λ u. k))
+    (find_then MaybeHasNone p keeps (option_map tree_in) flow_of (parts.by_content v body otherwise) None x y z r
+    (subst (λ (o : Option (Box held.Tree)). FindsAndCarriesOut (option_map tree_in) p x y (Ok o)) is h) (λ u. k))
 
 not_found : (p : Action (Option Tree)) (q : Action spec.Flow) (v : e.VariableEntry) (body otherwise : Action spec.Flow) (x : RunState) (stop : Stop)
     → ((s : State) → q s ≡ (p >>= parts.by_content v body otherwise) s) → Fails p x stop → Fails q x stop
 not_found p q v body otherwise x stop same h w ready = stops_same (q (state_over w x)) ((p >>= parts.by_content v body otherwise) (state_over w x)) stop (same (state_over w x)) (stops p (parts.by_content v body otherwise) x stop h w ready)
 
-pub let_some : (front : Front) (calls : Calls) (at n : ℕ) (v : e.VariableEntry) (a : e.TermTree) (type : PureType) (body otherwise : e.BlockTree) (found : Option held.Tree) (inside : held.Tree) (x y z : RunState) (r : Result Flow Stop) → CalleesKeep calls
-    → FindsAndCarriesOut (option_map pure_tree) (parts.content_come front calls (parts.term_variable a) a type) x y (Ok found) → found ≡ Some inside → (HasNone (pure_tree inside) → FindsAndCarriesOut flow_of (with_variable v (pure_tree inside) (exec_block front calls n body)) y z r)
+pub let_some : (front : Front) (calls : Calls) (at n : ℕ) (v : e.VariableEntry) (a : e.TermTree) (type : PureType) (body otherwise : e.BlockTree) (found : Option (Box held.Tree)) (inside : Box held.Tree) (x y z : RunState) (r : Result Flow Stop) → CalleesKeep calls
+    → FindsAndCarriesOut (option_map tree_in) (parts.content_come front calls (parts.term_variable a) a type) x y (Ok found) → found ≡ Some inside → (HasNone (tree_in inside) → FindsAndCarriesOut flow_of (with_variable v (tree_in inside) (exec_block front calls n body)) y z r)
     → FindsAndCarriesOut flow_of (exec front calls n (e.if_let at v a type body otherwise)) x z r
 let_some front calls at n v a type body otherwise found inside x y z r keep h is k = with_found (parts.content_come front calls (parts.term_variable a) a type) (exec front calls n (e.if_let at v a type body otherwise)) v (exec_block front calls n body) (exec_block front calls n otherwise) found inside x y z r (let_is front calls at n v a type body otherwise) (content_come_keeps front calls (parts.term_variable a) a type keep) h is k
 
-pub let_none : (front : Front) (calls : Calls) (at n : ℕ) (v : e.VariableEntry) (a : e.TermTree) (type : PureType) (body otherwise : e.BlockTree) (found : Option held.Tree) (x y z : RunState) (r : Result Flow Stop) → CalleesKeep calls
-    → FindsAndCarriesOut (option_map pure_tree) (parts.content_come front calls (parts.term_variable a) a type) x y (Ok found) → found ≡ None → FindsAndCarriesOut flow_of (exec_block front calls n otherwise) y z r
+pub let_none : (front : Front) (calls : Calls) (at n : ℕ) (v : e.VariableEntry) (a : e.TermTree) (type : PureType) (body otherwise : e.BlockTree) (found : Option (Box held.Tree)) (x y z : RunState) (r : Result Flow Stop) → CalleesKeep calls
+    → FindsAndCarriesOut (option_map tree_in) (parts.content_come front calls (parts.term_variable a) a type) x y (Ok found) → found ≡ None → FindsAndCarriesOut flow_of (exec_block front calls n otherwise) y z r
     → FindsAndCarriesOut flow_of (exec front calls n (e.if_let at v a type body otherwise)) x z r
 let_none front calls at n v a type body otherwise found x y z r keep h is k = without_found (parts.content_come front calls (parts.term_variable a) a type) (exec front calls n (e.if_let at v a type body otherwise)) v (exec_block front calls n body) (exec_block front calls n otherwise) found x y z r (let_is front calls at n v a type body otherwise) (content_come_keeps front calls (parts.term_variable a) a type keep) h is k
 
 pub let_err : (front : Front) (calls : Calls) (at n : ℕ) (v : e.VariableEntry) (a : e.TermTree) (type : PureType) (body otherwise : e.BlockTree) (x : RunState) (stop : Stop) → Fails (parts.content_come front calls (parts.term_variable a) a type) x stop → Fails (exec front calls n (e.if_let at v a type body otherwise)) x stop
 let_err front calls at n v a type body otherwise x stop h = not_found (parts.content_come front calls (parts.term_variable a) a type) (exec front calls n (e.if_let at v a type body otherwise)) v (exec_block front calls n body) (exec_block front calls n otherwise) x stop (let_is front calls at n v a type body otherwise) h
 
-pub cast_some : (front : Front) (calls : Calls) (at n : ℕ) (v : e.VariableEntry) (p : e.PlaceTree) (type : PureType) (body otherwise : e.BlockTree) (found : Option held.Tree) (inside : held.Tree) (x y z : RunState) (r : Result Flow Stop) → CalleesKeep calls
-    → FindsAndCarriesOut (option_map pure_tree) (parts.cast_come front calls p type) x y (Ok found) → found ≡ Some inside → (HasNone (pure_tree inside) → FindsAndCarriesOut flow_of (with_variable v (pure_tree inside) (exec_block front calls n body)) y z r)
+pub cast_some : (front : Front) (calls : Calls) (at n : ℕ) (v : e.VariableEntry) (p : e.PlaceTree) (type : PureType) (body otherwise : e.BlockTree) (found : Option (Box held.Tree)) (inside : Box held.Tree) (x y z : RunState) (r : Result Flow Stop) → CalleesKeep calls
+    → FindsAndCarriesOut (option_map tree_in) (parts.cast_come front calls p type) x y (Ok found) → found ≡ Some inside → (HasNone (tree_in inside) → FindsAndCarriesOut flow_of (with_variable v (tree_in inside) (exec_block front calls n body)) y z r)
     → FindsAndCarriesOut flow_of (exec front calls n (e.if_cast at v p type body otherwise)) x z r
 cast_some front calls at n v p type body otherwise found inside x y z r keep h is k = with_found (parts.cast_come front calls p type) (exec front calls n (e.if_cast at v p type body otherwise)) v (exec_block front calls n body) (exec_block front calls n otherwise) found inside x y z r (cast_is front calls at n v p type body otherwise) (cast_come_keeps front calls p type keep) h is k
 
-pub cast_none : (front : Front) (calls : Calls) (at n : ℕ) (v : e.VariableEntry) (p : e.PlaceTree) (type : PureType) (body otherwise : e.BlockTree) (found : Option held.Tree) (x y z : RunState) (r : Result Flow Stop) → CalleesKeep calls
-    → FindsAndCarriesOut (option_map pure_tree) (parts.cast_come front calls p type) x y (Ok found) → found ≡ None → FindsAndCarriesOut flow_of (exec_block front calls n otherwise) y z r
+pub cast_none : (front : Front) (calls : Calls) (at n : ℕ) (v : e.VariableEntry) (p : e.PlaceTree) (type : PureType) (body otherwise : e.BlockTree) (found : Option (Box held.Tree)) (x y z : RunState) (r : Result Flow Stop) → CalleesKeep calls
+    → FindsAndCarriesOut (option_map tree_in) (parts.cast_come front calls p type) x y (Ok found) → found ≡ None → FindsAndCarriesOut flow_of (exec_block front calls n otherwise) y z r
     → FindsAndCarriesOut flow_of (exec front calls n (e.if_cast at v p type body otherwise)) x z r
 cast_none front calls at n v p type body otherwise found x y z r keep h is k = without_found (parts.cast_come front calls p type) (exec front calls n (e.if_cast at v p type body otherwise)) v (exec_block front calls n body) (exec_block front calls n otherwise) found x y z r (cast_is front calls at n v p type body otherwise) (cast_come_keeps front calls p type keep) h is k
 
@@ -225,11 +226,11 @@ cases_done front calls n nil t es i x none = subst (λ all. FindsAndCarriesOut (
 
 -- ---- `switch`
 
-pub chosen_run : (front : Front) (calls : Calls) (n : ℕ) (nil : Bool) (a : e.TermTree) (all : e.TypedCases) (b : held.Tree) (x y z : RunState) (r : Result (Option Flow) Stop) → CalleesKeep calls → nil ≡ is_nil_literal a
-    → FindsAndCarriesOut pure_tree (parts.value_of front calls a) x y (Ok b) → FindsAndCarriesOut (option_map flow_of) (parts.exec_cases front calls n nil (pure_tree b) all) y z r
+pub chosen_run : (front : Front) (calls : Calls) (n : ℕ) (nil : Bool) (a : e.TermTree) (all : e.TypedCases) (b : Box held.Tree) (x y z : RunState) (r : Result (Option Flow) Stop) → CalleesKeep calls → nil ≡ is_nil_literal a
+    → FindsAndCarriesOut tree_in (parts.value_of front calls a) x y (Ok b) → FindsAndCarriesOut (option_map flow_of) (parts.exec_cases front calls n nil (tree_in b) all) y z r
     → FindsAndCarriesOut (option_map flow_of) (parts.exec_chosen front calls n a all) x z r
-chosen_run front calls n nil a all b x y z r keep is h k = both HasNone (parts.value_of front calls a) (λ t. parts.exec_cases front calls n (is_nil_literal a) t all) pure_tree (option_map flow_of) b x y z r (value_keeps front calls a keep) h
-    (subst (λ i. FindsAndCarriesOut (option_map flow_of) (parts.exec_cases front calls n i (pure_tree b) all) y z r) is k)
+chosen_run front calls n nil a all b x y z r keep is h k = both HasNone (parts.value_of front calls a) (λ t. parts.exec_cases front calls n (is_nil_literal a) t all) tree_in (option_map flow_of) b x y z r (value_keeps front calls a keep) h
+    (subst (λ i. FindsAndCarriesOut (option_map flow_of) (parts.exec_cases front calls n i (tree_in b) all) y z r) is k)
 
 pub chosen_stop : (front : Front) (calls : Calls) (n : ℕ) (a : e.TermTree) (all : e.TypedCases) (x : RunState) (stop : Stop) → Fails (parts.value_of front calls a) x stop → Fails (parts.exec_chosen front calls n a all) x stop
 chosen_stop front calls n a all x stop h = stops (parts.value_of front calls a) (λ t. parts.exec_cases front calls n (is_nil_literal a) t all) x stop h

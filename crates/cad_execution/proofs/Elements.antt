@@ -20,35 +20,27 @@ use Rattle.cad_execution.specs.Code.Results.{turn_end}
 use Rattle.cad_execution.specs.Views.{flow_of}
 use Rattle.cad_execution.specs.declared.flow.Flow.{Flow}
 use Rattle.cad_execution.specs.declared.flow.Flow.TheVariants.{Next}
-use Rattle.cad_expressions.specs.Views.{items_row}
+use Rattle.cad_expressions.specs.Views.{items_row, tree_in}
 use Rattle.cad_labels.specs.Laws.{AnyOne, HasNone, HasNoneInRow, Keeps, CalleesKeep}
-use Rattle.cad_labels.proofs.Forms.{keeps_spend, keeps_stuck, node_none, rest_none, Within}
+use Rattle.cad_labels.proofs.Forms.{keeps_spend, keeps_stuck, keeps_within, node_none, rest_none}
 use Rattle.cad_labels.proofs.Keeping.{keeps_bind}
 use Rattle.cad_labels.proofs.Places.{filling_keeps}
 use Rattle.cad_label_runs.proofs.Flows.{with_index_keeps, with_variable_keeps}
 use Rattle.cad_label_runs.proofs.Statements.{exec_block_keeps}
 use Rattle.cad_label_runs.proofs.Values.{FlowHasNone, int_none}
-use Rattle.cad_outcomes.proofs.Steps.{does_same, stops_same}
-use Rattle.cad_outcomes.specs.Outcomes.{no_value}
+use Rattle.cad_outcomes.proofs.Steps.{does_same, stops_same, then}
+use Rattle.cad_outcomes.specs.Outcomes.{Gives, Stops, no_value}
 use Rattle.cad_outcomes.specs.declared.stop.Stop.{Stop}
 use Rattle.cad_rows.specs.Views.{PlaceView, vacant, taken, as_row, pure_place, pure_row, pure_tree}
 use Rattle.cad_rows.specs.declared.tree.Tree as held
 use Rattle.cad_rows.specs.declared.tree.Place.{Place}
-use Rattle.std.specs.Global.{Vec}
+use Rattle.std.specs.Global.{Box, Vec}
 use Rattle.cad_state.proofs.Finding.{find_then, find_same}
 use Rattle.cad_state.specs.Views.{state_over, CarriesOut, FindsAndCarriesOut}
 use Rattle.cad_state.specs.declared.state.RunState.{RunState}
 use Rattle.cad_world.specs.Locations.{variable}
 use Rattle.cad_world.specs.Rows.{Tree, Row}
-use Rattle.cad_world.specs.State.{State, Outcome, ok, failed, limit, ill, Action, ◌>>=◌, give, with_some, tick}
-
-pub counted_ok : (front : Front) (calls : Calls) (n : ℕ) (ix : e.VariableEntry) (count : Tree) (v : e.VariableEntry) (t : Tree) (body : e.BlockTree) (x y z : RunState) (r : Result Flow Stop) → HasNone count
-    → CarriesOut no_value (fill (variable ix.number) count) x y (Ok tt) → FindsAndCarriesOut flow_of (with_variable v t (exec_block front calls n body)) y z r → FindsAndCarriesOut flow_of (parts.run_counted front calls n ix count v t body) x z r
-counted_ok front calls n ix count v t body x y z r none h k = both AnyOne (fill (variable ix.number) count) (λ _. with_variable v t (exec_block front calls n body)) no_value flow_of tt x y z r (filling_keeps (variable ix.number) count none) (λ w ready. h w) k
-
-pub counted_err : (front : Front) (calls : Calls) (n : ℕ) (ix : e.VariableEntry) (count : Tree) (v : e.VariableEntry) (t : Tree) (body : e.BlockTree) (x : RunState) (stop : Stop)
-    → FailsAnyhow (fill (variable ix.number) count) x stop → Fails (parts.run_counted front calls n ix count v t body) x stop
-counted_err front calls n ix count v t body x stop h = stops (fill (variable ix.number) count) (λ _. with_variable v t (exec_block front calls n body)) x stop (λ w ready. h w)
+use Rattle.cad_world.specs.State.{State, Outcome, ok, failed, limit, ill, Action, ◌>>=◌, ◌>>◌, give, with_some, tick}
 
 -- ---- the counter
 
@@ -64,29 +56,46 @@ value_or d (failed n) = d
 value_or d limit = d
 value_or d ill = d
 
-counted_is : (o : Option Tree) (c : Tree) (f : Tree → Action spec.Flow) (s : State) → with_some o give s ≡ ok c s → with_some o f s ≡ f c s
+counted_is : (o : Option Tree) (c : Tree) (f : Tree → Action (Unit {0})) (s : State) → with_some o give s ≡ ok c s → with_some o f s ≡ f c s
 counted_is None c f s h = absurd (subst (λ (q : Outcome Tree). IsOk q) (sym h) tt)
 counted_is (Some d) c f s h = ap (λ (q : Outcome Tree). f (value_or d q) s) h
 
-none_counted : (o : Option Tree) (c : Tree) (s : State) → with_some o give s ≡ ok c s → Within HasNone o → HasNone c
-none_counted None c s h k = absurd (subst (λ (q : Outcome Tree). IsOk q) (sym h) tt)
-none_counted (Some d) c s h k = subst (λ (q : Outcome Tree). HasNone (value_or d q)) h k
+pub counter_filled : (number i : ℕ) (count : held.Tree) (x y : RunState) (r : Result (Unit {0}) Stop) → ((s : State) → given_int i s ≡ ok (pure_tree count) s)
+    → CarriesOut no_value (fill (variable number) (pure_tree count)) x y r → CarriesOut no_value (parts.fill_counter number i) x y r
+counter_filled number i count x y r told h w = does_same no_value (parts.fill_counter number i) (fill (variable number) (pure_tree count)) (state_over w x) (state_over w y) r
+    (counted_is (int_tree i) (pure_tree count) (fill (variable number)) (state_over w x) (told (state_over w x))) (h w)
 
-pub counter_ok : (front : Front) (calls : Calls) (n : ℕ) (ix : e.VariableEntry) (i : ℕ) (count : held.Tree) (v : e.VariableEntry) (t : Tree) (body : e.BlockTree) (b : Flow) (x y z : RunState) (r : Result Flow Stop)
-    → ((s : State) → given_int i s ≡ ok (pure_tree count) s) → (HasNone (pure_tree count) → FindsAndCarriesOut flow_of (parts.run_counted front calls n ix (pure_tree count) v t body) x y (Ok b))
-    → CarriesOut flow_of (parts.end_with ix.number (flow_of b)) y z r → FindsAndCarriesOut flow_of (parts.run_indexed front calls n (Some ix) i v t body) x z r
-counter_ok front calls n ix i count v t body b x y z r told h k w ready =
-    does_same flow_of (parts.run_indexed front calls n (Some ix) i v t body) (with_variable ix (pure_tree count) (with_variable v t (exec_block front calls n body))) (state_over w x) (state_over w z) r
-    (counted_is (int_tree i) (pure_tree count) (λ c. with_variable ix c (with_variable v t (exec_block front calls n body))) (state_over w x) (told (state_over w x)))
-    (both_any (parts.run_counted front calls n ix (pure_tree count) v t body) (parts.end_with ix.number) flow_of flow_of b x y z r (h (none_counted (int_tree i) (pure_tree count) (state_over w x) (told (state_over w x)) (int_none i))) k w ready)
+counter_keeps : (number i : ℕ) → Keeps AnyOne (parts.fill_counter number i)
+counter_keeps number i = keeps_within HasNone AnyOne (int_tree i) (fill (variable number)) (int_none i) (λ c none. filling_keeps (variable number) c none)
 
-pub counter_err : (front : Front) (calls : Calls) (n : ℕ) (ix : e.VariableEntry) (i : ℕ) (count : held.Tree) (v : e.VariableEntry) (t : Tree) (body : e.BlockTree) (x : RunState) (stop : Stop)
-    → ((s : State) → given_int i s ≡ ok (pure_tree count) s) → (HasNone (pure_tree count) → Fails (parts.run_counted front calls n ix (pure_tree count) v t body) x stop)
-    → Fails (parts.run_indexed front calls n (Some ix) i v t body) x stop
-counter_err front calls n ix i count v t body x stop told h w ready =
-    stops_same (parts.run_indexed front calls n (Some ix) i v t body (state_over w x)) (with_variable ix (pure_tree count) (with_variable v t (exec_block front calls n body)) (state_over w x)) stop
-    (counted_is (int_tree i) (pure_tree count) (λ c. with_variable ix c (with_variable v t (exec_block front calls n body))) (state_over w x) (told (state_over w x)))
-    (stops (parts.run_counted front calls n ix (pure_tree count) v t body) (parts.end_with ix.number) x stop (h (none_counted (int_tree i) (pure_tree count) (state_over w x) (told (state_over w x)) (int_none i))) w ready)
+pub counted_ok : (front : Front) (calls : Calls) (n : ℕ) (ix : e.VariableEntry) (i : ℕ) (v : e.VariableEntry) (t : Tree) (body : e.BlockTree) (x y z : RunState) (r : Result Flow Stop)
+    → CarriesOut no_value (parts.fill_counter ix.number i) x y (Ok tt) → FindsAndCarriesOut flow_of (with_variable v t (exec_block front calls n body)) y z r → FindsAndCarriesOut flow_of (parts.run_counted front calls n ix i v t body) x z r
+counted_ok front calls n ix i v t body x y z r h k = both AnyOne (parts.fill_counter ix.number i) (λ _. with_variable v t (exec_block front calls n body)) no_value flow_of tt x y z r (counter_keeps ix.number i) (λ w ready. h w) k
+
+pub counted_err : (front : Front) (calls : Calls) (n : ℕ) (ix : e.VariableEntry) (i : ℕ) (v : e.VariableEntry) (t : Tree) (body : e.BlockTree) (x : RunState) (stop : Stop)
+    → FailsAnyhow (parts.fill_counter ix.number i) x stop → Fails (parts.run_counted front calls n ix i v t body) x stop
+counted_err front calls n ix i v t body x stop h = stops (parts.fill_counter ix.number i) (λ _. with_variable v t (exec_block front calls n body)) x stop (λ w ready. h w)
+
+-- the counter's variable ends behind the block, as the definition groups it
+counter_is : (o : Option Tree) (ix : e.VariableEntry) (body : Action spec.Flow) (s : State)
+    → with_some o (λ c. with_variable ix c body) s ≡ ((with_some o (fill (variable ix.number)) >> body) >>= parts.end_with ix.number) s
+counter_is None ix body s = refl
+counter_is (Some c) ix body s = refl
+
+pub counter_ok : (front : Front) (calls : Calls) (n : ℕ) (ix : e.VariableEntry) (i : ℕ) (v : e.VariableEntry) (t : Tree) (body : e.BlockTree) (b : Flow) (x y z : RunState) (r : Result Flow Stop)
+    → FindsAndCarriesOut flow_of (parts.run_counted front calls n ix i v t body) x y (Ok b) → CarriesOut flow_of (parts.end_with ix.number (flow_of b)) y z r
+    → FindsAndCarriesOut flow_of (parts.run_indexed front calls n (Some ix) i v t body) x z r
+counter_ok front calls n ix i v t body b x y z r h k =
+    find_same flow_of (parts.run_indexed front calls n (Some ix) i v t body) (parts.run_counted front calls n ix i v t body >>= parts.end_with ix.number) x z r
+    (λ w ready. counter_is (int_tree i) ix (with_variable v t (exec_block front calls n body)) (state_over w x))
+    (both_any (parts.run_counted front calls n ix i v t body) (parts.end_with ix.number) flow_of flow_of b x y z r h k)
+
+pub counter_err : (front : Front) (calls : Calls) (n : ℕ) (ix : e.VariableEntry) (i : ℕ) (v : e.VariableEntry) (t : Tree) (body : e.BlockTree) (x : RunState) (stop : Stop)
+    → Fails (parts.run_counted front calls n ix i v t body) x stop → Fails (parts.run_indexed front calls n (Some ix) i v t body) x stop
+counter_err front calls n ix i v t body x stop h w ready =
+    stops_same (parts.run_indexed front calls n (Some ix) i v t body (state_over w x)) ((parts.run_counted front calls n ix i v t body >>= parts.end_with ix.number) (state_over w x)) stop
+    (counter_is (int_tree i) ix (with_variable v t (exec_block front calls n body)) (state_over w x))
+    (stops (parts.run_counted front calls n ix i v t body) (parts.end_with ix.number) x stop h w ready)
 
 -- ---- turns
 
@@ -106,6 +115,21 @@ element_none front calls n o i v t body x y z r is h k = subst (λ (q : Option V
 
 pub element_err : (front : Front) (calls : Calls) (n : ℕ) (index : Option e.VariableEntry) (i : ℕ) (v : e.VariableEntry) (t : Tree) (body : e.BlockTree) (x : RunState) (stop : Stop) → FailsAnyhow tick x stop → Fails (parts.run_element front calls n index i v t body) x stop
 element_err front calls n index i v t body x stop h = stops tick (λ _. parts.run_indexed front calls n index i v t body) x stop (λ w ready. h w)
+
+none_in : (p : PlaceView) (t : Tree) (s : State) → parts.element_in p s ≡ ok t s → parts.PlaceHasNone p → HasNone t
+none_in vacant t s h none = absurd (subst (λ (q : Outcome Tree). IsOk q) (sym h) tt)
+none_in (taken l own) t s h none = subst (λ (q : Outcome Tree). HasNone (value_or own q)) h none
+
+pub place_ok : (front : Front) (calls : Calls) (n : ℕ) (index : Option e.VariableEntry) (i : ℕ) (v : e.VariableEntry) (body : e.BlockTree) (p : PlaceView) (b : Box held.Tree) (x z : RunState) (r : Result Flow Stop)
+    → Gives tree_in (parts.element_in p) (Ok b) → parts.PlaceHasNone p → (HasNone (tree_in b) → FindsAndCarriesOut flow_of (parts.run_element front calls n index i v (tree_in b) body) x z r)
+    → FindsAndCarriesOut flow_of (parts.run_place front calls n index i v body p) x z r
+place_ok front calls n index i v body p b x z r given none h w ready =
+    then flow_of (parts.element_in p) (λ t. parts.run_element front calls n index i v t body) (tree_in b) (state_over w x) (state_over w x) (state_over w z) r (given (state_over w x))
+    (h (none_in p (tree_in b) (state_over w x) (given (state_over w x)) none) w ready)
+
+pub place_err : (front : Front) (calls : Calls) (n : ℕ) (index : Option e.VariableEntry) (i : ℕ) (v : e.VariableEntry) (body : e.BlockTree) (p : PlaceView) (x : RunState) (stop : Stop)
+    → ((s : State) → Stops (parts.element_in p s) stop) → Fails (parts.run_place front calls n index i v body p) x stop
+place_err front calls n index i v body p x stop h = stops (parts.element_in p) (λ t. parts.run_element front calls n index i v t body) x stop (λ w ready. h (state_over w x))
 
 place_keeps : (front : Front) (calls : Calls) (n : ℕ) (index : Option e.VariableEntry) (i : ℕ) (v : e.VariableEntry) (body : e.BlockTree) (p : PlaceView) → CalleesKeep calls → parts.PlaceHasNone p → Keeps FlowHasNone (parts.run_place front calls n index i v body p)
 place_keeps front calls n index i v body vacant keep none = keeps_stuck FlowHasNone

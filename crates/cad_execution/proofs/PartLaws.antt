@@ -13,7 +13,7 @@ use Rattle.cad_evaluation.specs.Statements.{emits}
 use Rattle.cad_evaluation.specs.Terms.{eval, eval_place, eval_arguments}
 use Rattle.cad_execution.specs.Code.Parts as parts
 use Rattle.cad_execution.proofs.Steps.{Fails, FailsAnyhow, both, both_any, both_given, stops, any_then, any_stops}
-use Rattle.cad_expressions.specs.Views.{items_row}
+use Rattle.cad_expressions.specs.Views.{items_row, tree_in}
 use Rattle.cad_labels.specs.Laws.{AnyOne}
 use Rattle.cad_labels.proofs.Forms.{keeps_spend}
 use Rattle.cad_locations.specs.Views.{location_of}
@@ -24,7 +24,7 @@ use Rattle.cad_outcomes.specs.declared.stop.Stop.{Stop}
 use Rattle.cad_rows.specs.Views.{pure_tree, pure_row}
 use Rattle.cad_rows.specs.declared.tree.Tree.{Tree}
 use Rattle.cad_rows.specs.declared.tree.Place.{Place}
-use Rattle.std.specs.Global.{Vec}
+use Rattle.std.specs.Global.{Box, Vec}
 use Rattle.cad_expressions.specs.Passed.{standing_of}
 use Rattle.cad_expressions.specs.Passed.{Standing}
 use Rattle.cad_state.specs.Views.{state_over, CarriesOut, FindsAndCarriesOut}
@@ -35,23 +35,23 @@ use Rattle.cad_world.specs.Transfers.{transferred}
 
 -- ---- values
 
-pub first_value_ok : (front : Front) (calls : Calls) (a : e.TermTree) (x y z : RunState) (r : Result Tree Stop)
-    → CarriesOut no_value tick x y (Ok tt) → FindsAndCarriesOut pure_tree (eval front calls a) y z r → FindsAndCarriesOut pure_tree (parts.value_of front calls a) x z r
-first_value_ok front calls a x y z r first second = both AnyOne tick (λ _. eval front calls a) no_value pure_tree tt x y z r (keeps_spend 1) (λ w ready. first w) second
+pub first_value_ok : (front : Front) (calls : Calls) (a : e.TermTree) (x y z : RunState) (r : Result (Box Tree) Stop)
+    → CarriesOut no_value tick x y (Ok tt) → FindsAndCarriesOut tree_in (eval front calls a) y z r → FindsAndCarriesOut tree_in (parts.value_of front calls a) x z r
+first_value_ok front calls a x y z r first second = both AnyOne tick (λ _. eval front calls a) no_value tree_in tt x y z r (keeps_spend 1) (λ w ready. first w) second
 
 pub first_value_err : (front : Front) (calls : Calls) (a : e.TermTree) (x : RunState) (stop : Stop) → FailsAnyhow tick x stop → Fails (parts.value_of front calls a) x stop
 first_value_err front calls a x stop h = stops tick (λ _. eval front calls a) x stop (λ w ready. h w)
 
-pub come_ok : (front : Front) (calls : Calls) (a : e.TermTree) (type : PureType) (b : Tree) (x y z : RunState) (r : Result Tree Stop)
-    → FindsAndCarriesOut pure_tree (eval front calls a) x y (Ok b) → CarriesOut pure_tree (transferred type (pure_tree b)) y z r → FindsAndCarriesOut pure_tree (parts.come front calls a type) x z r
-come_ok front calls a type b x y z r first second = both_any (eval front calls a) (transferred type) pure_tree pure_tree b x y z r first second
+pub come_ok : (front : Front) (calls : Calls) (a : e.TermTree) (type : PureType) (b : Box Tree) (x y z : RunState) (r : Result (Box Tree) Stop)
+    → FindsAndCarriesOut tree_in (eval front calls a) x y (Ok b) → CarriesOut tree_in (transferred type (tree_in b)) y z r → FindsAndCarriesOut tree_in (parts.come front calls a type) x z r
+come_ok front calls a type b x y z r first second = both_any (eval front calls a) (transferred type) tree_in tree_in b x y z r first second
 
 pub come_err : (front : Front) (calls : Calls) (a : e.TermTree) (type : PureType) (x : RunState) (stop : Stop) → Fails (eval front calls a) x stop → Fails (parts.come front calls a type) x stop
 come_err front calls a type x stop h = stops (eval front calls a) (transferred type) x stop h
 
-pub first_come_ok : (front : Front) (calls : Calls) (a : e.TermTree) (type : PureType) (b : Tree) (x y z : RunState) (r : Result Tree Stop)
-    → FindsAndCarriesOut pure_tree (parts.value_of front calls a) x y (Ok b) → CarriesOut pure_tree (transferred type (pure_tree b)) y z r → FindsAndCarriesOut pure_tree (parts.value_come front calls a type) x z r
-first_come_ok front calls a type b x y z r first second = both_any (parts.value_of front calls a) (transferred type) pure_tree pure_tree b x y z r first second
+pub first_come_ok : (front : Front) (calls : Calls) (a : e.TermTree) (type : PureType) (b : Box Tree) (x y z : RunState) (r : Result (Box Tree) Stop)
+    → FindsAndCarriesOut tree_in (parts.value_of front calls a) x y (Ok b) → CarriesOut tree_in (transferred type (tree_in b)) y z r → FindsAndCarriesOut tree_in (parts.value_come front calls a type) x z r
+first_come_ok front calls a type b x y z r first second = both_any (parts.value_of front calls a) (transferred type) tree_in tree_in b x y z r first second
 
 pub first_come_err : (front : Front) (calls : Calls) (a : e.TermTree) (type : PureType) (x : RunState) (stop : Stop) → Fails (parts.value_of front calls a) x stop → Fails (parts.value_come front calls a type) x stop
 first_come_err front calls a type x stop h = stops (parts.value_of front calls a) (transferred type) x stop h

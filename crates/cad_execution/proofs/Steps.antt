@@ -1,6 +1,7 @@
 -- Actions one behind the other, as calls carry them out.
 use Rattle.std.proofs.Common.{◌≡◌, refl, sym, ◌∙◌, ap, subst}
 use Rattle.std.specs.Prelude.{List, Result, Ok, Err}
+use Rattle.std.specs.Global.{Box}
 use Rattle.cad_evaluation.specs.Flows.{next, returned, leave_switch}
 use Rattle.cad_evaluation.specs.Flows as spec
 use Rattle.cad_execution.specs.Code.Results.{next_of, returned_of, left_flow, left_of}
@@ -11,7 +12,7 @@ use Rattle.cad_labels.specs.Laws.{Keeps}
 use Rattle.cad_outcomes.proofs.Steps.{then, stops_on, gives_here}
 use Rattle.cad_outcomes.specs.Outcomes.{Stops, Gives}
 use Rattle.cad_outcomes.specs.declared.stop.Stop.{Stop}
-use Rattle.cad_rows.specs.Views.{pure_tree}
+use Rattle.cad_expressions.specs.Views.{tree_in}
 use Rattle.cad_rows.specs.declared.tree.Tree.{Tree}
 use Rattle.cad_state.proofs.Finding.{find_then, find_same}
 use Rattle.cad_state.specs.Views.{state_over, IsReady, CarriesOut, FindsAndCarriesOut}
@@ -85,16 +86,16 @@ next_behind q view x z (Err stop) r first is = subst (λ (k : Result Flow Stop).
     (stops q (λ _. give next) x stop first)
 
 -- the function returns a value
-pub returned_behind : (q : Action _) (x z : RunState) (made : Result Tree Stop) (r : Result Flow Stop)
-    → FindsAndCarriesOut pure_tree q x z made → r ≡ returned_of made → FindsAndCarriesOut flow_of (q >>= (λ t. give (returned t))) x z r
-returned_behind q x z (Ok tree) r first is = subst (λ (k : Result Flow Stop). FindsAndCarriesOut flow_of (q >>= (λ t. give (returned t))) x z k) (sym is)
+pub returned_behind : (q : Action _) (x z : RunState) (made : Result (Box Tree) Stop) (r : Result Flow Stop)
+    → FindsAndCarriesOut tree_in q x z made → r ≡ returned_of made → FindsAndCarriesOut flow_of (q >>= (λ t. give (returned t))) x z r
+returned_behind q x z (Ok value) r first is = subst (λ (k : Result Flow Stop). FindsAndCarriesOut flow_of (q >>= (λ t. give (returned t))) x z k) (sym is)
     (λ w ready. ap (λ o. bind o (λ t. give (returned t))) (first w ready))
 returned_behind q x z (Err stop) r first is = subst (λ (k : Result Flow Stop). FindsAndCarriesOut flow_of (q >>= (λ t. give (returned t))) x z k) (sym is)
     (stops q (λ t. give (returned t)) x stop first)
 
 pub left_is : (flow : Flow) (s : State) → leave_switch (flow_of flow) s ≡ ok (flow_of (left_flow flow)) s
 left_is Next s = refl
-left_is (Returned tree) s = refl
+left_is (Returned value) s = refl
 left_is Broken s = refl
 left_is Continued s = refl
 

@@ -2,10 +2,10 @@
 use Rattle.cad_evaluation.specs.Flows as spec
 use Rattle.cad_execution.specs.declared.flow.Flow.{Flow}
 use Rattle.cad_execution.specs.declared.flow.Flow.TheVariants.{Next, Returned, Broken, Continued}
-use Rattle.cad_rows.specs.Views.{pure_tree}
+use Rattle.cad_expressions.specs.Views.{tree_in}
 
 abbrev pub flow_of : Flow → spec.Flow
 flow_of Next = spec.next
-flow_of (Returned tree) = spec.returned (pure_tree tree)
+flow_of (Returned value) = spec.returned (tree_in value)
 flow_of Broken = spec.broken
 flow_of Continued = spec.continued

@@ -3,16 +3,17 @@ ghost use Rattle.std.specs.Prelude.{◌≡◌, ◌||◌, Bool, option_map};
 ghost use Rattle.cad_declarations.specs.Views.{place_of, term_of};
 ghost use Rattle.cad_evaluation.specs.Flows as flows;
 ghost use Rattle.cad_execution.specs.Code.Parts as parts;
-ghost use Rattle.cad_expressions.specs.Views.{items_row};
+ghost use Rattle.cad_expressions.specs.Views.{items_row, tree_in};
 ghost use Rattle.cad_outcomes.specs.Outcomes.{no_value};
 ghost use Rattle.cad_rows.specs.Views.{pure_tree};
 ghost use Rattle.cad_state.specs.Views.{CarriesOut, FindsAndCarriesOut};
 ghost use Rattle.cad_syntax.specs.Types.{pure_type};
 
-use crate::leaves::{first_come, first_value, is_case, truth};
+use crate::leaves::{first_come, is_case, truth};
+use crate::moves::{boxed_content, cast_standing, elements_in};
 use crate::places::first_place;
 use cad_declarations::{Argument, Place, Term};
-use cad_expressions::{Callees, cast_place, elements, eval, open};
+use cad_expressions::{Callees, eval, open, truth_at_once, unboxed};
 use cad_operators::nil_tree;
 use cad_outcomes::Stop;
 use cad_rows::Tree;
@@ -29,9 +30,12 @@ pub(crate) fn holds<C: Callees>(
     requires { C.is_ready callees.now }
     ensures { FindsAndCarriesOut (λ x. x) (parts.holds (C.front callees.now) (C.calls callees.now) (term_of test.now)) state.old state.new result }
 {
-    match eval(test, callees, state) {
-        Ok(tree) => truth(tree),
-        Err(stop) => Err(stop),
+    match truth_at_once(test, state) {
+        Some(told) => Ok(told),
+        None => match eval(test, callees, state) {
+            Ok(tree) => truth(tree),
+            Err(stop) => Err(stop),
+        },
     }
 }
 
@@ -45,8 +49,8 @@ pub(crate) fn first_holds<C: Callees>(
     requires { C.is_ready callees.now }
     ensures { FindsAndCarriesOut (λ x. x) (parts.test (C.front callees.now) (C.calls callees.now) (term_of test.now)) state.old state.new result }
 {
-    match first_value(test, callees, state) {
-        Ok(tree) => truth(tree),
+    match state.tick() {
+        Ok(()) => holds(test, callees, state),
         Err(stop) => Err(stop),
     }
 }
@@ -107,8 +111,7 @@ fn or_nil(
 }
 
 /// The content of an optional; where it is nil, that stays in the variable from which it was taken.
-#[inline(never)]
-fn content_of(moved: Option<u32>, tree: Tree, state: &mut RunState) -> Result<Option<Tree>, Stop>
+fn open_or_nil(moved: Option<u32>, tree: Tree, state: &mut RunState) -> Result<Option<Tree>, Stop>
     ensures { CarriesOut (option_map pure_tree) (parts.content_of moved (pure_tree tree)) state.old state.new result }
 {
     match open(tree) {
@@ -117,15 +120,27 @@ fn content_of(moved: Option<u32>, tree: Tree, state: &mut RunState) -> Result<Op
     }
 }
 
+/// The same of a value on the heap.
+#[inline(never)]
+fn content_of(
+    moved: Option<u32>,
+    value: Box<Tree>,
+    state: &mut RunState,
+) -> Result<Option<Box<Tree>>, Stop>
+    ensures { CarriesOut (option_map tree_in) (parts.content_of moved (tree_in value)) state.old state.new result }
+{
+    boxed_content(open_or_nil(moved, unboxed(value), state))
+}
+
 /// The content of the optional of `if let`.
 #[inline(never)]
 pub(crate) fn unwrap<C: Callees>(
     value: &Argument,
     callees: &C,
     state: &mut RunState,
-) -> Result<Option<Tree>, Stop>
+) -> Result<Option<Box<Tree>>, Stop>
     requires { C.is_ready callees.now }
-    ensures { FindsAndCarriesOut (option_map pure_tree) (parts.content_come (C.front callees.now) (C.calls callees.now) (parts.term_variable (term_of value.now.value)) (term_of value.now.value) (pure_type value.now.target)) state.old state.new result }
+    ensures { FindsAndCarriesOut (option_map tree_in) (parts.content_come (C.front callees.now) (C.calls callees.now) (parts.term_variable (term_of value.now.value)) (term_of value.now.value) (pure_type value.now.target)) state.old state.new result }
 {
     match first_come(&value.value, &value.target, callees, state) {
         Ok(tree) => content_of(term_variable(&value.value), tree, state),
@@ -135,8 +150,8 @@ pub(crate) fn unwrap<C: Callees>(
 
 /// The content of what was cast.
 #[inline(never)]
-fn content_cast(found: Option<Tree>, state: &mut RunState) -> Result<Option<Tree>, Stop>
-    ensures { CarriesOut (option_map pure_tree) (parts.content_cast (option_map pure_tree found)) state.old state.new result }
+fn content_cast(found: Option<Box<Tree>>, state: &mut RunState) -> Result<Option<Box<Tree>>, Stop>
+    ensures { CarriesOut (option_map tree_in) (parts.content_cast (option_map tree_in found)) state.old state.new result }
 {
     match found {
         Some(tree) => content_of(None, tree, state),
@@ -150,12 +165,12 @@ fn cast_value<C: Callees>(
     target: &CadType,
     callees: &C,
     state: &mut RunState,
-) -> Result<Option<Tree>, Stop>
+) -> Result<Option<Box<Tree>>, Stop>
     requires { C.is_ready callees.now }
-    ensures { FindsAndCarriesOut (option_map pure_tree) (parts.cast_value (C.front callees.now) (C.calls callees.now) (place_of place.now) (pure_type target.now)) state.old state.new result }
+    ensures { FindsAndCarriesOut (option_map tree_in) (parts.cast_value (C.front callees.now) (C.calls callees.now) (place_of place.now) (pure_type target.now)) state.old state.new result }
 {
     match first_place(place, false, callees, state) {
-        Ok(found) => cast_place(state, found, target),
+        Ok(found) => cast_standing(found, target, state),
         Err(stop) => Err(stop),
     }
 }
@@ -167,9 +182,9 @@ pub(crate) fn cast<C: Callees>(
     target: &CadType,
     callees: &C,
     state: &mut RunState,
-) -> Result<Option<Tree>, Stop>
+) -> Result<Option<Box<Tree>>, Stop>
     requires { C.is_ready callees.now }
-    ensures { FindsAndCarriesOut (option_map pure_tree) (parts.cast_come (C.front callees.now) (C.calls callees.now) (place_of place.now) (pure_type target.now)) state.old state.new result }
+    ensures { FindsAndCarriesOut (option_map tree_in) (parts.cast_come (C.front callees.now) (C.calls callees.now) (place_of place.now) (pure_type target.now)) state.old state.new result }
 {
     match cast_value(place, target, callees, state) {
         Ok(found) => content_cast(found, state),
@@ -188,7 +203,7 @@ pub(crate) fn elements_of<C: Callees>(
     ensures { FindsAndCarriesOut items_row (parts.elements_come (C.front callees.now) (C.calls callees.now) (term_of array.now.value) (pure_type array.now.target)) state.old state.new result }
 {
     match first_come(&array.value, &array.target, callees, state) {
-        Ok(tree) => elements(tree),
+        Ok(tree) => elements_in(tree),
         Err(stop) => Err(stop),
     }
 }

@@ -5,9 +5,10 @@ ghost use Rattle.cad_execution.specs.Code.Results as results;
 ghost use Rattle.cad_execution.specs.Views.{flow_of};
 ghost use Rattle.cad_state.specs.Views.{CarriesOut};
 
+use cad_expressions::discard_boxed;
 use cad_making::end_variables;
 use cad_outcomes::Stop;
-use cad_rows::{Tree, discard_tree};
+use cad_rows::Tree;
 use cad_state::RunState;
 
 /// How a statement ends. It isn't let go but by `discard_flow`.
@@ -15,7 +16,7 @@ pub enum Flow {
     /// The next statement runs.
     Next,
     /// The function returns.
-    Returned(Tree),
+    Returned(Box<Tree>),
     /// The loop or the switch is left.
     Broken,
     /// The next turn of the loop runs.
@@ -25,7 +26,7 @@ pub enum Flow {
 /// Lets an end go.
 pub fn discard_flow(flow: Flow) {
     match flow {
-        Flow::Returned(tree) => discard_tree(tree),
+        Flow::Returned(value) => discard_boxed(value),
         Flow::Next => {}
         Flow::Broken => {}
         Flow::Continued => {}
@@ -43,11 +44,11 @@ pub(crate) fn next(done: Result<(), Stop>) -> Result<Flow, Stop>
 }
 
 /// The function returns what was given.
-pub(crate) fn give_back(given: Result<Tree, Stop>) -> Result<Flow, Stop>
+pub(crate) fn give_back(given: Result<Box<Tree>, Stop>) -> Result<Flow, Stop>
     ensures { result ≡ results.returned_of given }
 {
     match given {
-        Ok(tree) => Ok(Flow::Returned(tree)),
+        Ok(value) => Ok(Flow::Returned(value)),
         Err(stop) => Err(stop),
     }
 }

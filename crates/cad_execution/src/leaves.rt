@@ -10,26 +10,28 @@ ghost use Rattle.cad_locations.specs.Views.{location_of};
 ghost use Rattle.cad_outcomes.specs.Outcomes.{Gives, no_value};
 ghost use Rattle.cad_rows.specs.Views.{pure_row, pure_tree};
 ghost use Rattle.cad_expressions.specs.Passed.{standing_of};
+ghost use Rattle.cad_expressions.specs.Views.{tree_in};
 ghost use Rattle.cad_state.specs.Views.{CarriesOut, FindsAndCarriesOut};
 ghost use Rattle.cad_syntax.specs.Types.{pure_type};
 
+use crate::moves::transfer;
 use cad_declarations::{Argument, Place, Term};
-use cad_expressions::{Callees, compared, eval, eval_arguments};
+use cad_expressions::{Callees, compared, discard_boxed, eval, eval_arguments};
 use cad_locations::Location;
 use cad_making::{emit, event};
 use cad_operators::{same, truth_in};
 use cad_outcomes::Stop;
-use cad_rows::{Tree, discard_row, discard_tree};
+use cad_rows::{Tree, discard_row};
 use cad_state::RunState;
 use cad_syntax::{CadType, TypeId};
 
 /// The truth that a value is; IllTyped where it is none.
 #[inline(never)]
-pub fn truth(tree: Tree) -> Result<bool, Stop>
-    ensures { Gives (λ x. x) (values.truth (pure_tree tree)) result }
+pub fn truth(value: Box<Tree>) -> Result<bool, Stop>
+    ensures { Gives (λ x. x) (values.truth (tree_in value)) result }
 {
-    let found = truth_in(&tree);
-    discard_tree(tree);
+    let found = truth_in(&value);
+    discard_boxed(value);
     match found {
         Some(is) => Ok(is),
         None => Err(Stop::IllTyped),
@@ -41,9 +43,9 @@ pub(crate) fn first_value<C: Callees>(
     value: &Term,
     callees: &C,
     state: &mut RunState,
-) -> Result<Tree, Stop>
+) -> Result<Box<Tree>, Stop>
     requires { C.is_ready callees.now }
-    ensures { FindsAndCarriesOut pure_tree (parts.value_of (C.front callees.now) (C.calls callees.now) (term_of value.now)) state.old state.new result }
+    ensures { FindsAndCarriesOut tree_in (parts.value_of (C.front callees.now) (C.calls callees.now) (term_of value.now)) state.old state.new result }
 {
     match state.tick() {
         Ok(()) => eval(value, callees, state),
@@ -57,12 +59,12 @@ pub fn come<C: Callees>(
     target: &CadType,
     callees: &C,
     state: &mut RunState,
-) -> Result<Tree, Stop>
+) -> Result<Box<Tree>, Stop>
     requires { C.is_ready callees.now }
-    ensures { FindsAndCarriesOut pure_tree (values.come (C.front callees.now) (C.calls callees.now) (term_of value.now) (pure_type target.now)) state.old state.new result }
+    ensures { FindsAndCarriesOut tree_in (values.come (C.front callees.now) (C.calls callees.now) (term_of value.now) (pure_type target.now)) state.old state.new result }
 {
     match eval(value, callees, state) {
-        Ok(tree) => state.transfer(tree, target),
+        Ok(tree) => transfer(tree, target, state),
         Err(stop) => Err(stop),
     }
 }
@@ -73,12 +75,12 @@ pub(crate) fn first_come<C: Callees>(
     target: &CadType,
     callees: &C,
     state: &mut RunState,
-) -> Result<Tree, Stop>
+) -> Result<Box<Tree>, Stop>
     requires { C.is_ready callees.now }
-    ensures { FindsAndCarriesOut pure_tree (parts.value_come (C.front callees.now) (C.calls callees.now) (term_of value.now) (pure_type target.now)) state.old state.new result }
+    ensures { FindsAndCarriesOut tree_in (parts.value_come (C.front callees.now) (C.calls callees.now) (term_of value.now) (pure_type target.now)) state.old state.new result }
 {
     match first_value(value, callees, state) {
-        Ok(tree) => state.transfer(tree, target),
+        Ok(tree) => transfer(tree, target, state),
         Err(stop) => Err(stop),
     }
 }
@@ -152,12 +154,12 @@ fn case_with(is_free: bool, value: &Tree, case: &Tree, state: &mut RunState) -> 
 pub(crate) fn is_case(
     is_free: bool,
     value: &Tree,
-    case: Tree,
+    case: Box<Tree>,
     state: &mut RunState,
 ) -> Result<bool, Stop>
-    ensures { CarriesOut (λ x. x) (flows.is_case is_free (pure_tree value.now) (pure_tree case)) state.old state.new result }
+    ensures { CarriesOut (λ x. x) (flows.is_case is_free (pure_tree value.now) (tree_in case)) state.old state.new result }
 {
     let is = case_with(is_free, value, &case, state);
-    discard_tree(case);
+    discard_boxed(case);
     is
 }

@@ -5,6 +5,7 @@ mod chosen;
 mod ends;
 mod flow;
 mod leaves;
+mod moves;
 mod places;
 mod plain;
 mod statements;
@@ -14,4 +15,6 @@ pub use leaves::{come, emit_event, truth};
 pub use statements::exec_block;
 
 // What the crates above use of the ones below.
-pub use cad_expressions::{Callee, Callees, Quiet, eval, eval_arguments};
+pub use cad_expressions::{
+    Callee, Callees, Quiet, boxed, discard_boxed, eval, eval_arguments, unboxed,
+};

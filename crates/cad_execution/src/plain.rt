@@ -7,19 +7,21 @@ ghost use Rattle.cad_evaluation.specs.Statements as spec;
 ghost use Rattle.cad_execution.specs.Code.Parts as parts;
 ghost use Rattle.cad_execution.specs.Views.{flow_of};
 ghost use Rattle.cad_locations.specs.Views.{location_of};
-ghost use Rattle.cad_outcomes.specs.Outcomes.{no_value};
-ghost use Rattle.cad_rows.specs.Views.{pure_tree};
+ghost use Rattle.cad_expressions.specs.Views.{tree_in};
+ghost use Rattle.cad_outcomes.specs.Outcomes.{Gives, no_value};
 ghost use Rattle.cad_state.specs.Views.{FindsAndCarriesOut};
 ghost use Rattle.cad_syntax.specs.Types.{pure_type};
 ghost use Rattle.cad_values.specs.Values.{pure_value, void};
+ghost use Rattle.cad_world.specs.State.{give};
 
 use crate::flow::{Flow, give_back, next};
 use crate::leaves::{come, emit_event, first_come, first_value};
+use crate::moves;
+use crate::moves::{fill_variable, let_go};
 use crate::places::{first_location, locate};
 use cad_declarations::{Argument, Place, Term, Variable};
-use cad_expressions::Callees;
+use cad_expressions::{Callees, boxed};
 use cad_locations::{Location, discard_location};
-use cad_making::let_go;
 use cad_operators::plain_tree;
 use cad_outcomes::Stop;
 use cad_rows::Tree;
@@ -40,7 +42,7 @@ pub(crate) fn declare<C: Callees>(
     ensures { (at n : ℕ) → FindsAndCarriesOut flow_of (spec.exec (C.front callees.now) (C.calls callees.now) n (e.declare at (variable_of variable.now) (term_of value.now))) state.old state.new result }
 {
     match first_come(value, &variable.declared, callees, state) {
-        Ok(tree) => next(state.fill_variable(variable.number as usize, tree)),
+        Ok(tree) => next(fill_variable(variable.number, tree, state)),
         Err(stop) => Err(stop),
     }
 }
@@ -53,12 +55,12 @@ fn exchange_value<C: Callees>(
     target: &CadType,
     callees: &C,
     state: &mut RunState,
-) -> Result<Tree, Stop>
+) -> Result<Box<Tree>, Stop>
     requires { C.is_ready callees.now }
-    ensures { FindsAndCarriesOut pure_tree (parts.exchange_at (C.front callees.now) (C.calls callees.now) (location_of location.now) (pure_type own.now) (term_of value.now) (pure_type target.now)) state.old state.new result }
+    ensures { FindsAndCarriesOut tree_in (parts.exchange_at (C.front callees.now) (C.calls callees.now) (location_of location.now) (pure_type own.now) (term_of value.now) (pure_type target.now)) state.old state.new result }
 {
     match come(value, target, callees, state) {
-        Ok(tree) => cad_locations::exchange(state, location, own, tree),
+        Ok(tree) => moves::exchange(location, own, tree, state),
         Err(stop) => Err(stop),
     }
 }
@@ -77,7 +79,7 @@ fn exchange_into<C: Callees>(
     ensures { FindsAndCarriesOut flow_of (parts.exchange_into (C.front callees.now) (C.calls callees.now) (location_of location.now) (variable_of variable.now) (term_of value.now) (pure_type target.now)) state.old state.new result }
 {
     match exchange_value(location, &variable.declared, value, target, callees, state) {
-        Ok(old) => next(state.fill_variable(variable.number as usize, old)),
+        Ok(old) => next(fill_variable(variable.number, old, state)),
         Err(stop) => Err(stop),
     }
 }
@@ -118,7 +120,7 @@ fn assign_at<C: Callees>(
     ensures { FindsAndCarriesOut flow_of (parts.assign_at (C.front callees.now) (C.calls callees.now) (location_of location.now) (term_of value.now) (pure_type target.now)) state.old state.new result }
 {
     match come(value, target, callees, state) {
-        Ok(tree) => next(cad_locations::assign(state, location, tree)),
+        Ok(tree) => next(moves::assign(location, tree, state)),
         Err(stop) => Err(stop),
     }
 }
@@ -157,7 +159,7 @@ fn force_assign_at<C: Callees>(
     ensures { FindsAndCarriesOut flow_of (parts.force_assign_at (C.front callees.now) (C.calls callees.now) (location_of location.now) (term_of value.now) (pure_type target.now)) state.old state.new result }
 {
     match come(value, target, callees, state) {
-        Ok(tree) => next(cad_locations::force_assign(state, location, tree)),
+        Ok(tree) => next(moves::force_assign(location, tree, state)),
         Err(stop) => Err(stop),
     }
 }
@@ -274,11 +276,11 @@ fn void_value() -> Value
     Value::Void
 }
 
-/// The same as a tree.
-fn void_tree(alloc: Global) -> Tree
-    ensures { pure_tree result ≡ containers.void_tree }
+/// The same as a tree on the heap.
+fn void_tree(alloc: Global) -> Result<Box<Tree>, Stop>
+    ensures { Gives tree_in (give containers.void_tree) result }
 {
-    plain_tree(alloc, void_value())
+    boxed(Ok(plain_tree(alloc, void_value())))
 }
 
 /// `return` without a value
@@ -289,7 +291,7 @@ fn return_nothing(state: &mut RunState) -> Result<Flow, Stop>
     match state.tick() {
         Ok(()) => {
             let alloc = *state.making.allocator();
-            Ok(Flow::Returned(void_tree(alloc)))
+            give_back(void_tree(alloc))
         }
         Err(stop) => Err(stop),
     }

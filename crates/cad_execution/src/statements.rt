@@ -7,7 +7,9 @@ ghost use Rattle.cad_evaluation.specs.Statements as spec;
 ghost use Rattle.cad_evaluation.specs.Terms as terms;
 ghost use Rattle.cad_execution.specs.Code.Parts as parts;
 ghost use Rattle.cad_execution.specs.Views.{flow_of};
+ghost use Rattle.cad_expressions.specs.Views.{tree_in};
 ghost use Rattle.cad_labels.specs.Laws.{HasNone, HasNoneInRow};
+ghost use Rattle.cad_outcomes.specs.Outcomes.{Gives};
 ghost use Rattle.cad_rows.specs.Views.{PlaceView, pure_place, pure_row, pure_tree};
 ghost use Rattle.cad_state.specs.Views.{FindsAndCarriesOut};
 ghost use Rattle.cad_state.specs.declared.state.RunState.{RunState};
@@ -17,12 +19,12 @@ use crate::chosen::{cast, elements_of, first_holds, holds, is_chosen, is_nil, un
 use crate::ends::{case_end, case_ran, statement_end, turn_end};
 use crate::flow::{Flow, close, leave, leave_switch};
 use crate::leaves::first_value;
+use crate::moves::{fill_counter, fill_variable, next_element};
 use crate::plain;
 use cad_declarations::{Term, TypedBlock, TypedCase, TypedStatement, Variable};
-use cad_expressions::Callees;
-use cad_operators::count_tree;
+use cad_expressions::{Callees, discard_boxed};
 use cad_outcomes::Stop;
-use cad_rows::{Place, Tree, discard_place, discard_tree};
+use cad_rows::{Place, Tree};
 use cad_state::RunState;
 
 /// A block: its variables go at its end. `turns` bounds the turns of each loop. Errors are those of its statements.
@@ -67,15 +69,15 @@ fn exec_all<C: Callees>(
 fn run_over<C: Callees>(
     body: &TypedBlock,
     variable: &Variable,
-    value: Tree,
+    value: Box<Tree>,
     turns: u64,
     callees: &C,
     state: &mut RunState,
 ) -> Result<Flow, Stop>
     requires { C.is_ready callees.now }
-    ensures { HasNone (pure_tree value) → FindsAndCarriesOut flow_of (parts.run_over (C.front callees.now) (C.calls callees.now) turns (variable_of variable.now) (pure_tree value) (block_of body.now)) state.old state.new result }
+    ensures { HasNone (tree_in value) → FindsAndCarriesOut flow_of (parts.run_over (C.front callees.now) (C.calls callees.now) turns (variable_of variable.now) (tree_in value) (block_of body.now)) state.old state.new result }
 {
-    match state.fill_variable(variable.number as usize, value) {
+    match fill_variable(variable.number, value, state) {
         Ok(()) => exec_block(body, turns, callees, state),
         Err(stop) => Err(stop),
     }
@@ -87,13 +89,13 @@ fn run_over<C: Callees>(
 fn with_variable<C: Callees>(
     body: &TypedBlock,
     variable: &Variable,
-    value: Tree,
+    value: Box<Tree>,
     turns: u64,
     callees: &C,
     state: &mut RunState,
 ) -> Result<Flow, Stop>
     requires { C.is_ready callees.now }
-    ensures { HasNone (pure_tree value) → FindsAndCarriesOut flow_of (flows.with_variable (variable_of variable.now) (pure_tree value) (spec.exec_block (C.front callees.now) (C.calls callees.now) turns (block_of body.now))) state.old state.new result }
+    ensures { HasNone (tree_in value) → FindsAndCarriesOut flow_of (flows.with_variable (variable_of variable.now) (tree_in value) (spec.exec_block (C.front callees.now) (C.calls callees.now) turns (block_of body.now))) state.old state.new result }
 {
     match run_over(body, variable, value, turns, callees, state) {
         Ok(flow) => close(variable.number, flow, state),
@@ -211,7 +213,7 @@ fn exec_chosen<C: Callees>(
     match first_value(value, callees, state) {
         Ok(tree) => {
             let ran = exec_cases(cases, is_nil(value), &tree, turns, callees, state);
-            discard_tree(tree);
+            discard_boxed(tree);
             ran
         }
         Err(stop) => Err(stop),
@@ -223,20 +225,20 @@ fn exec_chosen<C: Callees>(
 fn run_counted<C: Callees>(
     body: &TypedBlock,
     index: &Variable,
-    count: Tree,
+    i: u64,
     variable: &Variable,
-    value: Tree,
+    value: Box<Tree>,
     turns: u64,
     callees: &C,
     state: &mut RunState,
 ) -> Result<Flow, Stop>
     requires { C.is_ready callees.now }
-    ensures { HasNone (pure_tree count) → HasNone (pure_tree value) → FindsAndCarriesOut flow_of (parts.run_counted (C.front callees.now) (C.calls callees.now) turns (variable_of index.now) (pure_tree count) (variable_of variable.now) (pure_tree value) (block_of body.now)) state.old state.new result }
+    ensures { HasNone (tree_in value) → FindsAndCarriesOut flow_of (parts.run_counted (C.front callees.now) (C.calls callees.now) turns (variable_of index.now) i (variable_of variable.now) (tree_in value) (block_of body.now)) state.old state.new result }
 {
-    match state.fill_variable(index.number as usize, count) {
+    match fill_counter(index.number, i, state) {
         Ok(()) => with_variable(body, variable, value, turns, callees, state),
         Err(stop) => {
-            discard_tree(value);
+            discard_boxed(value);
             Err(stop)
         }
     }
@@ -250,17 +252,15 @@ fn with_counter<C: Callees>(
     index: &Variable,
     i: u64,
     variable: &Variable,
-    value: Tree,
+    value: Box<Tree>,
     turns: u64,
     callees: &C,
     state: &mut RunState,
 ) -> Result<Flow, Stop>
     requires { C.is_ready callees.now }
-    ensures { HasNone (pure_tree value) → FindsAndCarriesOut flow_of (parts.run_indexed (C.front callees.now) (C.calls callees.now) turns (Some (variable_of index.now)) i (variable_of variable.now) (pure_tree value) (block_of body.now)) state.old state.new result }
+    ensures { HasNone (tree_in value) → FindsAndCarriesOut flow_of (parts.run_indexed (C.front callees.now) (C.calls callees.now) turns (Some (variable_of index.now)) i (variable_of variable.now) (tree_in value) (block_of body.now)) state.old state.new result }
 {
-    let alloc = *state.making.allocator();
-    let count = count_tree(alloc, i);
-    match run_counted(body, index, count, variable, value, turns, callees, state) {
+    match run_counted(body, index, i, variable, value, turns, callees, state) {
         Ok(flow) => close(index.number, flow, state),
         Err(stop) => Err(stop),
     }
@@ -273,13 +273,13 @@ fn run_element<C: Callees>(
     index: &Option<Variable>,
     i: u64,
     variable: &Variable,
-    value: Tree,
+    value: Box<Tree>,
     turns: u64,
     callees: &C,
     state: &mut RunState,
 ) -> Result<Flow, Stop>
     requires { C.is_ready callees.now }
-    ensures { HasNone (pure_tree value) → FindsAndCarriesOut flow_of (parts.run_element (C.front callees.now) (C.calls callees.now) turns (option_map variable_of index.now) i (variable_of variable.now) (pure_tree value) (block_of body.now)) state.old state.new result }
+    ensures { HasNone (tree_in value) → FindsAndCarriesOut flow_of (parts.run_element (C.front callees.now) (C.calls callees.now) turns (option_map variable_of index.now) i (variable_of variable.now) (tree_in value) (block_of body.now)) state.old state.new result }
 {
     match state.tick() {
         Ok(()) => match index {
@@ -289,37 +289,42 @@ fn run_element<C: Callees>(
             None => with_variable(body, variable, value, turns, callees, state),
         },
         Err(stop) => {
-            discard_tree(value);
+            discard_boxed(value);
             Err(stop)
         }
     }
 }
 
-/// The turn of a place, which holds an element.
+/// The turn of an element, where there is one.
 #[cycle(runs)]
 fn run_place<C: Callees>(
     body: &TypedBlock,
     index: &Option<Variable>,
     i: u64,
     variable: &Variable,
-    place: Place,
+    element: Result<Box<Tree>, Stop>,
     turns: u64,
     callees: &C,
     state: &mut RunState,
 ) -> Result<Flow, Stop>
     requires { C.is_ready callees.now }
-    ensures { parts.PlaceHasNone (pure_place place) → FindsAndCarriesOut flow_of (parts.run_place (C.front callees.now) (C.calls callees.now) turns (option_map variable_of index.now) i (variable_of variable.now) (block_of body.now) (pure_place place)) state.old state.new result }
+    ensures { (place : PlaceView) → Gives tree_in (parts.element_in place) element → parts.PlaceHasNone place → FindsAndCarriesOut flow_of (parts.run_place (C.front callees.now) (C.calls callees.now) turns (option_map variable_of index.now) i (variable_of variable.now) (block_of body.now) place) state.old state.new result }
 {
-    match place {
-        Place::Full(labels, tree) => {
-            drop(labels);
-            run_element(body, index, i, variable, tree, turns, callees, state)
-        }
-        Place::Empty => Err(Stop::IllTyped),
+    match element {
+        Ok(value) => run_element(body, index, i, variable, value, turns, callees, state),
+        Err(stop) => Err(stop),
     }
 }
 
-/// The turn of the next place, unless the loop has ended.
+/// Lets an element go.
+fn discard_element(element: Result<Box<Tree>, Stop>) {
+    match element {
+        Ok(value) => discard_boxed(value),
+        Err(_) => {}
+    }
+}
+
+/// The turn of the next element, unless the loop has ended.
 #[cycle(runs)]
 #[inline(never)]
 fn run_next<C: Callees>(
@@ -327,21 +332,21 @@ fn run_next<C: Callees>(
     index: &Option<Variable>,
     i: u64,
     variable: &Variable,
-    place: Place,
+    element: Result<Box<Tree>, Stop>,
     ended: Option<Result<Flow, Stop>>,
     turns: u64,
     callees: &C,
     state: &mut RunState,
 ) -> Option<Result<Flow, Stop>>
     requires { C.is_ready callees.now }
-    ensures { (whole : Action flows.Flow) (start : RunState) (places : List PlaceView) → parts.PlaceHasNone (pure_place place) → parts.HasRun whole start (parts.elements_left (C.front callees.now) (C.calls callees.now) turns (option_map variable_of index.now) (variable_of variable.now) (block_of body.now) i (pure_place place ∷ places)) state.old ended → parts.HasRun whole start (parts.elements_left (C.front callees.now) (C.calls callees.now) turns (option_map variable_of index.now) (variable_of variable.now) (block_of body.now) (suc i) places) state.new result }
+    ensures { (whole : Action flows.Flow) (start : RunState) (place : PlaceView) (places : List PlaceView) → Gives tree_in (parts.element_in place) element → parts.PlaceHasNone place → parts.HasRun whole start (parts.elements_left (C.front callees.now) (C.calls callees.now) turns (option_map variable_of index.now) (variable_of variable.now) (block_of body.now) i (place ∷ places)) state.old ended → parts.HasRun whole start (parts.elements_left (C.front callees.now) (C.calls callees.now) turns (option_map variable_of index.now) (variable_of variable.now) (block_of body.now) (suc i) places) state.new result }
 {
     match ended {
         Some(ran) => {
-            discard_place(place);
+            discard_element(element);
             Some(ran)
         }
-        None => turn_end(run_place(body, index, i, variable, place, turns, callees, state)),
+        None => turn_end(run_place(body, index, i, variable, element, turns, callees, state)),
     }
 }
 
@@ -363,9 +368,9 @@ fn run_elements<C: Callees>(
     let mut ended = None;
     let mut i = 0u64;
     let mut left = row.into_iter();
-    while let Some(place) = left.next() {
+    while let Some(element) = next_element(&mut left) {
         ended = run_next(
-            body, index, i, variable, place, ended, turns, callees, state,
+            body, index, i, variable, element, ended, turns, callees, state,
         );
         i += 1;
     }

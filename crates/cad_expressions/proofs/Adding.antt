@@ -16,7 +16,6 @@ use Rattle.cad_labels.proofs.Keeping.{keeps_bind}
 use Rattle.cad_labels.proofs.Places.{looks_keep}
 use Rattle.cad_outcomes.specs.declared.stop.Stop.{Stop}
 use Rattle.cad_receivers.specs.Views.{at_spot}
-use Rattle.cad_rows.specs.Views.{pure_tree}
 use Rattle.cad_rows.specs.declared.tree.Tree.{Tree as CodeTree}
 use Rattle.cad_state.proofs.Finding.{find_same, find_stopped, find_then}
 use Rattle.cad_state.specs.Views.{state_over, FindsAndCarriesOut}
@@ -29,7 +28,9 @@ use Rattle.cad_world.specs.Fronts.{Verdict, accepted, refused, unknown, judged}
 use Rattle.cad_world.specs.Labels.{account_at}
 use Rattle.cad_world.specs.Receivers.{Receiver, look_at}
 use Rattle.cad_world.specs.Rows.{Row, Tree, back}
-use Rattle.cad_world.specs.State.{Contract, Program, State, Outcome, ok, failed, limit, ill, bind, Action, ◌>>=◌, ◌>>◌, give, guard, require, with_some}
+use Rattle.cad_world.specs.State.{Contract, Program, State, Outcome, ok, failed, limit, ill, bind, Action, ◌>>=◌, give, guard, require, with_some}
+use Rattle.cad_expressions.specs.Views.{tree_in}
+use Rattle.std.specs.Global.{Box}
 
 -- ---- steps that come to the same
 
@@ -87,10 +88,10 @@ add_alike front calls r a s =
     (some_alike (option_and_then text_in (argument 0 r)) _ _ s (λ name.
     some_alike (option_and_then bytes_in (argument 1 r)) _ _ s (λ code. contract_alike front calls (contract_named a name) code (back 2 r) s)))
 
-pub quiet_adds : (front : Front) (calls : Calls) (r : Row) (a : Address) (x z : RunState) (q : Result CodeTree Stop)
-    → FindsAndCarriesOut pure_tree (add front calls r a) x z q → FindsAndCarriesOut pure_tree (add front (destroying_nothing calls) r a) x z q
+pub quiet_adds : (front : Front) (calls : Calls) (r : Row) (a : Address) (x z : RunState) (q : Result (Box CodeTree) Stop)
+    → FindsAndCarriesOut tree_in (add front calls r a) x z q → FindsAndCarriesOut tree_in (add front (destroying_nothing calls) r a) x z q
 quiet_adds front calls r a x z q h =
-    find_same pure_tree (add front (destroying_nothing calls) r a) (add front calls r a) x z q (λ w ready. add_alike front calls r a (state_over w x)) h
+    find_same tree_in (add front (destroying_nothing calls) r a) (add front calls r a) x z q (λ w ready. add_alike front calls r a (state_over w x)) h
 
 -- ---- the account of whose contracts a receiver is the part
 
@@ -112,18 +113,18 @@ told_cases (failed e) tell f = refl
 told_cases limit tell f = refl
 told_cases ill tell f = refl
 
-pub adds_there : (part : Basic) (r : Receiver) (f : Address → Action Tree) (a : Address) (x y z : RunState) (q : Result CodeTree Stop)
-    → FindsAndCarriesOut (λ (own : Address). own) (contracts_told part r) x y (Ok a) → FindsAndCarriesOut pure_tree (f a) y z q
-    → FindsAndCarriesOut pure_tree (at_spot r (λ spot. on_account part spot f)) x z q
+pub adds_there : (part : Basic) (r : Receiver) (f : Address → Action Tree) (a : Address) (x y z : RunState) (q : Result (Box CodeTree) Stop)
+    → FindsAndCarriesOut (λ (own : Address). own) (contracts_told part r) x y (Ok a) → FindsAndCarriesOut tree_in (f a) y z q
+    → FindsAndCarriesOut tree_in (at_spot r (λ spot. on_account part spot f)) x z q
 adds_there part r f a x y z q first second =
-    find_same pure_tree (at_spot r (λ spot. on_account part spot f)) (contracts_told part r >>= f) x z q
+    find_same tree_in (at_spot r (λ spot. on_account part spot f)) (contracts_told part r >>= f) x z q
     (λ w ready. told_cases (look_at r (state_over w x)) (λ spot. in_tree (account_in_value part) spot.tree) f)
-    (find_then AnyOne (contracts_told part r) (told_keeps part r) (λ (own : Address). own) pure_tree f a x y z q first (λ h. second))
+    (find_then AnyOne (contracts_told part r) (told_keeps part r) (λ (own : Address). own) tree_in f a x y z q first (λ h. second))
 
 pub adds_nowhere : (part : Basic) (r : Receiver) (f : Address → Action Tree) (x y z : RunState) (why : Stop)
     → FindsAndCarriesOut {B = Address} (λ (own : Address). own) (contracts_told part r) x y (Err why)
-    → FindsAndCarriesOut {B = CodeTree} pure_tree (at_spot r (λ spot. on_account part spot f)) x z (Err why)
+    → FindsAndCarriesOut {B = Box CodeTree} tree_in (at_spot r (λ spot. on_account part spot f)) x z (Err why)
 adds_nowhere part r f x y z why first =
-    find_same {B = CodeTree} pure_tree (at_spot r (λ spot. on_account part spot f)) (contracts_told part r >>= f) x z (Err why)
+    find_same {B = Box CodeTree} tree_in (at_spot r (λ spot. on_account part spot f)) (contracts_told part r >>= f) x z (Err why)
     (λ w ready. told_cases (look_at r (state_over w x)) (λ spot. in_tree (account_in_value part) spot.tree) f)
-    (find_stopped {D = CodeTree} (λ (own : Address). own) pure_tree (contracts_told part r) f x y z why first)
+    (find_stopped {D = Box CodeTree} (λ (own : Address). own) tree_in (contracts_told part r) f x y z why first)

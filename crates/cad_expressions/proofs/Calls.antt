@@ -1,5 +1,5 @@
 -- Calls, and what is made, by their parts.
-use Rattle.std.proofs.Common.{◌≡◌, ℕ, Bool, true, false, List, Option, Some, None, refl, ap, ◌∙◌}
+use Rattle.std.proofs.Common.{◌≡◌, ℕ, Bool, true, false, List, Option, Some, None, refl, ap}
 use Rattle.cad_syntax.specs.Types.{PureType}
 use Rattle.cad_syntax.specs.declared.text.Name.{Name}
 use Rattle.cad_syntax.specs.declared.type_id.TypeId.{TypeId}
@@ -13,7 +13,7 @@ use Rattle.cad_world.specs.Rows.{Row, Tree}
 use Rattle.cad_world.specs.State.{State, Outcome, ok, failed, limit, ill, bind, Action, ◌>>=◌, ◌>>◌, give, done, choose, tick, with_some}
 use Rattle.cad_evaluation.specs.Builtins as built_in
 use Rattle.cad_evaluation.specs.Callees.{Calls, method, initializer}
-use Rattle.cad_evaluation.specs.Making.{begin, create, construct, draw_identity, field_names, finish, initialized, initializer_of, make}
+use Rattle.cad_evaluation.specs.Making.{begin, create, draw_identity, field_names, finish, initialized, initializer_of, make}
 use Rattle.cad_evaluation.specs.Reading.{composite_id}
 use Rattle.cad_evaluation.specs.Uses.{invoked}
 use Rattle.cad_labels.specs.Laws.{AnyOne, CalleesKeep, HasNone, HasNoneInRow, Keeps}
@@ -23,7 +23,6 @@ use Rattle.cad_labels.proofs.Places.{begins_keep, looks_keep}
 use Rattle.cad_label_runs.proofs.Making.{draw_identity_keeps}
 use Rattle.cad_making.specs.Making.{begun}
 use Rattle.cad_expressions.specs.Code.Steps.{built_in_called, method_called, aimed_again, identity_drawn, created, fields_set, made_from, is_written}
-use Rattle.cad_expressions.proofs.Forms.{bind_assoc}
 
 -- ---- built-in functions
 

@@ -12,7 +12,6 @@ use Rattle.cad_making.specs.Laws.{told_and_buried}
 use Rattle.cad_making.proofs.Destroying.{by_parts}
 use Rattle.cad_outcomes.specs.declared.stop.Stop.{Stop}
 use Rattle.cad_outcomes.specs.Outcomes.{no_value}
-use Rattle.cad_rows.specs.Views.{pure_tree}
 use Rattle.cad_rows.specs.declared.tree.Tree as code
 use Rattle.cad_state.specs.Views.{state_over, CarriesOut, FindsAndCarriesOut}
 use Rattle.cad_state.specs.declared.state.RunState.{RunState}
@@ -25,6 +24,8 @@ use Rattle.cad_expressions.specs.Code.Steps.{ended_by}
 use Rattle.cad_expressions.proofs.Forms.{bind_assoc}
 use Rattle.cad_expressions.proofs.Going.{any_on, any_stopped}
 use Rattle.cad_expressions.proofs.Turns.{cons_at}
+use Rattle.cad_expressions.specs.Views.{tree_in}
+use Rattle.std.specs.Global.{Box}
 
 -- ---- labels
 
@@ -89,23 +90,23 @@ module _ (calls : Calls) (keep : CalleesKeep calls) where
       ∙ behind_cases (calls (destroyed_event id l) stop s) done (events_of calls (suc l) (drop (i + 1) ids))
       ∙ ap (λ n. (calls (destroyed_event id l) stop >>= (λ e. made_behind (done ++ e ∷ []) (events_of calls n (drop (i + 1) ids)))) s) next
 
-  pub events_turn : (ids : List TypeId) (i : ℕ) (id : TypeId) → i < length ids → id ≡ get_or ids i id → (l : ℕ) (done new : List Tree) (t : code.Tree) (x y z : RunState) (all : List Tree) (r : Result (Unit {0}) Stop)
-      → FindsAndCarriesOut pure_tree (calls (destroyed_event id l) stop) x y (Ok t) → new ≡ done ++ pure_tree t ∷ []
+  pub events_turn : (ids : List TypeId) (i : ℕ) (id : TypeId) → i < length ids → id ≡ get_or ids i id → (l : ℕ) (done new : List Tree) (t : Box code.Tree) (x y z : RunState) (all : List Tree) (r : Result (Unit {0}) Stop)
+      → FindsAndCarriesOut tree_in (calls (destroyed_event id l) stop) x y (Ok t) → new ≡ done ++ tree_in t ∷ []
       → FindsAndCarriesOut (λ (u : Unit {0}). all) (made_behind new (events_of calls (l + 1) (drop (i + 1) ids))) y z r
       → FindsAndCarriesOut (λ (u : Unit {0}). all) (made_behind done (events_of calls l (drop i ids))) x z r
   events_turn ids i id h is l done new t x y z all r first grown left =
       let rest : Tree → Action (List Tree) = λ e. made_behind (done ++ e ∷ []) (events_of calls (l + 1) (drop (i + 1) ids)) in
       find_same (λ (u : Unit {0}). all) (made_behind done (events_of calls l (drop i ids))) (calls (destroyed_event id l) stop >>= rest) x z r (λ w ready. event_same ids i id h is l done (state_over w x))
-      (find_then HasNone (calls (destroyed_event id l) stop) (keep (destroyed_event id l) stop stop_none) pure_tree (λ (u : Unit {0}). all) rest t x y z r first
+      (find_then HasNone (calls (destroyed_event id l) stop) (keep (destroyed_event id l) stop stop_none) tree_in (λ (u : Unit {0}). all) rest t x y z r first
       (λ none. subst (λ (q : List Tree). FindsAndCarriesOut (λ (u : Unit {0}). all) (made_behind q (events_of calls (l + 1) (drop (i + 1) ids))) y z r) grown left))
 
   pub events_stop : (ids : List TypeId) (i : ℕ) (id : TypeId) → i < length ids → id ≡ get_or ids i id → (l : ℕ) (done : List Tree) (x y z : RunState) (all : List Tree) (why : Stop)
-      → FindsAndCarriesOut {B = code.Tree} pure_tree (calls (destroyed_event id l) stop) x y (Err why)
+      → FindsAndCarriesOut {B = Box code.Tree} tree_in (calls (destroyed_event id l) stop) x y (Err why)
       → FindsAndCarriesOut (λ (u : Unit {0}). all) (made_behind done (events_of calls l (drop i ids))) x z (Err why)
   events_stop ids i id h is l done x y z all why first =
       let rest : Tree → Action (List Tree) = λ e. made_behind (done ++ e ∷ []) (events_of calls (l + 1) (drop (i + 1) ids)) in
       find_same (λ (u : Unit {0}). all) (made_behind done (events_of calls l (drop i ids))) (calls (destroyed_event id l) stop >>= rest) x z (Err why) (λ w ready. event_same ids i id h is l done (state_over w x))
-      (find_stopped {D = Unit {0}} pure_tree (λ (u : Unit {0}). all) (calls (destroyed_event id l) stop) rest x y z why first)
+      (find_stopped {D = Unit {0}} tree_in (λ (u : Unit {0}). all) (calls (destroyed_event id l) stop) rest x y z why first)
 
   pub events_last : (ids : List TypeId) (i : ℕ) → length ids ≤ i → (l : ℕ) (done : List Tree) (x : RunState)
       → FindsAndCarriesOut (λ (u : Unit {0}). done) (made_behind done (events_of calls l (drop i ids))) x x (Ok tt)

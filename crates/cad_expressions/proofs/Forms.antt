@@ -6,27 +6,24 @@ use Rattle.cad_syntax.specs.declared.type_id.TypeId.{TypeId}
 use Rattle.cad_syntax.specs.declared.types.Authorization.{Authorization}
 use Rattle.cad_types.specs.declared.builtin.Builtin.{Builtin}
 use Rattle.cad_grammar.specs.declared.expression.BinaryOperator.{BinaryOperator}
-use Rattle.cad_grammar.specs.declared.expression.BinaryOperator.TheVariants as operator
 use Rattle.cad_grammar.specs.declared.expression.UnaryOperator.{UnaryOperator}
 use Rattle.cad_grammar.specs.declared.expression.CastKind.{CastKind}
 use Rattle.cad_declarations.specs.Typed as e
-use Rattle.cad_world.specs.Rows.{Row, stop, Tree}
+use Rattle.cad_world.specs.Rows.{Row, Tree}
 use Rattle.cad_world.specs.State.{State, Outcome, ok, failed, limit, ill, bind, Action, ◌>>=◌, give, done, guard, choose, by_truth, with_some}
 use Rattle.cad_world.specs.Locations.{variable}
 use Rattle.cad_world.specs.Receivers.{Receiver, Spot, look_at}
-use Rattle.cad_world.specs.Transfers.{transferred}
 use Rattle.cad_evaluation.specs.Builtins.{may_use}
 use Rattle.cad_evaluation.specs.Callees.{Calls, Front}
 use Rattle.cad_evaluation.specs.Casts.{cast}
-use Rattle.cad_evaluation.specs.Changing.{fill}
 use Rattle.cad_evaluation.specs.Containers.{void_tree}
 use Rattle.cad_evaluation.specs.Ending.{destroyed}
 use Rattle.cad_evaluation.specs.Numbers.{truth_of}
 use Rattle.cad_evaluation.specs.Operators as operators
 use Rattle.cad_evaluation.specs.Reading.{copied, read_field}
-use Rattle.cad_evaluation.specs.Standing.{Standing, here, value_at, taken_from, referred_to, receiver_from, receiver_of_chain}
-use Rattle.cad_evaluation.specs.Terms.{eval, eval_place, eval_use, eval_terms, eval_arguments, eval_entries}
-use Rattle.cad_evaluation.specs.Uses.{Pair, array_of, callable, dictionary_of, forced, nil_told}
+use Rattle.cad_evaluation.specs.Standing.{here, value_at, taken_from, referred_to, receiver_from, receiver_of_chain}
+use Rattle.cad_evaluation.specs.Terms.{eval, eval_place, eval_arguments}
+use Rattle.cad_evaluation.specs.Uses.{array_of, callable, dictionary_of, forced, nil_told}
 use Rattle.cad_labels.specs.Laws.{AnyOne, CalleesKeep, HasNone, HasNoneInRow, Keeps}
 use Rattle.cad_label_runs.proofs.Terms.{eval_keeps, eval_place_keeps, eval_use_keeps, eval_terms_keeps, eval_arguments_keeps, eval_entries_keeps}
 use Rattle.cad_label_runs.proofs.Values.{PairsHaveNone}

@@ -1,5 +1,6 @@
 pub mod Adding
 pub mod Arms
+pub mod Boxing
 pub mod Calls
 pub mod Composed
 pub mod Destroying
@@ -13,3 +14,4 @@ pub mod Standings
 pub mod Trees
 pub mod Turns
 pub mod Passed
+pub mod Told

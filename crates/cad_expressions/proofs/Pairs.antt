@@ -3,6 +3,7 @@ use Rattle.std.proofs.Common.{◌≡◌, ℕ, ◌+◌, ◌<◌, ◌≤◌, List,
 use Rattle.cad_declarations.specs.declared.term.Place.TheViews.{the_lemmas}
 use Rattle.cad_declarations.specs.declared.term.Place.TheFolds.{fold_out-TermEntry}
 use Rattle.std.proofs.lemmas.List.{append-nil, drop_all}
+use Rattle.std.specs.Global.{Box}
 use Rattle.cad_syntax.specs.Types.{PureType}
 use Rattle.cad_declarations.specs.Typed as e
 use Rattle.cad_declarations.specs.Views.{term_of, pair_of}
@@ -15,7 +16,6 @@ use Rattle.cad_labels.proofs.Forms.{keeps_give}
 use Rattle.cad_labels.proofs.Keeping.{keeps_bind}
 use Rattle.cad_labels.proofs.Places.{transferred_keeps}
 use Rattle.cad_outcomes.specs.declared.stop.Stop.{Stop}
-use Rattle.cad_rows.specs.Views.{pure_tree}
 use Rattle.cad_rows.specs.declared.tree.Tree as code
 use Rattle.cad_state.specs.Views.{state_over, FindsAndCarriesOut}
 use Rattle.cad_state.specs.declared.state.RunState.{RunState}
@@ -24,6 +24,7 @@ use Rattle.cad_world.specs.Rows.{Tree}
 use Rattle.cad_world.specs.State.{State, Outcome, ok, failed, limit, ill, bind, Action, ◌>>=◌, give}
 use Rattle.cad_world.specs.Transfers.{transferred}
 use Rattle.cad_expressions.specs.Code.Steps.{GoesOn, after, entries, evaluated, pair_of as appended, pair_with, typed}
+use Rattle.cad_expressions.specs.Views.{tree_in}
 use Rattle.cad_expressions.proofs.Forms.{evaluated_keeps}
 use Rattle.cad_expressions.proofs.Turns.{cons_at}
 
@@ -104,8 +105,8 @@ module _ (front : Front) (calls : Calls) (keep : CalleesKeep calls) where
   entry_keeps : (key value : PureType) (a b : e.TermTree) (pairs : List Pair) → Keeps AnyOne (typed front calls key a >>= pair_with front calls value b pairs)
   entry_keeps key value a b pairs = keeps_bind HasNone AnyOne (typed front calls key a) (pair_with front calls value b pairs) (typed_keeps key a) (λ k none. pair_with_keeps value b pairs k)
 
-  pub entries_turn : (key value : PureType) (es : List TermEntry) (i : ℕ) (a : TermEntry) → i < length es → a ≡ get_or es i a → (pairs new : List Pair) (x y z v : RunState) (own : Result code.Tree Stop) (ps : List Pair) (r : Result (Unit {0}) Stop)
-      → FindsAndCarriesOut pure_tree (typed front calls key (term_of a.key)) x y own → GoesOn HasNone pure_tree (λ (u : Unit {0}). new) (pair_with front calls value (term_of a.value) pairs) own y z (Ok tt)
+  pub entries_turn : (key value : PureType) (es : List TermEntry) (i : ℕ) (a : TermEntry) → i < length es → a ≡ get_or es i a → (pairs new : List Pair) (x y z v : RunState) (own : Result (Box code.Tree) Stop) (ps : List Pair) (r : Result (Unit {0}) Stop)
+      → FindsAndCarriesOut tree_in (typed front calls key (term_of a.key)) x y own → GoesOn HasNone tree_in (λ (u : Unit {0}). new) (pair_with front calls value (term_of a.value) pairs) own y z (Ok tt)
       → FindsAndCarriesOut (λ (u : Unit {0}). ps) (after new (entries front calls key value (e.entries_of (map pair_of (drop (i + 1) es))))) z v r
       → FindsAndCarriesOut (λ (u : Unit {0}). ps) (after pairs (entries front calls key value (e.entries_of (map pair_of (drop i es))))) x v r
   entries_turn key value es i a h is pairs new x y z v own ps r first push left =
@@ -115,8 +116,8 @@ module _ (front : Front) (calls : Calls) (keep : CalleesKeep calls) where
       (find_then AnyOne one (entry_keeps key value (term_of a.key) (term_of a.value) pairs) (λ (u : Unit {0}). new) (λ (u : Unit {0}). ps) rest tt x z v r
       (push.goes x (typed front calls key (term_of a.key)) (typed_keeps key (term_of a.key)) first) (λ h. left))
 
-  pub entries_stop : (key value : PureType) (es : List TermEntry) (i : ℕ) (a : TermEntry) → i < length es → a ≡ get_or es i a → (pairs new : List Pair) (x y z v : RunState) (own : Result code.Tree Stop) (ps : List Pair) (why : Stop)
-      → FindsAndCarriesOut pure_tree (typed front calls key (term_of a.key)) x y own → GoesOn HasNone pure_tree (λ (u : Unit {0}). new) (pair_with front calls value (term_of a.value) pairs) own y z (Err why)
+  pub entries_stop : (key value : PureType) (es : List TermEntry) (i : ℕ) (a : TermEntry) → i < length es → a ≡ get_or es i a → (pairs new : List Pair) (x y z v : RunState) (own : Result (Box code.Tree) Stop) (ps : List Pair) (why : Stop)
+      → FindsAndCarriesOut tree_in (typed front calls key (term_of a.key)) x y own → GoesOn HasNone tree_in (λ (u : Unit {0}). new) (pair_with front calls value (term_of a.value) pairs) own y z (Err why)
       → FindsAndCarriesOut (λ (u : Unit {0}). ps) (after pairs (entries front calls key value (e.entries_of (map pair_of (drop i es))))) x v (Err why)
   entries_stop key value es i a h is pairs new x y z v own ps why first push =
       let one : Action (List Pair) = typed front calls key (term_of a.key) >>= pair_with front calls value (term_of a.value) pairs in

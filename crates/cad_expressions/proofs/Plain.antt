@@ -1,5 +1,5 @@
 -- Expressions without parts.
-use Rattle.std.proofs.Common.{◌≡◌, ℕ, Bool, List, Result, Ok, Err, ap, refl, sym, ◌∙◌, subst}
+use Rattle.std.proofs.Common.{◌≡◌, ℕ, Bool, Result, Ok, Err, ap, refl, sym, ◌∙◌, subst}
 use Rattle.cad_syntax.specs.Types.{pure_type}
 use Rattle.cad_syntax.specs.declared.address.Address.{Address}
 use Rattle.cad_syntax.specs.declared.address.Path.{Path}
@@ -12,7 +12,6 @@ use Rattle.cad_declarations.specs.Views.{term_of}
 use Rattle.cad_declarations.specs.declared.term.Term.{Term}
 use Rattle.cad_declarations.specs.declared.term.Term.TheVariants as term
 use Rattle.cad_evaluation.specs.Callees.{Calls, Front}
-use Rattle.cad_evaluation.specs.Casts.{type_tree}
 use Rattle.cad_evaluation.specs.Making.{case_tree}
 use Rattle.cad_evaluation.specs.Numbers.{number_tree, bool_tree}
 use Rattle.cad_evaluation.specs.Uses.{before_value}
@@ -25,10 +24,12 @@ use Rattle.cad_state.specs.declared.state.RunState.{RunState}
 use Rattle.cad_state.proofs.Finding.{find_any, find_same}
 use Rattle.cad_values.specs.Values as v
 use Rattle.cad_world.specs.Rows.{Tree}
-use Rattle.cad_world.specs.State.{State, Outcome, ok, Action, give}
+use Rattle.cad_world.specs.State.{State, ok, Action, give}
 use Rattle.cad_world.specs.Trees.{of_plain, nil_tree}
 use Rattle.cad_expressions.specs.Code.Steps.{CopiesTo, evaluated, type_called}
 use Rattle.cad_expressions.proofs.Trees as tree
+use Rattle.cad_expressions.specs.Views.{tree_in}
+use Rattle.std.specs.Global.{Box}
 
 pub value_carried : {C D : Type 0} (view : D → C) (a : C) (d : D) (x : RunState) → view d ≡ a → CarriesOut view (give a) x x (Ok d)
 value_carried view a d x is w = ap (λ c. ok c (state_over w x)) (sym is)
@@ -80,8 +81,8 @@ module _ (front : Front) (calls : Calls) (t : Term) (x : RunState) (r : Result c
   before_arm n is = plain (e.before n) (before_value n) (tree.before_at t n is) (λ s. refl)
 
 -- a type that is called for
-pub meta_arm : (front : Front) (calls : Calls) (t : Term) (x y : RunState) (r : Result code.Tree Stop) (c : CadType) → t ≡ term.Meta c
-    → FindsAndCarriesOut pure_tree (type_called (pure_type c)) x y r → FindsAndCarriesOut pure_tree (evaluated front calls (term_of t)) x y r
+pub meta_arm : (front : Front) (calls : Calls) (t : Term) (x y : RunState) (r : Result (Box code.Tree) Stop) (c : CadType) → t ≡ term.Meta c
+    → FindsAndCarriesOut tree_in (type_called (pure_type c)) x y r → FindsAndCarriesOut tree_in (evaluated front calls (term_of t)) x y r
 unfolding evaluated type_called
-meta_arm front calls t x y r c is done = find_same pure_tree (evaluated front calls (term_of t)) (type_called (pure_type c)) x y r
+meta_arm front calls t x y r c is done = find_same tree_in (evaluated front calls (term_of t)) (type_called (pure_type c)) x y r
     (λ w ready. ap (λ z. evaluated front calls z (state_over w x)) (tree.meta_at t c is)) done

@@ -1,5 +1,6 @@
 -- What is done with the value of a first part by a second one.
-use Rattle.std.proofs.Common.{◌≡◌, ℕ, Bool, true, false, Option, Some, None, option_map, Result, Ok, Err, ap, refl, sym, ◌∙◌}
+use Rattle.std.proofs.Common.{◌≡◌, Bool, true, false, Option, Some, None, option_map, Result, ap, refl, ◌∙◌}
+use Rattle.std.specs.Global.{Box}
 use Rattle.cad_syntax.specs.Types.{PureType}
 use Rattle.cad_grammar.specs.declared.expression.BinaryOperator.{BinaryOperator}
 use Rattle.cad_grammar.specs.declared.expression.BinaryOperator.TheVariants.{And, Or}
@@ -21,10 +22,9 @@ use Rattle.cad_evaluation.specs.Uses.{taken_if, truth_only}
 use Rattle.cad_members.specs.Optionals.{left_or_none}
 use Rattle.cad_world.specs.Transfers.{rounded}
 use Rattle.cad_labels.proofs.Forms.{keeps_give}
-use Rattle.cad_labels.specs.Laws.{AnyOne, CalleesKeep, HasNone, Keeps}
+use Rattle.cad_labels.specs.Laws.{AnyOne, HasNone, Keeps}
 use Rattle.cad_labels.proofs.Keeping.{keeps_bind}
 use Rattle.cad_outcomes.specs.declared.stop.Stop.{Stop}
-use Rattle.cad_rows.specs.Views.{pure_tree}
 use Rattle.cad_rows.specs.declared.tree.Tree as code
 use Rattle.cad_standing.specs.Views.{is_nowhere}
 use Rattle.cad_state.specs.Views.{state_over, FindsAndCarriesOut}
@@ -33,6 +33,7 @@ use Rattle.cad_world.specs.Receivers.{Receiver, look_at}
 use Rattle.cad_world.specs.Rows.{Tree}
 use Rattle.cad_world.specs.State.{State, Outcome, ok, failed, limit, ill, bind, Action, ◌>>=◌, give, choose, by_truth, with_some}
 use Rattle.cad_expressions.specs.Code.Steps.{GoesOn, evaluated, element_at, element_in, coalesced_with, combined_with, conjoined, disjoined, filled_by, member_read, rounded_to, truth_told, used}
+use Rattle.cad_expressions.specs.Views.{tree_in}
 use Rattle.cad_expressions.proofs.Composed.{truth_told_keeps}
 use Rattle.cad_expressions.proofs.Forms.{get_is}
 use Rattle.cad_expressions.proofs.Going.{goes_twice}
@@ -79,18 +80,18 @@ module _ (front : Front) (calls : Calls) where
   unfolding combined_with truth_told disjoined
   or_same b p s = lifted (p s) (combined_with front calls Or b) truth_told (disjoined front calls b) (λ t s. either_cases (truth_of t) (evaluated front calls b) s)
 
-  pub and_goes : (b : e.TermTree) (operator : BinaryOperator) (r : Result code.Tree Stop) (x' : Result Bool Stop) (y z : RunState) (result : Result code.Tree Stop) → operator ≡ And
-      → GoesOn HasNone pure_tree (λ (b : Bool). b) truth_told r y y x' → GoesOn AnyOne (λ (b : Bool). b) pure_tree (conjoined front calls b) x' y z result
-      → GoesOn HasNone pure_tree pure_tree (combined_with front calls operator b) r y z result
+  pub and_goes : (b : e.TermTree) (operator : BinaryOperator) (r : Result (Box code.Tree) Stop) (x' : Result Bool Stop) (y z : RunState) (result : Result (Box code.Tree) Stop) → operator ≡ And
+      → GoesOn HasNone tree_in (λ (b : Bool). b) truth_told r y y x' → GoesOn AnyOne (λ (b : Bool). b) tree_in (conjoined front calls b) x' y z result
+      → GoesOn HasNone tree_in tree_in (combined_with front calls operator b) r y z result
   and_goes b operator r x' y z result is first second = rw (is)
-      (goes_twice HasNone AnyOne pure_tree (λ (b : Bool). b) pure_tree truth_told (conjoined front calls b) (combined_with front calls And b) r x' y y z result
+      (goes_twice HasNone AnyOne tree_in (λ (b : Bool). b) tree_in truth_told (conjoined front calls b) (combined_with front calls And b) r x' y y z result
       (λ p keep. keeps_bind HasNone AnyOne p truth_told keep (λ t h. truth_told_keeps t)) (and_same b) first second)
 
-  pub or_goes : (b : e.TermTree) (operator : BinaryOperator) (r : Result code.Tree Stop) (x' : Result Bool Stop) (y z : RunState) (result : Result code.Tree Stop) → operator ≡ Or
-      → GoesOn HasNone pure_tree (λ (b : Bool). b) truth_told r y y x' → GoesOn AnyOne (λ (b : Bool). b) pure_tree (disjoined front calls b) x' y z result
-      → GoesOn HasNone pure_tree pure_tree (combined_with front calls operator b) r y z result
+  pub or_goes : (b : e.TermTree) (operator : BinaryOperator) (r : Result (Box code.Tree) Stop) (x' : Result Bool Stop) (y z : RunState) (result : Result (Box code.Tree) Stop) → operator ≡ Or
+      → GoesOn HasNone tree_in (λ (b : Bool). b) truth_told r y y x' → GoesOn AnyOne (λ (b : Bool). b) tree_in (disjoined front calls b) x' y z result
+      → GoesOn HasNone tree_in tree_in (combined_with front calls operator b) r y z result
   or_goes b operator r x' y z result is first second = rw (is)
-      (goes_twice HasNone AnyOne pure_tree (λ (b : Bool). b) pure_tree truth_told (disjoined front calls b) (combined_with front calls Or b) r x' y y z result
+      (goes_twice HasNone AnyOne tree_in (λ (b : Bool). b) tree_in truth_told (disjoined front calls b) (combined_with front calls Or b) r x' y y z result
       (λ p keep. keeps_bind HasNone AnyOne p truth_told keep (λ t h. truth_told_keeps t)) (or_same b) first second)
 
   content_cases : (c : Content) (takes : Bool) (type : PureType) (t : Tree) (b : e.TermTree) (s : State)
@@ -117,26 +118,26 @@ module _ (front : Front) (calls : Calls) where
   content_keeps (content u) takes t = keeps_give {A = Option Tree} AnyOne (Some (taken_if takes t u)) tt
   content_keeps no_optional takes t = λ s once. tt
 
-  pub coalesce_goes : (takes : Bool) (type : PureType) (b : e.TermTree) (r : Result code.Tree Stop) (x' : Result (Option code.Tree) Stop) (y z : RunState) (result : Result code.Tree Stop)
-      → GoesOn HasNone pure_tree (λ (o : Option code.Tree). option_map (λ t. pure_tree t) o) (left_or_none takes) r y y x'
-      → GoesOn AnyOne (λ (o : Option code.Tree). option_map (λ t. pure_tree t) o) pure_tree (filled_by front calls type b) x' y z result
-      → GoesOn HasNone pure_tree pure_tree (coalesced_with front calls takes type b) r y z result
+  pub coalesce_goes : (takes : Bool) (type : PureType) (b : e.TermTree) (r : Result (Box code.Tree) Stop) (x' : Result (Option (Box code.Tree)) Stop) (y z : RunState) (result : Result (Box code.Tree) Stop)
+      → GoesOn HasNone tree_in (λ (o : Option (Box code.Tree)). option_map (λ t. tree_in t) o) (left_or_none takes) r y y x'
+      → GoesOn AnyOne (λ (o : Option (Box code.Tree)). option_map (λ t. tree_in t) o) tree_in (filled_by front calls type b) x' y z result
+      → GoesOn HasNone tree_in tree_in (coalesced_with front calls takes type b) r y z result
   coalesce_goes takes type b r x' y z result first second =
-      goes_twice HasNone AnyOne pure_tree (λ (o : Option code.Tree). option_map (λ t. pure_tree t) o) pure_tree (left_or_none takes) (filled_by front calls type b) (coalesced_with front calls takes type b) r x' y y z result
+      goes_twice HasNone AnyOne tree_in (λ (o : Option (Box code.Tree)). option_map (λ t. tree_in t) o) tree_in (left_or_none takes) (filled_by front calls type b) (coalesced_with front calls takes type b) r x' y y z result
       (λ p keep. keeps_bind HasNone AnyOne p (left_or_none takes) keep (λ t h. content_keeps (content_of t) takes t)) (coalesce_same takes type b) first second
 
-  pub get_arm : (t : Use) (n : Name) (a : Authorization) (r : Receiver) (x z : RunState) (res : Result code.Tree Stop) → t ≡ usage.Field n a
-      → FindsAndCarriesOut pure_tree (look_at r >>= read_field n a) x z res → FindsAndCarriesOut pure_tree (used front calls (use_of t) r) x z res
-  get_arm t n a r x z res is done = find_same pure_tree (used front calls (use_of t) r) (look_at r >>= read_field n a) x z res
+  pub get_arm : (t : Use) (n : Name) (a : Authorization) (r : Receiver) (x z : RunState) (res : Result (Box code.Tree) Stop) → t ≡ usage.Field n a
+      → FindsAndCarriesOut tree_in (look_at r >>= read_field n a) x z res → FindsAndCarriesOut tree_in (used front calls (use_of t) r) x z res
+  get_arm t n a r x z res is done = find_same tree_in (used front calls (use_of t) r) (look_at r >>= read_field n a) x z res
       (λ w ready. ap (λ u. used front calls u r (state_over w x)) (tree.use_get_at t n a is) ∙ get_is front calls n a r (state_over w x)) done
 
   field_read : (b : Builtin) (r : Receiver) (s : State) → used front calls (e.builtin_field b) r s ≡ member_read front calls b r s
   unfolding used member_read
   field_read b r s = refl
 
-  pub builtin_field_arm : (t : Use) (b : Builtin) (r : Receiver) (x z : RunState) (res : Result code.Tree Stop) → t ≡ usage.BuiltinField b
-      → FindsAndCarriesOut pure_tree (member_read front calls b r) x z res → FindsAndCarriesOut pure_tree (used front calls (use_of t) r) x z res
-  builtin_field_arm t b r x z res is done = find_same pure_tree (used front calls (use_of t) r) (member_read front calls b r) x z res
+  pub builtin_field_arm : (t : Use) (b : Builtin) (r : Receiver) (x z : RunState) (res : Result (Box code.Tree) Stop) → t ≡ usage.BuiltinField b
+      → FindsAndCarriesOut tree_in (member_read front calls b r) x z res → FindsAndCarriesOut tree_in (used front calls (use_of t) r) x z res
+  builtin_field_arm t b r x z res is done = find_same tree_in (used front calls (use_of t) r) (member_read front calls b r) x z res
       (λ w ready. ap (λ u. used front calls u r (state_over w x)) (tree.use_builtin_field_at t b is) ∙ field_read b r (state_over w x)) done
 
   pub otherwise : (b : e.TermTree) (operator : BinaryOperator) (x : Tree) → (operator ≡ And → ⊥) → (operator ≡ Or → ⊥) → (s : State)

@@ -1,5 +1,5 @@
 -- Places without parts.
-use Rattle.std.proofs.Common.{◌≡◌, ℕ, Bool, None, Result, Ok, Err, ap, refl, sym, ◌∙◌}
+use Rattle.std.proofs.Common.{◌≡◌, ℕ, Bool, None, Result, Ok, ap, refl, sym, ◌∙◌}
 use Rattle.cad_syntax.specs.declared.type_id.TypeId.{TypeId}
 use Rattle.cad_declarations.specs.Typed as e
 use Rattle.cad_declarations.specs.Views.{place_of}

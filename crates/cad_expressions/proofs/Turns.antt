@@ -1,11 +1,12 @@
 -- Turns of the loops that evaluate elements, arguments and entries.
-use Rattle.std.proofs.Common.{◌≡◌, ℕ, ◌+◌, ◌<◌, ◌≤◌, List, [], ◌∷◌, ◌++◌, length, drop, get_or, map, refl, sym, ◌∙◌, ap, add-one, drop-cons, append_assoc, Result, Ok, Err, rules}
+use Rattle.std.proofs.Common.{◌≡◌, ℕ, ◌+◌, ◌<◌, ◌≤◌, List, ◌∷◌, length, drop, get_or, map, refl, sym, ◌∙◌, ap, add-one, drop-cons, Result, Ok, Err, rules}
 use Rattle.cad_declarations.specs.declared.term.Place.TheViews.{the_lemmas}
 use Rattle.cad_declarations.specs.declared.term.Place.TheFolds.{fold_out-Argument}
-use Rattle.std.proofs.lemmas.List.{append-nil, drop_all}
+use Rattle.std.proofs.lemmas.List.{drop_all}
+use Rattle.std.specs.Global.{Box}
 use Rattle.cad_syntax.specs.Types.{PureType, pure_type}
 use Rattle.cad_declarations.specs.Typed as e
-use Rattle.cad_declarations.specs.Views.{term_of, argument_of, argument_step}
+use Rattle.cad_declarations.specs.Views.{term_of, argument_of}
 use Rattle.cad_declarations.specs.declared.term.Term.{Term}
 use Rattle.cad_declarations.specs.declared.term.Argument.{Argument}
 use Rattle.cad_evaluation.specs.Callees.{Calls, Front}
@@ -16,7 +17,6 @@ use Rattle.cad_labels.proofs.Keeping.{keeps_bind}
 use Rattle.cad_labels.proofs.Places.{transferred_keeps}
 use Rattle.cad_outcomes.specs.declared.stop.Stop.{Stop}
 use Rattle.cad_rows.proofs.CopyLaws.{join_stop}
-use Rattle.cad_rows.specs.Views.{pure_tree}
 use Rattle.cad_rows.specs.declared.tree.Tree as code
 use Rattle.cad_state.specs.Views.{state_over, FindsAndCarriesOut}
 use Rattle.cad_state.specs.declared.state.RunState.{RunState}
@@ -25,6 +25,7 @@ use Rattle.cad_world.specs.Rows.{Row, stop, gap, node, first, join, add_last, Tr
 use Rattle.cad_world.specs.State.{State, Outcome, ok, failed, limit, ill, bind, Action, ◌>>=◌, give}
 use Rattle.cad_world.specs.Transfers.{transferred}
 use Rattle.cad_expressions.specs.Code.Steps.{GoesOn, evaluated, elements, arguments, behind, row_with}
+use Rattle.cad_expressions.specs.Views.{tree_in}
 use Rattle.cad_expressions.proofs.Forms.{evaluated_keeps}
 
 -- what stands at an index, before the rest
@@ -104,9 +105,9 @@ module _ (front : Front) (calls : Calls) (keep : CalleesKeep calls) where
   arguments_last all i h done x w ready =
       ap (λ z. behind done (eval_arguments front calls (e.arguments_of (map argument_of z))) (state_over w x)) (drop_all i all h) ∙ ap (λ q. ok q (state_over w x)) (join_stop done)
 
-  pushed : (t : e.TermTree) (type : PureType) (done new : Row) (rest : Row → Action Row) (whole : Action Row) (x y z v : RunState) (found : Result code.Tree Stop) (rs : Row) (r : Result (Unit {0}) Stop)
+  pushed : (t : e.TermTree) (type : PureType) (done new : Row) (rest : Row → Action Row) (whole : Action Row) (x y z v : RunState) (found : Result (Box code.Tree) Stop) (rs : Row) (r : Result (Unit {0}) Stop)
       → ((s : State) → whole s ≡ ((evaluated front calls t >>= row_with type done) >>= rest) s)
-      → FindsAndCarriesOut pure_tree (evaluated front calls t) x y found → GoesOn HasNone pure_tree (λ (u : Unit {0}). new) (row_with type done) found y z (Ok tt)
+      → FindsAndCarriesOut tree_in (evaluated front calls t) x y found → GoesOn HasNone tree_in (λ (u : Unit {0}). new) (row_with type done) found y z (Ok tt)
       → FindsAndCarriesOut (λ (u : Unit {0}). rs) (rest new) z v r → FindsAndCarriesOut (λ (u : Unit {0}). rs) whole x v r
   pushed t type done new rest whole x y z v found rs r same first push left =
       find_same (λ (u : Unit {0}). rs) whole ((evaluated front calls t >>= row_with type done) >>= rest) x v r (λ w ready. same (state_over w x))
@@ -114,9 +115,9 @@ module _ (front : Front) (calls : Calls) (keep : CalleesKeep calls) where
       (keeps_bind HasNone AnyOne (evaluated front calls t) (row_with type done) (evaluated_keeps front calls t keep) (row_with_keeps type done))
       (λ (u : Unit {0}). new) (λ (u : Unit {0}). rs) rest tt x z v r (push.goes x (evaluated front calls t) (evaluated_keeps front calls t keep) first) (λ h. left))
 
-  refused : (t : e.TermTree) (type : PureType) (done new : Row) (rest : Row → Action Row) (whole : Action Row) (x y z v : RunState) (found : Result code.Tree Stop) (rs : Row) (why : Stop)
+  refused : (t : e.TermTree) (type : PureType) (done new : Row) (rest : Row → Action Row) (whole : Action Row) (x y z v : RunState) (found : Result (Box code.Tree) Stop) (rs : Row) (why : Stop)
       → ((s : State) → whole s ≡ ((evaluated front calls t >>= row_with type done) >>= rest) s)
-      → FindsAndCarriesOut pure_tree (evaluated front calls t) x y found → GoesOn HasNone pure_tree (λ (u : Unit {0}). new) (row_with type done) found y z (Err why)
+      → FindsAndCarriesOut tree_in (evaluated front calls t) x y found → GoesOn HasNone tree_in (λ (u : Unit {0}). new) (row_with type done) found y z (Err why)
       → FindsAndCarriesOut (λ (u : Unit {0}). rs) whole x v (Err why)
   refused t type done new rest whole x y z v found rs why same first push =
       find_same (λ (u : Unit {0}). rs) whole ((evaluated front calls t >>= row_with type done) >>= rest) x v (Err why) (λ w ready. same (state_over w x))
@@ -129,15 +130,15 @@ module _ (front : Front) (calls : Calls) (keep : CalleesKeep calls) where
   element_same type es i a h is done s =
       ap (λ z. behind done (elements front calls type (e.terms_of (map term_of z))) s) (cons_at es i a h is) ∙ elements_is type (term_of a) (e.terms_of (map term_of (drop (i + 1) es))) done s
 
-  pub elements_turn : (type : PureType) (es : List Term) (i : ℕ) (a : Term) → i < length es → a ≡ get_or es i a → (done new : Row) (x y z v : RunState) (found : Result code.Tree Stop) (rs : Row) (r : Result (Unit {0}) Stop)
-      → FindsAndCarriesOut pure_tree (evaluated front calls (term_of a)) x y found → GoesOn HasNone pure_tree (λ (u : Unit {0}). new) (row_with type done) found y z (Ok tt)
+  pub elements_turn : (type : PureType) (es : List Term) (i : ℕ) (a : Term) → i < length es → a ≡ get_or es i a → (done new : Row) (x y z v : RunState) (found : Result (Box code.Tree) Stop) (rs : Row) (r : Result (Unit {0}) Stop)
+      → FindsAndCarriesOut tree_in (evaluated front calls (term_of a)) x y found → GoesOn HasNone tree_in (λ (u : Unit {0}). new) (row_with type done) found y z (Ok tt)
       → FindsAndCarriesOut (λ (u : Unit {0}). rs) (behind new (elements front calls type (e.terms_of (map term_of (drop (i + 1) es))))) z v r
       → FindsAndCarriesOut (λ (u : Unit {0}). rs) (behind done (elements front calls type (e.terms_of (map term_of (drop i es))))) x v r
   elements_turn type es i a h is done new x y z v found rs r first push left =
       pushed (term_of a) type done new (λ d. behind d (elements front calls type (e.terms_of (map term_of (drop (i + 1) es))))) _ x y z v found rs r (element_same type es i a h is done) first push left
 
-  pub elements_stop : (type : PureType) (es : List Term) (i : ℕ) (a : Term) → i < length es → a ≡ get_or es i a → (done new : Row) (x y z v : RunState) (found : Result code.Tree Stop) (rs : Row) (why : Stop)
-      → FindsAndCarriesOut pure_tree (evaluated front calls (term_of a)) x y found → GoesOn HasNone pure_tree (λ (u : Unit {0}). new) (row_with type done) found y z (Err why)
+  pub elements_stop : (type : PureType) (es : List Term) (i : ℕ) (a : Term) → i < length es → a ≡ get_or es i a → (done new : Row) (x y z v : RunState) (found : Result (Box code.Tree) Stop) (rs : Row) (why : Stop)
+      → FindsAndCarriesOut tree_in (evaluated front calls (term_of a)) x y found → GoesOn HasNone tree_in (λ (u : Unit {0}). new) (row_with type done) found y z (Err why)
       → FindsAndCarriesOut (λ (u : Unit {0}). rs) (behind done (elements front calls type (e.terms_of (map term_of (drop i es))))) x v (Err why)
   elements_stop type es i a h is done new x y z v found rs why first push =
       refused (term_of a) type done new (λ d. behind d (elements front calls type (e.terms_of (map term_of (drop (i + 1) es))))) _ x y z v found rs why (element_same type es i a h is done) first push
@@ -150,15 +151,15 @@ module _ (front : Front) (calls : Calls) (keep : CalleesKeep calls) where
       ∙ ap (λ (z : e.TargetedTerm). behind done (arguments front calls (e.arguments z.value z.target (e.arguments_of (map argument_of (drop (i + 1) es))))) s) (argument_is a)
       ∙ arguments_is (term_of a.value) (pure_type a.target) (e.arguments_of (map argument_of (drop (i + 1) es))) done s
 
-  pub arguments_turn : (es : List Argument) (i : ℕ) (a : Argument) → i < length es → a ≡ get_or es i a → (done new : Row) (x y z v : RunState) (found : Result code.Tree Stop) (rs : Row) (r : Result (Unit {0}) Stop)
-      → FindsAndCarriesOut pure_tree (evaluated front calls (term_of a.value)) x y found → GoesOn HasNone pure_tree (λ (u : Unit {0}). new) (row_with (pure_type a.target) done) found y z (Ok tt)
+  pub arguments_turn : (es : List Argument) (i : ℕ) (a : Argument) → i < length es → a ≡ get_or es i a → (done new : Row) (x y z v : RunState) (found : Result (Box code.Tree) Stop) (rs : Row) (r : Result (Unit {0}) Stop)
+      → FindsAndCarriesOut tree_in (evaluated front calls (term_of a.value)) x y found → GoesOn HasNone tree_in (λ (u : Unit {0}). new) (row_with (pure_type a.target) done) found y z (Ok tt)
       → FindsAndCarriesOut (λ (u : Unit {0}). rs) (behind new (arguments front calls (e.arguments_of (map argument_of (drop (i + 1) es))))) z v r
       → FindsAndCarriesOut (λ (u : Unit {0}). rs) (behind done (arguments front calls (e.arguments_of (map argument_of (drop i es))))) x v r
   arguments_turn es i a h is done new x y z v found rs r first push left =
       pushed (term_of a.value) (pure_type a.target) done new (λ d. behind d (arguments front calls (e.arguments_of (map argument_of (drop (i + 1) es))))) _ x y z v found rs r (argument_same es i a h is done) first push left
 
-  pub arguments_stop : (es : List Argument) (i : ℕ) (a : Argument) → i < length es → a ≡ get_or es i a → (done new : Row) (x y z v : RunState) (found : Result code.Tree Stop) (rs : Row) (why : Stop)
-      → FindsAndCarriesOut pure_tree (evaluated front calls (term_of a.value)) x y found → GoesOn HasNone pure_tree (λ (u : Unit {0}). new) (row_with (pure_type a.target) done) found y z (Err why)
+  pub arguments_stop : (es : List Argument) (i : ℕ) (a : Argument) → i < length es → a ≡ get_or es i a → (done new : Row) (x y z v : RunState) (found : Result (Box code.Tree) Stop) (rs : Row) (why : Stop)
+      → FindsAndCarriesOut tree_in (evaluated front calls (term_of a.value)) x y found → GoesOn HasNone tree_in (λ (u : Unit {0}). new) (row_with (pure_type a.target) done) found y z (Err why)
       → FindsAndCarriesOut (λ (u : Unit {0}). rs) (behind done (arguments front calls (e.arguments_of (map argument_of (drop i es))))) x v (Err why)
   arguments_stop es i a h is done new x y z v found rs why first push =
       refused (term_of a.value) (pure_type a.target) done new (λ d. behind d (arguments front calls (e.arguments_of (map argument_of (drop (i + 1) es))))) _ x y z v found rs why (argument_same es i a h is done) first push

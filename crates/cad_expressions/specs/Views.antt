@@ -6,6 +6,7 @@ use Rattle.cad_rows.specs.Views.{pure_row}
 use Rattle.cad_rows.specs.declared.tree.Place.{Place}
 use Rattle.cad_world.specs.Rows.{Row}
 use Rattle.std.specs.declared.alloc.Global.{Global}
+use Rattle.std.specs.declared.boxed.Box.{Box}
 use Rattle.std.specs.declared.vec.Vec.{Vec}
 use Rattle.std.specs.Prelude.{List, map}
 use Rattle.cad_members.specs.Passed.{pure_pair}
@@ -20,6 +21,10 @@ callee_of (Method of name label) = spec.method of.now name.now label
 callee_of (Function name) = spec.function name.now
 callee_of (Initializer of label) = spec.initializer of.now label
 callee_of (DestroyedEvent of label) = spec.destroyed_event of.now label
+
+-- the value that stands on the heap
+abbrev pub tree_in : Box Tree Global → rows.Tree
+tree_in b = pure_tree b.value
 
 abbrev pub items_row : Vec Place Global → Row
 items_row v = pure_row v.items

@@ -1,9 +1,9 @@
 // What is called: a parameter of evaluation.
 ghost use Rattle.cad_evaluation.specs.Adding as adding;
 ghost use Rattle.cad_evaluation.specs.Callees.{Calls, Front};
-ghost use Rattle.cad_expressions.specs.Views.{callee_of};
+ghost use Rattle.cad_expressions.specs.Views.{callee_of, tree_in};
 ghost use Rattle.cad_labels.specs.Laws.{CalleesKeep};
-ghost use Rattle.cad_rows.specs.Views.{pure_row, pure_tree};
+ghost use Rattle.cad_rows.specs.Views.{pure_row};
 ghost use Rattle.cad_state.specs.Views.{FindsAndCarriesOut};
 
 use cad_outcomes::Stop;
@@ -51,9 +51,9 @@ pub trait Callees {
         state: &mut RunState,
         callee: Callee<'_>,
         arguments: Vec<Place>,
-    ) -> Result<Tree, Stop>
+    ) -> Result<Box<Tree>, Stop>
         requires { is_ready self.now }
-        ensures { FindsAndCarriesOut pure_tree (calls self.now (callee_of callee.entry) (pure_row arguments.items)) state.old state.new result };
+        ensures { FindsAndCarriesOut tree_in (calls self.now (callee_of callee.entry) (pure_row arguments.items)) state.old state.new result };
 
     /// Adds a contract to the account of an address: of a name and a code, on further arguments. Errors are 118 where the name is
     /// taken, 119 where the code is refused, 120 where it isn't one contract of that name, 125 and 113 of its arguments, and those
@@ -63,9 +63,9 @@ pub trait Callees {
         state: &mut RunState,
         address: Address,
         arguments: Vec<Place>,
-    ) -> Result<Tree, Stop>
+    ) -> Result<Box<Tree>, Stop>
         requires { is_ready self.now }
-        ensures { FindsAndCarriesOut pure_tree (adding.add (front self.now) (calls self.now) (pure_row arguments.items) address) state.old state.new result };
+        ensures { FindsAndCarriesOut tree_in (adding.add (front self.now) (calls self.now) (pure_row arguments.items) address) state.old state.new result };
 
     /// Results of calls over arguments without labels have none, and labels are kept apart.
     ghost keeps: { (it : Self) → CalleesKeep (calls it) };
@@ -93,7 +93,7 @@ impl<C: Callees> Callees for Quiet<'_, C> {
         state: &mut RunState,
         callee: Callee<'_>,
         arguments: Vec<Place>,
-    ) -> Result<Tree, Stop> {
+    ) -> Result<Box<Tree>, Stop> {
         match callee {
             Callee::DestroyedEvent { of: _, label: _ } => {
                 discard_row(arguments);
@@ -116,7 +116,7 @@ impl<C: Callees> Callees for Quiet<'_, C> {
         state: &mut RunState,
         address: Address,
         arguments: Vec<Place>,
-    ) -> Result<Tree, Stop> {
+    ) -> Result<Box<Tree>, Stop> {
         self.inner.add(state, address, arguments)
     }
 }

@@ -7,9 +7,9 @@ ghost use Rattle.cad_expressions.specs.Code.Ending as ending;
 ghost use Rattle.cad_expressions.specs.Code.Ending.{HasEmitted};
 ghost use Rattle.cad_expressions.specs.Code.Steps as steps;
 ghost use Rattle.cad_expressions.specs.Code.Steps.{GoesOn};
-ghost use Rattle.cad_expressions.specs.Views.{trees_of};
+ghost use Rattle.cad_expressions.specs.Views.{tree_in, trees_of};
 ghost use Rattle.cad_labels.specs.Laws.{HasNone};
-ghost use Rattle.cad_making.specs.Dying.{dying_of};
+ghost use Rattle.cad_making.specs.Dying.{dying_of, laid_out};
 ghost use Rattle.cad_outcomes.specs.Outcomes.{no_value};
 ghost use Rattle.cad_rows.specs.Views.{pure_tree};
 ghost use Rattle.cad_state.specs.Views.{CarriesOut, FindsAndCarriesOut};
@@ -17,6 +17,7 @@ ghost use Rattle.cad_state.specs.declared.state.RunState.{RunState};
 ghost use Rattle.cad_world.specs.Rows as rows;
 ghost use Rattle.cad_world.specs.State.{Action};
 
+use crate::boxes::{boxed, unboxed};
 use crate::callees::Callee;
 use crate::evaluator::Evaluator;
 use crate::values::memory;
@@ -37,6 +38,7 @@ fn void_tree(alloc: Global) -> Tree
 }
 
 /// Lets events go.
+#[inline(never)]
 fn discard_events(events: Vec<Tree>) {
     let mut left = events;
     while let Some(event) = left.pop() {
@@ -46,10 +48,11 @@ fn discard_events(events: Vec<Tree>) {
 }
 
 /// Appends an event. Where memory fails, it is let go.
-fn push_event(events: &mut Vec<Tree>, event: Tree) -> Result<(), AllocError>
-    ensures { OnOk result (trees_of events.new ≡ trees_of events.old ++ pure_tree event ∷ []) }
+#[inline(never)]
+fn push_event(events: &mut Vec<Tree>, event: Box<Tree>) -> Result<(), AllocError>
+    ensures { OnOk result (trees_of events.new ≡ trees_of events.old ++ tree_in event ∷ []) }
 {
-    match events.push(event) {
+    match events.push(unboxed(event)) {
         Ok(()) => Ok(()),
         Err(refused) => {
             discard_tree(refused.value);
@@ -64,9 +67,9 @@ fn make_event<E: Evaluator>(
     state: &mut RunState,
     of: &TypeId,
     label: u64,
-) -> Result<Tree, Stop>
+) -> Result<Box<Tree>, Stop>
     requires { E.is_ready evaluator.now }
-    ensures { FindsAndCarriesOut pure_tree (E.calls evaluator.now (callees.destroyed_event of.now label) rows.stop) state.old state.new result }
+    ensures { FindsAndCarriesOut tree_in (E.calls evaluator.now (callees.destroyed_event of.now label) rows.stop) state.old state.new result }
 {
     let none = Vec::new(memory(state));
     evaluator.call(state, Callee::DestroyedEvent { of, label }, none)
@@ -164,28 +167,52 @@ fn emit_and_bury(state: &mut RunState, dying: Dying, events: Vec<Tree>) -> Resul
     }
 }
 
+/// The same, and the value is on the heap.
+#[inline(never)]
+fn emit_and_bury_boxed(
+    state: &mut RunState,
+    dying: Dying,
+    events: Vec<Tree>,
+) -> Result<Box<Tree>, Stop>
+    ensures { CarriesOut tree_in (ending.told_and_gone (dying_of dying) (trees_of events)) state.old state.new result }
+{
+    boxed(emit_and_bury(state, dying, events))
+}
+
 /// What is laid out ends: its events are all made before one is emitted.
 fn end_laid_out<E: Evaluator>(
     evaluator: &E,
     state: &mut RunState,
     dying: Dying,
-) -> Result<Tree, Stop>
+) -> Result<Box<Tree>, Stop>
     requires ready { E.is_ready evaluator.now }
     requires labels { dying.first_label + length dying.types < 2 ^ 64 }
-    ensures { FindsAndCarriesOut pure_tree (ending.ended_from (E.calls evaluator.now) (dying_of dying)) state.old state.new result }
+    ensures { FindsAndCarriesOut tree_in (ending.ended_from (E.calls evaluator.now) (dying_of dying)) state.old state.new result }
 {
     match make_events(evaluator, state, &dying) {
-        Ok(events) => emit_and_bury(state, dying, events),
+        Ok(events) => emit_and_bury_boxed(state, dying, events),
         Err(stop) => Err(stop),
     }
 }
 
-/// A resource in hand ends.
-fn destroy<E: Evaluator>(evaluator: &E, state: &mut RunState, value: Tree) -> Result<Tree, Stop>
-    requires { E.is_ready evaluator.now }
-    ensures { HasNone (pure_tree value) → FindsAndCarriesOut pure_tree (steps.ended_by (E.calls evaluator.now) (pure_tree value)) state.old state.new result }
+/// What ends with a resource, set aside.
+#[inline(never)]
+fn lay_out_boxed(state: &mut RunState, value: Box<Tree>) -> Result<Dying, Stop>
+    ensures { CarriesOut dying_of (laid_out (tree_in value)) state.old state.new result }
 {
-    match lay_out(state, value) {
+    lay_out(state, unboxed(value))
+}
+
+/// A resource in hand ends.
+fn destroy<E: Evaluator>(
+    evaluator: &E,
+    state: &mut RunState,
+    value: Box<Tree>,
+) -> Result<Box<Tree>, Stop>
+    requires { E.is_ready evaluator.now }
+    ensures { HasNone (tree_in value) → FindsAndCarriesOut tree_in (steps.ended_by (E.calls evaluator.now) (tree_in value)) state.old state.new result }
+{
+    match lay_out_boxed(state, value) {
         Ok(dying) => {
             // The labels of what is laid out lie before this one, so there is room to count them up.
             let _next_label = state.next_label;
@@ -199,10 +226,10 @@ fn destroy<E: Evaluator>(evaluator: &E, state: &mut RunState, value: Tree) -> Re
 pub(crate) fn destroy_found<E: Evaluator>(
     evaluator: &E,
     state: &mut RunState,
-    value: Result<Tree, Stop>,
-) -> Result<Tree, Stop>
+    value: Result<Box<Tree>, Stop>,
+) -> Result<Box<Tree>, Stop>
     requires { E.is_ready evaluator.now }
-    ensures { GoesOn HasNone pure_tree pure_tree (steps.ended_by (E.calls evaluator.now)) value state.old state.new result }
+    ensures { GoesOn HasNone tree_in tree_in (steps.ended_by (E.calls evaluator.now)) value state.old state.new result }
 {
     match value {
         Ok(found) => destroy(evaluator, state, found),

@@ -4,19 +4,20 @@ ghost use Rattle.cad_declarations.specs.Typed.{entries_of};
 ghost use Rattle.cad_declarations.specs.Views.{pair_of, term_of};
 ghost use Rattle.cad_expressions.specs.Code.Steps as steps;
 ghost use Rattle.cad_expressions.specs.Code.Steps.{GoesOn};
-ghost use Rattle.cad_expressions.specs.Views.{pairs_of};
+ghost use Rattle.cad_expressions.specs.Views.{pairs_of, tree_in};
 ghost use Rattle.cad_labels.specs.Laws.{HasNone};
-ghost use Rattle.cad_rows.specs.Views.{pure_tree};
 ghost use Rattle.cad_state.specs.Views.{FindsAndCarriesOut};
 ghost use Rattle.cad_syntax.specs.Types.{pure_type};
 
+use crate::apart::discard_pairs;
+use crate::boxes::discard_boxed;
 use crate::evaluator::Evaluator;
 use crate::growth::push_pair;
 use crate::values::{hand_over, memory};
 use cad_declarations::{Term, TermEntry};
-use cad_members::{Pair, discard_pairs};
+use cad_members::Pair;
 use cad_outcomes::Stop;
-use cad_rows::{Tree, discard_tree};
+use cad_rows::Tree;
 use cad_state::RunState;
 use cad_syntax::CadType;
 
@@ -69,9 +70,9 @@ fn evaluate_typed<E: Evaluator>(
     evaluator: &E,
     state: &mut RunState,
     declared: &CadType,
-) -> Result<Tree, Stop>
+) -> Result<Box<Tree>, Stop>
     requires { E.is_ready evaluator.now }
-    ensures { FindsAndCarriesOut pure_tree (steps.typed (E.front evaluator.now) (E.calls evaluator.now) (pure_type declared.now) (term_of term.now)) state.old state.new result }
+    ensures { FindsAndCarriesOut tree_in (steps.typed (E.front evaluator.now) (E.calls evaluator.now) (pure_type declared.now) (term_of term.now)) state.old state.new result }
 {
     let found = evaluator.value(state, term);
     hand_over(state, declared, found)
@@ -83,11 +84,11 @@ fn push_entry<E: Evaluator>(
     evaluator: &E,
     state: &mut RunState,
     declared: &CadType,
-    key: Result<Tree, Stop>,
+    key: Result<Box<Tree>, Stop>,
     pairs: &mut Vec<Pair>,
 ) -> Result<(), Stop>
     requires { E.is_ready evaluator.now }
-    ensures { GoesOn HasNone pure_tree (λ _. pairs_of pairs.new) (steps.pair_with (E.front evaluator.now) (E.calls evaluator.now) (pure_type declared.now) (term_of term.now) (pairs_of pairs.old)) key state.old state.new result }
+    ensures { GoesOn HasNone tree_in (λ _. pairs_of pairs.new) (steps.pair_with (E.front evaluator.now) (E.calls evaluator.now) (pure_type declared.now) (term_of term.now) (pairs_of pairs.old)) key state.old state.new result }
 {
     match key {
         Ok(own) => push_under(term, evaluator, state, declared, own, pairs),
@@ -101,16 +102,16 @@ fn push_under<E: Evaluator>(
     evaluator: &E,
     state: &mut RunState,
     declared: &CadType,
-    key: Tree,
+    key: Box<Tree>,
     pairs: &mut Vec<Pair>,
 ) -> Result<(), Stop>
     requires { E.is_ready evaluator.now }
-    ensures { FindsAndCarriesOut (λ _. pairs_of pairs.new) (steps.pair_with (E.front evaluator.now) (E.calls evaluator.now) (pure_type declared.now) (term_of term.now) (pairs_of pairs.old) (pure_tree key)) state.old state.new result }
+    ensures { FindsAndCarriesOut (λ _. pairs_of pairs.new) (steps.pair_with (E.front evaluator.now) (E.calls evaluator.now) (pure_type declared.now) (term_of term.now) (pairs_of pairs.old) (tree_in key)) state.old state.new result }
 {
     match evaluate_typed(term, evaluator, state, declared) {
         Ok(value) => push_pair(pairs, key, value),
         Err(stop) => {
-            discard_tree(key);
+            discard_boxed(key);
             Err(stop)
         }
     }

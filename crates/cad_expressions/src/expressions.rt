@@ -3,8 +3,7 @@ ghost use Rattle.std.specs.Prelude.{map};
 ghost use Rattle.cad_declarations.specs.Typed.{arguments_of};
 ghost use Rattle.cad_declarations.specs.Views.{argument_of, place_of, term_of};
 ghost use Rattle.cad_evaluation.specs.Terms as spec;
-ghost use Rattle.cad_expressions.specs.Views.{items_row};
-ghost use Rattle.cad_rows.specs.Views.{pure_tree};
+ghost use Rattle.cad_expressions.specs.Views.{items_row, tree_in};
 ghost use Rattle.cad_standing.specs.Views.{standing_of};
 ghost use Rattle.cad_state.specs.Views.{FindsAndCarriesOut};
 
@@ -20,9 +19,9 @@ use cad_state::RunState;
 
 /// The value of an expression. Errors are those of its parts.
 #[tactic(auto, unfolding(crate::specs::Code::Steps::evaluated))]
-pub fn eval<C: Callees>(term: &Term, callees: &C, state: &mut RunState) -> Result<Tree, Stop>
+pub fn eval<C: Callees>(term: &Term, callees: &C, state: &mut RunState) -> Result<Box<Tree>, Stop>
     requires { C.is_ready callees.now }
-    ensures { FindsAndCarriesOut pure_tree (spec.eval (C.front callees.now) (C.calls callees.now) (term_of term.now)) state.old state.new result }
+    ensures { FindsAndCarriesOut tree_in (spec.eval (C.front callees.now) (C.calls callees.now) (term_of term.now)) state.old state.new result }
 {
     evaluate_to(u64::MAX, callees, state, term)
 }

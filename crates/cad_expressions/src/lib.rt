@@ -2,6 +2,8 @@
 #![tactic(auto)]
 
 mod apart;
+mod at_once;
+mod boxes;
 mod callees;
 mod ends;
 mod entries;
@@ -26,6 +28,10 @@ mod values;
 
 pub use callees::{Callee, Callees, Quiet};
 pub use expressions::{eval, eval_arguments, eval_place};
+
+// For the crates above alone: truths that are told at once, and values on the heap between the leaves.
+pub use at_once::truth_at_once;
+pub use boxes::{boxed, discard_boxed, unboxed};
 
 // What the crates above use of the ones below.
 pub use cad_members::{compared, elements, open};

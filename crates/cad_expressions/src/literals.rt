@@ -5,6 +5,7 @@ ghost use Rattle.cad_evaluation.specs.Callees.{Calls, Front};
 ghost use Rattle.cad_evaluation.specs.Casts as casts;
 ghost use Rattle.cad_expressions.specs.Code.Steps as steps;
 ghost use Rattle.cad_expressions.specs.Code.Steps.{CopiesTo};
+ghost use Rattle.cad_expressions.specs.Views.{tree_in};
 ghost use Rattle.cad_rows.specs.Views.{pure_tree};
 ghost use Rattle.cad_state.specs.Views.{FindsAndCarriesOut};
 ghost use Rattle.cad_syntax.specs.Types.{pure_type};
@@ -12,6 +13,7 @@ ghost use Rattle.cad_values.specs.Values as v;
 ghost use Rattle.cad_values.specs.Values.{pure_value};
 ghost use Rattle.cad_world.specs.Trees.{of_plain};
 
+use crate::boxes::boxed;
 use crate::values::memory;
 use cad_declarations::Term;
 use cad_making::{before_value, case};
@@ -25,7 +27,14 @@ use std::alloc::Global;
 
 /// The value of an expression without parts; no memory of any other.
 #[inline(never)]
-pub(crate) fn literal(term: &Term, state: &RunState) -> Result<Tree, Stop>
+pub(crate) fn literal(term: &Term, state: &RunState) -> Result<Box<Tree>, Stop>
+    ensures { (front : Front) (calls : Calls) → FindsAndCarriesOut tree_in (steps.evaluated front calls (term_of term.now)) state.now state.now result }
+{
+    boxed(literal_tree(term, state))
+}
+
+/// The tree of an expression without parts; no memory of any other.
+fn literal_tree(term: &Term, state: &RunState) -> Result<Tree, Stop>
     ensures { (front : Front) (calls : Calls) → FindsAndCarriesOut pure_tree (steps.evaluated front calls (term_of term.now)) state.now state.now result }
 {
     match term {
@@ -44,11 +53,11 @@ pub(crate) fn literal(term: &Term, state: &RunState) -> Result<Tree, Stop>
 
 /// The value of `Type<T>()`: it is written as a call, and takes the unit of one.
 #[inline(never)]
-pub(crate) fn call_type(state: &mut RunState, declared: &CadType) -> Result<Tree, Stop>
-    ensures { FindsAndCarriesOut pure_tree (steps.type_called (pure_type declared.now)) state.old state.new result }
+pub(crate) fn call_type(state: &mut RunState, declared: &CadType) -> Result<Box<Tree>, Stop>
+    ensures { FindsAndCarriesOut tree_in (steps.type_called (pure_type declared.now)) state.old state.new result }
 {
     match state.tick() {
-        Ok(()) => type_copy(memory(state), declared),
+        Ok(()) => boxed(type_copy(memory(state), declared)),
         Err(stop) => Err(stop),
     }
 }

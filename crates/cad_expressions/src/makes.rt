@@ -4,20 +4,21 @@ ghost use Rattle.cad_access.specs.RunContracts.{run_of};
 ghost use Rattle.cad_evaluation.specs.Making as making;
 ghost use Rattle.cad_expressions.specs.Code.Steps as steps;
 ghost use Rattle.cad_expressions.specs.Code.Steps.{GoesOn};
-ghost use Rattle.cad_expressions.specs.Views.{items_row};
+ghost use Rattle.cad_expressions.specs.Views.{items_row, tree_in};
 ghost use Rattle.cad_labels.specs.Laws.{HasNoneInRow};
 ghost use Rattle.cad_outcomes.specs.Outcomes.{no_value};
-ghost use Rattle.cad_rows.specs.Views.{pure_row, pure_tree};
+ghost use Rattle.cad_rows.specs.Views.{pure_row};
 ghost use Rattle.cad_state.specs.Views.{CarriesOut, FindsAndCarriesOut};
 ghost use Rattle.cad_world.specs.Declared as declared;
 
 use crate::apart::discard_row;
+use crate::boxes::{boxed, discard_boxed};
 use crate::callees::Callee;
 use crate::evaluator::Evaluator;
 use cad_access::bodies_of;
 use cad_making::{begin, draw_identity, finish};
 use cad_outcomes::Stop;
-use cad_rows::{Place, Tree, discard_tree};
+use cad_rows::{Place, Tree};
 use cad_state::RunState;
 use cad_syntax::TypeId;
 
@@ -27,9 +28,9 @@ pub(crate) fn construct_with<E: Evaluator>(
     state: &mut RunState,
     id: &TypeId,
     row: Result<Vec<Place>, Stop>,
-) -> Result<Tree, Stop>
+) -> Result<Box<Tree>, Stop>
     requires { E.is_ready evaluator.now }
-    ensures { GoesOn HasNoneInRow items_row pure_tree (steps.constructed (E.calls evaluator.now) id.now) row state.old state.new result }
+    ensures { GoesOn HasNoneInRow items_row tree_in (steps.constructed (E.calls evaluator.now) id.now) row state.old state.new result }
 {
     match row {
         Ok(found) => construct(evaluator, state, id, found),
@@ -43,9 +44,9 @@ fn construct<E: Evaluator>(
     state: &mut RunState,
     id: &TypeId,
     row: Vec<Place>,
-) -> Result<Tree, Stop>
+) -> Result<Box<Tree>, Stop>
     requires { E.is_ready evaluator.now }
-    ensures { HasNoneInRow (pure_row row.items) → FindsAndCarriesOut pure_tree (steps.constructed (E.calls evaluator.now) id.now (pure_row row.items)) state.old state.new result }
+    ensures { HasNoneInRow (pure_row row.items) → FindsAndCarriesOut tree_in (steps.constructed (E.calls evaluator.now) id.now (pure_row row.items)) state.old state.new result }
 {
     match state.tick() {
         Ok(()) => make(evaluator, state, id, 0, row),
@@ -62,9 +63,9 @@ pub(crate) fn create_with<E: Evaluator>(
     state: &mut RunState,
     id: &TypeId,
     row: Result<Vec<Place>, Stop>,
-) -> Result<Tree, Stop>
+) -> Result<Box<Tree>, Stop>
     requires { E.is_ready evaluator.now }
-    ensures { GoesOn HasNoneInRow items_row pure_tree (steps.created (E.calls evaluator.now) id.now) row state.old state.new result }
+    ensures { GoesOn HasNoneInRow items_row tree_in (steps.created (E.calls evaluator.now) id.now) row state.old state.new result }
 {
     match row {
         Ok(found) => create(evaluator, state, id, found),
@@ -88,9 +89,9 @@ fn create<E: Evaluator>(
     state: &mut RunState,
     id: &TypeId,
     row: Vec<Place>,
-) -> Result<Tree, Stop>
+) -> Result<Box<Tree>, Stop>
     requires { E.is_ready evaluator.now }
-    ensures { HasNoneInRow (pure_row row.items) → FindsAndCarriesOut pure_tree (steps.created (E.calls evaluator.now) id.now (pure_row row.items)) state.old state.new result }
+    ensures { HasNoneInRow (pure_row row.items) → FindsAndCarriesOut tree_in (steps.created (E.calls evaluator.now) id.now (pure_row row.items)) state.old state.new result }
 {
     match next_identity(state) {
         Ok(identity) => make(evaluator, state, id, identity, row),
@@ -119,9 +120,9 @@ fn make<E: Evaluator>(
     id: &TypeId,
     identity: u64,
     row: Vec<Place>,
-) -> Result<Tree, Stop>
+) -> Result<Box<Tree>, Stop>
     requires { E.is_ready evaluator.now }
-    ensures { HasNoneInRow (pure_row row.items) → FindsAndCarriesOut pure_tree (making.make (E.calls evaluator.now) id.now identity (pure_row row.items)) state.old state.new result }
+    ensures { HasNoneInRow (pure_row row.items) → FindsAndCarriesOut tree_in (making.make (E.calls evaluator.now) id.now identity (pure_row row.items)) state.old state.new result }
 {
     let is_written = has_initializer(state, id);
     match begin(state, id, identity) {
@@ -141,14 +142,22 @@ fn initialize<E: Evaluator>(
     label: u64,
     is_written: bool,
     row: Vec<Place>,
-) -> Result<Tree, Stop>
+) -> Result<Box<Tree>, Stop>
     requires { E.is_ready evaluator.now }
-    ensures { HasNoneInRow (pure_row row.items) → FindsAndCarriesOut pure_tree (steps.made_from (E.calls evaluator.now) id.now label is_written (pure_row row.items)) state.old state.new result }
+    ensures { HasNoneInRow (pure_row row.items) → FindsAndCarriesOut tree_in (steps.made_from (E.calls evaluator.now) id.now label is_written (pure_row row.items)) state.old state.new result }
 {
     match set_fields(evaluator, state, id, label, is_written, row) {
-        Ok(()) => finish(state),
+        Ok(()) => finish_boxed(state),
         Err(stop) => Err(stop),
     }
+}
+
+/// What was made last leaves its place, for the heap.
+#[inline(never)]
+fn finish_boxed(state: &mut RunState) -> Result<Box<Tree>, Stop>
+    ensures { CarriesOut tree_in making.finish state.old state.new result }
+{
+    boxed(finish(state))
 }
 
 /// The fields of what is made are set by the written initializer.
@@ -170,7 +179,7 @@ fn set_fields<E: Evaluator>(
     }
     match evaluator.call(state, Callee::Initializer { of: id, label }, row) {
         Ok(found) => {
-            discard_tree(found);
+            discard_boxed(found);
             Ok(())
         }
         Err(stop) => Err(stop),

@@ -3,16 +3,17 @@ ghost use Rattle.std.specs.Prelude.{Bool, map};
 ghost use Rattle.cad_declarations.specs.Typed as e;
 ghost use Rattle.cad_declarations.specs.Typed.{arguments_of};
 ghost use Rattle.cad_declarations.specs.Views.{argument_of, use_of};
+ghost use Rattle.cad_evaluation.specs.Reading.{read_field};
 ghost use Rattle.cad_expressions.specs.Code.Steps as steps;
 ghost use Rattle.cad_expressions.specs.Code.Steps.{GoesOn};
-ghost use Rattle.cad_expressions.specs.Views.{items_row};
+ghost use Rattle.cad_expressions.specs.Views.{items_row, tree_in};
 ghost use Rattle.cad_labels.specs.Laws.{AnyOne};
 ghost use Rattle.cad_outcomes.specs.Outcomes.{no_value};
-ghost use Rattle.cad_receivers.specs.Views.{receiver_of};
-ghost use Rattle.cad_rows.specs.Views.{pure_tree};
+ghost use Rattle.cad_receivers.specs.Views.{at_spot, receiver_of};
 ghost use Rattle.cad_state.specs.Views.{FindsAndCarriesOut};
 ghost use Rattle.cad_syntax.specs.Types.{pure_type};
 
+use crate::boxes::boxed;
 use crate::evaluator::Evaluator;
 use crate::reads::read_member;
 use crate::rows::evaluate_arguments;
@@ -22,7 +23,7 @@ use cad_outcomes::Stop;
 use cad_receivers::{Receiver, check_callable, check_use, get};
 use cad_rows::{Place, Tree};
 use cad_state::RunState;
-use cad_syntax::{CadType, Name};
+use cad_syntax::{Authorization, CadType, Name};
 use cad_types::Builtin;
 
 /// What is done with a receiver: it is looked at before the arguments, and again after them.
@@ -31,15 +32,15 @@ pub(crate) fn evaluate_use<E: Evaluator>(
     evaluator: &E,
     state: &mut RunState,
     receiver: &Receiver,
-) -> Result<Tree, Stop>
+) -> Result<Box<Tree>, Stop>
     requires { E.is_ready evaluator.now }
-    ensures { FindsAndCarriesOut pure_tree (steps.used (E.front evaluator.now) (E.calls evaluator.now) (use_of member.now) (receiver_of receiver.now)) state.old state.new result }
+    ensures { FindsAndCarriesOut tree_in (steps.used (E.front evaluator.now) (E.calls evaluator.now) (use_of member.now) (receiver_of receiver.now)) state.old state.new result }
 {
     match member {
         Use::Field {
             name,
             authorization,
-        } => get(state, receiver, name, authorization),
+        } => get_boxed(state, receiver, name, authorization),
         Use::Method {
             name,
             is_view: _,
@@ -62,6 +63,19 @@ pub(crate) fn evaluate_use<E: Evaluator>(
     }
 }
 
+/// A field of a receiver is read.
+#[inline(never)]
+fn get_boxed(
+    state: &mut RunState,
+    receiver: &Receiver,
+    name: &Name,
+    authorization: &Authorization,
+) -> Result<Box<Tree>, Stop>
+    ensures { FindsAndCarriesOut tree_in (at_spot (receiver_of receiver.now) (read_field name.now authorization.now)) state.old state.new result }
+{
+    boxed(get(state, receiver, name, authorization))
+}
+
 /// A function of a receiver is called.
 #[inline(never)]
 fn method_use<E: Evaluator>(
@@ -70,9 +84,9 @@ fn method_use<E: Evaluator>(
     evaluator: &E,
     state: &mut RunState,
     receiver: &Receiver,
-) -> Result<Tree, Stop>
+) -> Result<Box<Tree>, Stop>
     requires { E.is_ready evaluator.now }
-    ensures { (view never : Bool) → FindsAndCarriesOut pure_tree (steps.used (E.front evaluator.now) (E.calls evaluator.now) (e.method name.now view never (arguments_of (map argument_of arguments.now))) (receiver_of receiver.now)) state.old state.new result }
+    ensures { (view never : Bool) → FindsAndCarriesOut tree_in (steps.used (E.front evaluator.now) (E.calls evaluator.now) (e.method name.now view never (arguments_of (map argument_of arguments.now))) (receiver_of receiver.now)) state.old state.new result }
 {
     let ready = check_callable(state, receiver, name);
     let row = arguments_behind(arguments, evaluator, state, ready);
@@ -88,9 +102,9 @@ fn builtin_use<E: Evaluator>(
     evaluator: &E,
     state: &mut RunState,
     receiver: &Receiver,
-) -> Result<Tree, Stop>
+) -> Result<Box<Tree>, Stop>
     requires { E.is_ready evaluator.now }
-    ensures { FindsAndCarriesOut pure_tree (steps.used (E.front evaluator.now) (E.calls evaluator.now) (e.builtin_call builtin (map pure_type types.now) (arguments_of (map argument_of arguments.now))) (receiver_of receiver.now)) state.old state.new result }
+    ensures { FindsAndCarriesOut tree_in (steps.used (E.front evaluator.now) (E.calls evaluator.now) (e.builtin_call builtin (map pure_type types.now) (arguments_of (map argument_of arguments.now))) (receiver_of receiver.now)) state.old state.new result }
 {
     let ready = check_use(state, receiver, builtin);
     let row = arguments_behind(arguments, evaluator, state, ready);

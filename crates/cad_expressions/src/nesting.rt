@@ -1,9 +1,10 @@
 // The knot: an expression is evaluated by its form, and the parts of the form by this again.
 ghost use Rattle.cad_declarations.specs.Views.{term_of};
 ghost use Rattle.cad_expressions.specs.Code.Steps as steps;
-ghost use Rattle.cad_rows.specs.Views.{pure_tree};
+ghost use Rattle.cad_expressions.specs.Views.{tree_in};
 ghost use Rattle.cad_state.specs.Views.{FindsAndCarriesOut};
 
+use crate::at_once::{boxed_number, number_at_once};
 use crate::callees::{Callee, Callees};
 use crate::evaluator::Evaluator;
 use crate::terms::evaluate;
@@ -21,7 +22,7 @@ pub(crate) struct Nesting<'c, C, F> {
     pub run: F,
 }
 
-impl<C: Callees, F: Fn(u64, &C, &mut RunState, &Term) -> Result<Tree, Stop>> Evaluator
+impl<C: Callees, F: Fn(u64, &C, &mut RunState, &Term) -> Result<Box<Tree>, Stop>> Evaluator
     for Nesting<'_, C, F> {
     ghost use Rattle.cad_expressions.specs.Nests.{Nests};
 
@@ -31,7 +32,7 @@ impl<C: Callees, F: Fn(u64, &C, &mut RunState, &Term) -> Result<Tree, Stop>> Eva
 
     ghost is_ready = { λ it. Nests C.is_ready C.front C.calls it.callees it.depth (F.pre it.run) (F.post it.run) };
 
-    fn value(&self, state: &mut RunState, term: &Term) -> Result<Tree, Stop> {
+    fn value(&self, state: &mut RunState, term: &Term) -> Result<Box<Tree>, Stop> {
         (self.run)(self.depth, self.callees, state, term)
     }
 
@@ -40,7 +41,7 @@ impl<C: Callees, F: Fn(u64, &C, &mut RunState, &Term) -> Result<Tree, Stop>> Eva
         state: &mut RunState,
         callee: Callee<'_>,
         arguments: Vec<Place>,
-    ) -> Result<Tree, Stop> {
+    ) -> Result<Box<Tree>, Stop> {
         self.callees.call(state, callee, arguments)
     }
 
@@ -49,7 +50,7 @@ impl<C: Callees, F: Fn(u64, &C, &mut RunState, &Term) -> Result<Tree, Stop>> Eva
         state: &mut RunState,
         address: Address,
         arguments: Vec<Place>,
-    ) -> Result<Tree, Stop> {
+    ) -> Result<Box<Tree>, Stop> {
         self.callees.add(state, address, arguments)
     }
 
@@ -58,22 +59,28 @@ impl<C: Callees, F: Fn(u64, &C, &mut RunState, &Term) -> Result<Tree, Stop>> Eva
 
 /// The value of an expression that is nested at most so deep; no memory of any other.
 #[inline(never)]
+#[tactic(auto, using(crate::proofs::Told::told))]
 pub(crate) fn evaluate_to<C: Callees>(
     depth: u64,
     callees: &C,
     state: &mut RunState,
     term: &Term,
-) -> Result<Tree, Stop>
+) -> Result<Box<Tree>, Stop>
     requires { C.is_ready callees.now }
-    ensures { FindsAndCarriesOut pure_tree (steps.evaluated (C.front callees.now) (C.calls callees.now) (term_of term.now)) state.old state.new result }
+    ensures { FindsAndCarriesOut tree_in (steps.evaluated (C.front callees.now) (C.calls callees.now) (term_of term.now)) state.old state.new result }
 {
     if depth == 0 {
         return Err(Stop::Memory);
     }
-    let nesting = Nesting {
-        depth: depth - 1,
-        callees,
-        run: evaluate_to,
-    };
-    evaluate(term, &nesting, state)
+    match number_at_once(term, state) {
+        Some(n) => boxed_number(state, n),
+        None => {
+            let nesting = Nesting {
+                depth: depth - 1,
+                callees,
+                run: evaluate_to,
+            };
+            evaluate(term, &nesting, state)
+        }
+    }
 }

@@ -3,10 +3,10 @@ ghost use Rattle.std.specs.Prelude.{Bool, option_map};
 ghost use Rattle.cad_declarations.specs.Views.{term_of, use_of};
 ghost use Rattle.cad_expressions.specs.Code.Steps as steps;
 ghost use Rattle.cad_expressions.specs.Code.Steps.{GoesOn};
+ghost use Rattle.cad_expressions.specs.Views.{tree_in};
 ghost use Rattle.cad_labels.specs.Laws.{AnyOne, HasNone};
 ghost use Rattle.cad_outcomes.specs.Outcomes.{no_value};
 ghost use Rattle.cad_receivers.specs.Views.{receiver_of};
-ghost use Rattle.cad_rows.specs.Views.{pure_tree};
 ghost use Rattle.cad_state.specs.Views.{FindsAndCarriesOut};
 ghost use Rattle.cad_syntax.specs.Types.{pure_type};
 
@@ -14,11 +14,11 @@ use crate::apart::discard_receiver;
 use crate::evaluator::Evaluator;
 use crate::members::evaluate_use;
 use crate::values::{
-    binary_of, content_or_whole, memory, read_index, round_to, truth_of, truth_only_of, wrap_if,
+    binary_of, boxed_nil, boxed_truth, content_or_whole, read_index, round_to, truth_of,
+    truth_only_of, wrap_if,
 };
 use cad_declarations::{Term, Use};
 use cad_grammar::BinaryOperator;
-use cad_operators::{bool_tree, nil_tree};
 use cad_outcomes::Stop;
 use cad_receivers::Receiver;
 use cad_rows::Tree;
@@ -31,9 +31,9 @@ pub(crate) fn evaluate_behind<E: Evaluator>(
     evaluator: &E,
     state: &mut RunState,
     before: Result<(), Stop>,
-) -> Result<Tree, Stop>
+) -> Result<Box<Tree>, Stop>
     requires { E.is_ready evaluator.now }
-    ensures { GoesOn AnyOne no_value pure_tree (λ _. steps.evaluated (E.front evaluator.now) (E.calls evaluator.now) (term_of term.now)) before state.old state.new result }
+    ensures { GoesOn AnyOne no_value tree_in (λ _. steps.evaluated (E.front evaluator.now) (E.calls evaluator.now) (term_of term.now)) before state.old state.new result }
 {
     match before {
         Ok(()) => evaluator.value(state, term),
@@ -47,9 +47,9 @@ pub(crate) fn use_on<E: Evaluator>(
     evaluator: &E,
     state: &mut RunState,
     receiver: Result<Receiver, Stop>,
-) -> Result<Tree, Stop>
+) -> Result<Box<Tree>, Stop>
     requires { E.is_ready evaluator.now }
-    ensures { GoesOn AnyOne receiver_of pure_tree (steps.used (E.front evaluator.now) (E.calls evaluator.now) (use_of member.now)) receiver state.old state.new result }
+    ensures { GoesOn AnyOne receiver_of tree_in (steps.used (E.front evaluator.now) (E.calls evaluator.now) (use_of member.now)) receiver state.old state.new result }
 {
     match receiver {
         Ok(own) => {
@@ -68,9 +68,9 @@ pub(crate) fn use_in_chain<E: Evaluator>(
     state: &mut RunState,
     wraps: bool,
     receiver: Result<Option<Receiver>, Stop>,
-) -> Result<Tree, Stop>
+) -> Result<Box<Tree>, Stop>
     requires { E.is_ready evaluator.now }
-    ensures { GoesOn AnyOne (option_map receiver_of) pure_tree (steps.chained_use (E.front evaluator.now) (E.calls evaluator.now) (use_of member.now) wraps) receiver state.old state.new result }
+    ensures { GoesOn AnyOne (option_map receiver_of) tree_in (steps.chained_use (E.front evaluator.now) (E.calls evaluator.now) (use_of member.now) wraps) receiver state.old state.new result }
 {
     match receiver {
         Ok(Some(own)) => {
@@ -78,7 +78,7 @@ pub(crate) fn use_in_chain<E: Evaluator>(
             discard_receiver(own);
             wrap_if(wraps, found)
         }
-        Ok(None) => Ok(nil_tree(memory(state))),
+        Ok(None) => boxed_nil(state),
         Err(stop) => Err(stop),
     }
 }
@@ -89,9 +89,9 @@ pub(crate) fn index_on<E: Evaluator>(
     evaluator: &E,
     state: &mut RunState,
     receiver: Result<Receiver, Stop>,
-) -> Result<Tree, Stop>
+) -> Result<Box<Tree>, Stop>
     requires { E.is_ready evaluator.now }
-    ensures { GoesOn AnyOne receiver_of pure_tree (steps.index_read (E.front evaluator.now) (E.calls evaluator.now) (term_of index.now)) receiver state.old state.new result }
+    ensures { GoesOn AnyOne receiver_of tree_in (steps.index_read (E.front evaluator.now) (E.calls evaluator.now) (term_of index.now)) receiver state.old state.new result }
 {
     match receiver {
         Ok(own) => {
@@ -110,10 +110,10 @@ pub(crate) fn combine<E: Evaluator>(
     evaluator: &E,
     state: &mut RunState,
     operator: BinaryOperator,
-    left: Result<Tree, Stop>,
-) -> Result<Tree, Stop>
+    left: Result<Box<Tree>, Stop>,
+) -> Result<Box<Tree>, Stop>
     requires { E.is_ready evaluator.now }
-    ensures { GoesOn HasNone pure_tree pure_tree (steps.combined_with (E.front evaluator.now) (E.calls evaluator.now) operator (term_of right.now)) left state.old state.new result }
+    ensures { GoesOn HasNone tree_in tree_in (steps.combined_with (E.front evaluator.now) (E.calls evaluator.now) operator (term_of right.now)) left state.old state.new result }
 {
     match operator {
         BinaryOperator::And => conjoin_values(right, evaluator, state, left),
@@ -129,10 +129,10 @@ fn apply<E: Evaluator>(
     evaluator: &E,
     state: &mut RunState,
     operator: BinaryOperator,
-    left: Result<Tree, Stop>,
-) -> Result<Tree, Stop>
+    left: Result<Box<Tree>, Stop>,
+) -> Result<Box<Tree>, Stop>
     requires { E.is_ready evaluator.now }
-    ensures { GoesOn HasNone pure_tree pure_tree (steps.applied (E.front evaluator.now) (E.calls evaluator.now) operator (term_of right.now)) left state.old state.new result }
+    ensures { GoesOn HasNone tree_in tree_in (steps.applied (E.front evaluator.now) (E.calls evaluator.now) operator (term_of right.now)) left state.old state.new result }
 {
     match left {
         Ok(x) => {
@@ -149,10 +149,10 @@ fn conjoin_values<E: Evaluator>(
     right: &Term,
     evaluator: &E,
     state: &mut RunState,
-    left: Result<Tree, Stop>,
-) -> Result<Tree, Stop>
+    left: Result<Box<Tree>, Stop>,
+) -> Result<Box<Tree>, Stop>
     requires { E.is_ready evaluator.now }
-    ensures { GoesOn HasNone pure_tree pure_tree (steps.combined_with (E.front evaluator.now) (E.calls evaluator.now) BinaryOperator.And (term_of right.now)) left state.old state.new result }
+    ensures { GoesOn HasNone tree_in tree_in (steps.combined_with (E.front evaluator.now) (E.calls evaluator.now) BinaryOperator.And (term_of right.now)) left state.old state.new result }
 {
     let truth = truth_of(left);
     conjoin(right, evaluator, state, truth)
@@ -164,10 +164,10 @@ fn disjoin_values<E: Evaluator>(
     right: &Term,
     evaluator: &E,
     state: &mut RunState,
-    left: Result<Tree, Stop>,
-) -> Result<Tree, Stop>
+    left: Result<Box<Tree>, Stop>,
+) -> Result<Box<Tree>, Stop>
     requires { E.is_ready evaluator.now }
-    ensures { GoesOn HasNone pure_tree pure_tree (steps.combined_with (E.front evaluator.now) (E.calls evaluator.now) BinaryOperator.Or (term_of right.now)) left state.old state.new result }
+    ensures { GoesOn HasNone tree_in tree_in (steps.combined_with (E.front evaluator.now) (E.calls evaluator.now) BinaryOperator.Or (term_of right.now)) left state.old state.new result }
 {
     let truth = truth_of(left);
     disjoin(right, evaluator, state, truth)
@@ -179,16 +179,16 @@ fn conjoin<E: Evaluator>(
     evaluator: &E,
     state: &mut RunState,
     left: Result<bool, Stop>,
-) -> Result<Tree, Stop>
+) -> Result<Box<Tree>, Stop>
     requires { E.is_ready evaluator.now }
-    ensures { GoesOn AnyOne (λ (b : Bool). b) pure_tree (steps.conjoined (E.front evaluator.now) (E.calls evaluator.now) (term_of right.now)) left state.old state.new result }
+    ensures { GoesOn AnyOne (λ (b : Bool). b) tree_in (steps.conjoined (E.front evaluator.now) (E.calls evaluator.now) (term_of right.now)) left state.old state.new result }
 {
     match left {
         Ok(true) => {
             let y = evaluator.value(state, right);
             truth_only_of(state, y)
         }
-        Ok(false) => Ok(bool_tree(memory(state), false)),
+        Ok(false) => boxed_truth(state, false),
         Err(stop) => Err(stop),
     }
 }
@@ -199,12 +199,12 @@ fn disjoin<E: Evaluator>(
     evaluator: &E,
     state: &mut RunState,
     left: Result<bool, Stop>,
-) -> Result<Tree, Stop>
+) -> Result<Box<Tree>, Stop>
     requires { E.is_ready evaluator.now }
-    ensures { GoesOn AnyOne (λ (b : Bool). b) pure_tree (steps.disjoined (E.front evaluator.now) (E.calls evaluator.now) (term_of right.now)) left state.old state.new result }
+    ensures { GoesOn AnyOne (λ (b : Bool). b) tree_in (steps.disjoined (E.front evaluator.now) (E.calls evaluator.now) (term_of right.now)) left state.old state.new result }
 {
     match left {
-        Ok(true) => Ok(bool_tree(memory(state), true)),
+        Ok(true) => boxed_truth(state, true),
         Ok(false) => {
             let y = evaluator.value(state, right);
             truth_only_of(state, y)
@@ -220,10 +220,10 @@ pub(crate) fn coalesce<E: Evaluator>(
     state: &mut RunState,
     takes_off: bool,
     declared: &CadType,
-    left: Result<Tree, Stop>,
-) -> Result<Tree, Stop>
+    left: Result<Box<Tree>, Stop>,
+) -> Result<Box<Tree>, Stop>
     requires { E.is_ready evaluator.now }
-    ensures { GoesOn HasNone pure_tree pure_tree (steps.coalesced_with (E.front evaluator.now) (E.calls evaluator.now) takes_off (pure_type declared.now) (term_of right.now)) left state.old state.new result }
+    ensures { GoesOn HasNone tree_in tree_in (steps.coalesced_with (E.front evaluator.now) (E.calls evaluator.now) takes_off (pure_type declared.now) (term_of right.now)) left state.old state.new result }
 {
     let found = content_or_whole(takes_off, left);
     fill_nil(right, evaluator, state, declared, found)
@@ -236,10 +236,10 @@ fn fill_nil<E: Evaluator>(
     evaluator: &E,
     state: &mut RunState,
     declared: &CadType,
-    left: Result<Option<Tree>, Stop>,
-) -> Result<Tree, Stop>
+    left: Result<Option<Box<Tree>>, Stop>,
+) -> Result<Box<Tree>, Stop>
     requires { E.is_ready evaluator.now }
-    ensures { GoesOn AnyOne (λ o. option_map (λ t. pure_tree t) o) pure_tree (steps.filled_by (E.front evaluator.now) (E.calls evaluator.now) (pure_type declared.now) (term_of right.now)) left state.old state.new result }
+    ensures { GoesOn AnyOne (λ o. option_map (λ t. tree_in t) o) tree_in (steps.filled_by (E.front evaluator.now) (E.calls evaluator.now) (pure_type declared.now) (term_of right.now)) left state.old state.new result }
 {
     match left {
         Ok(Some(found)) => Ok(found),
@@ -258,9 +258,9 @@ pub(crate) fn choose_branch<E: Evaluator>(
     evaluator: &E,
     state: &mut RunState,
     truth: Result<bool, Stop>,
-) -> Result<Tree, Stop>
+) -> Result<Box<Tree>, Stop>
     requires { E.is_ready evaluator.now }
-    ensures { GoesOn AnyOne (λ (b : Bool). b) pure_tree (steps.chosen (E.front evaluator.now) (E.calls evaluator.now) (term_of yes.now) (term_of no.now)) truth state.old state.new result }
+    ensures { GoesOn AnyOne (λ (b : Bool). b) tree_in (steps.chosen (E.front evaluator.now) (E.calls evaluator.now) (term_of yes.now) (term_of no.now)) truth state.old state.new result }
 {
     match truth {
         Ok(true) => evaluator.value(state, yes),

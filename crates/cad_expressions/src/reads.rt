@@ -5,11 +5,13 @@ ghost use Rattle.cad_evaluation.specs.Access.{has_right as is_enough};
 ghost use Rattle.cad_evaluation.specs.Callees.{Calls, Front};
 ghost use Rattle.cad_expressions.specs.Code.Rights as spec;
 ghost use Rattle.cad_expressions.specs.Code.Steps as steps;
+ghost use Rattle.cad_expressions.specs.Views.{tree_in};
 ghost use Rattle.cad_receivers.specs.Views.{receiver_of, settled_of};
 ghost use Rattle.cad_rows.specs.Views.{pure_shape, pure_tree};
 ghost use Rattle.cad_state.specs.Views.{FindsAndCarriesOut};
 ghost use Rattle.cad_values.specs.Values.{pure_value};
 
+use crate::boxes::boxed;
 use crate::values::memory;
 use cad_access::has_right;
 use cad_builtins::needed;
@@ -26,6 +28,17 @@ use std::alloc::{AllocError, Global};
 /// A built-in member of a receiver is read: IllTyped where the receiver is met without the rights that the member needs.
 #[inline(never)]
 pub(crate) fn read_member(
+    state: &mut RunState,
+    builtin: Builtin,
+    receiver: &Receiver,
+) -> Result<Box<Tree>, Stop>
+    ensures { (front : Front) (calls : Calls) → FindsAndCarriesOut tree_in (steps.member_read front calls builtin (receiver_of receiver.now)) state.old state.new result }
+{
+    boxed(read_with_rights(state, builtin, receiver))
+}
+
+/// A built-in member of a receiver is read, where its rights are enough.
+fn read_with_rights(
     state: &mut RunState,
     builtin: Builtin,
     receiver: &Receiver,

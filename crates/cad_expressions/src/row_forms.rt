@@ -4,7 +4,7 @@ ghost use Rattle.std.specs.Prelude.{Bool, map};
 ghost use Rattle.cad_declarations.specs.Typed as e;
 ghost use Rattle.cad_declarations.specs.Views.{argument_of, pair_of, term_of};
 ghost use Rattle.cad_expressions.specs.Code.Steps as steps;
-ghost use Rattle.cad_rows.specs.Views.{pure_tree};
+ghost use Rattle.cad_expressions.specs.Views.{tree_in};
 ghost use Rattle.cad_state.specs.Views.{FindsAndCarriesOut};
 ghost use Rattle.cad_syntax.specs.Types.{pure_type};
 
@@ -28,9 +28,9 @@ pub(crate) fn array_form<E: Evaluator>(
     items: &[Term],
     evaluator: &E,
     state: &mut RunState,
-) -> Result<Tree, Stop>
+) -> Result<Box<Tree>, Stop>
     requires { E.is_ready evaluator.now }
-    ensures { FindsAndCarriesOut pure_tree (steps.evaluated (E.front evaluator.now) (E.calls evaluator.now) (e.array (pure_type element.now) (e.terms_of (map term_of items.now)))) state.old state.new result }
+    ensures { FindsAndCarriesOut tree_in (steps.evaluated (E.front evaluator.now) (E.calls evaluator.now) (e.array (pure_type element.now) (e.terms_of (map term_of items.now)))) state.old state.new result }
 {
     let row = evaluate_terms(items, evaluator, state, element);
     array_with(element, row)
@@ -44,9 +44,9 @@ pub(crate) fn dictionary_form<E: Evaluator>(
     entries: &[TermEntry],
     evaluator: &E,
     state: &mut RunState,
-) -> Result<Tree, Stop>
+) -> Result<Box<Tree>, Stop>
     requires { E.is_ready evaluator.now }
-    ensures { FindsAndCarriesOut pure_tree (steps.evaluated (E.front evaluator.now) (E.calls evaluator.now) (e.dictionary (pure_type key.now) (pure_type value.now) (e.entries_of (map pair_of entries.now)))) state.old state.new result }
+    ensures { FindsAndCarriesOut tree_in (steps.evaluated (E.front evaluator.now) (E.calls evaluator.now) (e.dictionary (pure_type key.now) (pure_type value.now) (e.entries_of (map pair_of entries.now)))) state.old state.new result }
 {
     let pairs = evaluate_entries(entries, evaluator, state, key, value);
     dictionary_with(state, key, value, pairs)
@@ -59,9 +59,9 @@ pub(crate) fn construct_form<E: Evaluator>(
     arguments: &[Argument],
     evaluator: &E,
     state: &mut RunState,
-) -> Result<Tree, Stop>
+) -> Result<Box<Tree>, Stop>
     requires { E.is_ready evaluator.now }
-    ensures { FindsAndCarriesOut pure_tree (steps.evaluated (E.front evaluator.now) (E.calls evaluator.now) (e.construct id.now (e.arguments_of (map argument_of arguments.now)))) state.old state.new result }
+    ensures { FindsAndCarriesOut tree_in (steps.evaluated (E.front evaluator.now) (E.calls evaluator.now) (e.construct id.now (e.arguments_of (map argument_of arguments.now)))) state.old state.new result }
 {
     let row = evaluate_arguments(arguments, evaluator, state);
     construct_with(evaluator, state, id, row)
@@ -74,9 +74,9 @@ pub(crate) fn create_form<E: Evaluator>(
     arguments: &[Argument],
     evaluator: &E,
     state: &mut RunState,
-) -> Result<Tree, Stop>
+) -> Result<Box<Tree>, Stop>
     requires { E.is_ready evaluator.now }
-    ensures { FindsAndCarriesOut pure_tree (steps.evaluated (E.front evaluator.now) (E.calls evaluator.now) (e.create id.now (e.arguments_of (map argument_of arguments.now)))) state.old state.new result }
+    ensures { FindsAndCarriesOut tree_in (steps.evaluated (E.front evaluator.now) (E.calls evaluator.now) (e.create id.now (e.arguments_of (map argument_of arguments.now)))) state.old state.new result }
 {
     let row = evaluate_arguments(arguments, evaluator, state);
     create_with(evaluator, state, id, row)
@@ -89,9 +89,9 @@ pub(crate) fn call_form<E: Evaluator>(
     arguments: &[Argument],
     evaluator: &E,
     state: &mut RunState,
-) -> Result<Tree, Stop>
+) -> Result<Box<Tree>, Stop>
     requires { E.is_ready evaluator.now }
-    ensures { (view never : Bool) → FindsAndCarriesOut pure_tree (steps.evaluated (E.front evaluator.now) (E.calls evaluator.now) (e.call function.now view never (e.arguments_of (map argument_of arguments.now)))) state.old state.new result }
+    ensures { (view never : Bool) → FindsAndCarriesOut tree_in (steps.evaluated (E.front evaluator.now) (E.calls evaluator.now) (e.call function.now view never (e.arguments_of (map argument_of arguments.now)))) state.old state.new result }
 {
     let row = evaluate_arguments(arguments, evaluator, state);
     call_with(evaluator, state, function, row)
@@ -105,9 +105,9 @@ pub(crate) fn builtin_form<E: Evaluator>(
     arguments: &[Argument],
     evaluator: &E,
     state: &mut RunState,
-) -> Result<Tree, Stop>
+) -> Result<Box<Tree>, Stop>
     requires { E.is_ready evaluator.now }
-    ensures { FindsAndCarriesOut pure_tree (steps.evaluated (E.front evaluator.now) (E.calls evaluator.now) (e.builtin member (map pure_type types.now) (e.arguments_of (map argument_of arguments.now)))) state.old state.new result }
+    ensures { FindsAndCarriesOut tree_in (steps.evaluated (E.front evaluator.now) (E.calls evaluator.now) (e.builtin member (map pure_type types.now) (e.arguments_of (map argument_of arguments.now)))) state.old state.new result }
 {
     let row = evaluate_arguments(arguments, evaluator, state);
     builtin_with(state, member, types, row)

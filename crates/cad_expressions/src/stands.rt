@@ -3,12 +3,13 @@ ghost use Rattle.std.specs.Prelude.{option_map};
 ghost use Rattle.cad_evaluation.specs.Standing as standing;
 ghost use Rattle.cad_expressions.specs.Code.Steps as steps;
 ghost use Rattle.cad_expressions.specs.Code.Steps.{GoesOn};
+ghost use Rattle.cad_expressions.specs.Views.{tree_in};
 ghost use Rattle.cad_labels.specs.Laws.{AnyOne, HasNone};
 ghost use Rattle.cad_receivers.specs.Views.{receiver_of};
-ghost use Rattle.cad_rows.specs.Views.{pure_tree};
 ghost use Rattle.cad_standing.specs.Views.{standing_of};
 ghost use Rattle.cad_state.specs.declared.state.RunState.{RunState};
 
+use crate::boxes::{boxed, unboxed};
 use cad_outcomes::Stop;
 use cad_receivers::Receiver;
 use cad_rows::{Tree, discard_tree};
@@ -21,22 +22,28 @@ use cad_syntax::{Authorization, Name};
 
 /// A copy of what stands in a place.
 #[inline(never)]
-pub(crate) fn copy_at(state: &mut RunState, place: Result<Standing, Stop>) -> Result<Tree, Stop>
-    ensures { GoesOn AnyOne standing_of pure_tree steps.copied_from place state.old state.new result }
+pub(crate) fn copy_at(
+    state: &mut RunState,
+    place: Result<Standing, Stop>,
+) -> Result<Box<Tree>, Stop>
+    ensures { GoesOn AnyOne standing_of tree_in steps.copied_from place state.old state.new result }
 {
     match place {
-        Ok(found) => copy(state, found),
+        Ok(found) => boxed(copy(state, found)),
         Err(stop) => Err(stop),
     }
 }
 
 /// What stands in a place leaves it.
 #[inline(never)]
-pub(crate) fn take_at(state: &mut RunState, place: Result<Standing, Stop>) -> Result<Tree, Stop>
-    ensures { GoesOn AnyOne standing_of pure_tree standing.taken_from place state.old state.new result }
+pub(crate) fn take_at(
+    state: &mut RunState,
+    place: Result<Standing, Stop>,
+) -> Result<Box<Tree>, Stop>
+    ensures { GoesOn AnyOne standing_of tree_in standing.taken_from place state.old state.new result }
 {
     match place {
-        Ok(found) => take(state, found),
+        Ok(found) => boxed(take(state, found)),
         Err(stop) => Err(stop),
     }
 }
@@ -47,11 +54,11 @@ pub(crate) fn nil_at(
     state: &mut RunState,
     is_negated: bool,
     place: Result<Standing, Stop>,
-) -> Result<Tree, Stop>
-    ensures { GoesOn AnyOne standing_of pure_tree (steps.nil_told_of is_negated) place state.old state.new result }
+) -> Result<Box<Tree>, Stop>
+    ensures { GoesOn AnyOne standing_of tree_in (steps.nil_told_of is_negated) place state.old state.new result }
 {
     match place {
-        Ok(found) => is_nil(state, found, is_negated),
+        Ok(found) => boxed(is_nil(state, found, is_negated)),
         Err(stop) => Err(stop),
     }
 }
@@ -64,11 +71,11 @@ pub(crate) fn borrow_at(
     takes_off: bool,
     gives_optional: bool,
     place: Result<Standing, Stop>,
-) -> Result<Tree, Stop>
-    ensures { GoesOn AnyOne standing_of pure_tree (standing.referred_to authorization.now takes_off gives_optional) place state.old state.new result }
+) -> Result<Box<Tree>, Stop>
+    ensures { GoesOn AnyOne standing_of tree_in (standing.referred_to authorization.now takes_off gives_optional) place state.old state.new result }
 {
     match place {
-        Ok(found) => borrow(state, found, authorization, takes_off, gives_optional),
+        Ok(found) => boxed(borrow(state, found, authorization, takes_off, gives_optional)),
         Err(stop) => Err(stop),
     }
 }
@@ -104,11 +111,11 @@ pub(crate) fn chain_at(
 /// The place to which a reference leads.
 #[inline(never)]
 #[tactic(auto, unfolding(crate::specs::Code::Steps::led))]
-pub(crate) fn lead(reference: Result<Tree, Stop>) -> Result<Standing, Stop>
-    ensures { (y : RunState) → GoesOn HasNone pure_tree standing_of steps.led reference y y result }
+pub(crate) fn lead(reference: Result<Box<Tree>, Stop>) -> Result<Standing, Stop>
+    ensures { (y : RunState) → GoesOn HasNone tree_in standing_of steps.led reference y y result }
 {
     match reference {
-        Ok(tree) => Ok(led_by(tree)),
+        Ok(tree) => Ok(led_by(unboxed(tree))),
         Err(stop) => Err(stop),
     }
 }
@@ -150,14 +157,15 @@ pub(crate) fn element_with(
     state: &mut RunState,
     base: &Receiver,
     writes: bool,
-    index: Result<Tree, Stop>,
+    index: Result<Box<Tree>, Stop>,
 ) -> Result<Standing, Stop>
-    ensures { GoesOn HasNone pure_tree standing_of (steps.element_with writes (receiver_of base.now)) index state.old state.new result }
+    ensures { GoesOn HasNone tree_in standing_of (steps.element_with writes (receiver_of base.now)) index state.old state.new result }
 {
     match index {
         Ok(at) => {
-            let found = element_of(state, base, &at, writes);
-            discard_tree(at);
+            let tree = unboxed(at);
+            let found = element_of(state, base, &tree, writes);
+            discard_tree(tree);
             found
         }
         Err(stop) => Err(stop),

@@ -1,7 +1,7 @@
 // The value of an expression: a table of its forms, each of which is a function by itself.
 ghost use Rattle.cad_declarations.specs.Views.{term_of};
 ghost use Rattle.cad_expressions.specs.Code.Steps as steps;
-ghost use Rattle.cad_rows.specs.Views.{pure_tree};
+ghost use Rattle.cad_expressions.specs.Views.{tree_in};
 ghost use Rattle.cad_state.specs.Views.{FindsAndCarriesOut};
 
 use crate::evaluator::Evaluator;
@@ -26,9 +26,9 @@ pub(crate) fn evaluate<E: Evaluator>(
     term: &Term,
     evaluator: &E,
     state: &mut RunState,
-) -> Result<Tree, Stop>
+) -> Result<Box<Tree>, Stop>
     requires { E.is_ready evaluator.now }
-    ensures { FindsAndCarriesOut pure_tree (steps.evaluated (E.front evaluator.now) (E.calls evaluator.now) (term_of term.now)) state.old state.new result }
+    ensures { FindsAndCarriesOut tree_in (steps.evaluated (E.front evaluator.now) (E.calls evaluator.now) (term_of term.now)) state.old state.new result }
 {
     match term {
         Term::Number(_)

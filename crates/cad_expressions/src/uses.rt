@@ -3,10 +3,11 @@ ghost use Rattle.std.specs.Prelude.{map};
 ghost use Rattle.cad_evaluation.specs.Accounts.{account_in_value, on_account};
 ghost use Rattle.cad_evaluation.specs.Adding as adding;
 ghost use Rattle.cad_evaluation.specs.Builtins as members;
+ghost use Rattle.cad_evaluation.specs.Callees.{Calls, Front};
 ghost use Rattle.cad_evaluation.specs.Texts.{in_tree};
 ghost use Rattle.cad_expressions.specs.Code.Steps as steps;
 ghost use Rattle.cad_expressions.specs.Code.Steps.{GoesOn};
-ghost use Rattle.cad_expressions.specs.Views.{items_row};
+ghost use Rattle.cad_expressions.specs.Views.{items_row, tree_in};
 ghost use Rattle.cad_labels.specs.Laws.{HasNoneInRow};
 ghost use Rattle.cad_receivers.specs.Uses.{aimed};
 ghost use Rattle.cad_receivers.specs.Views.{at_spot, receiver_of};
@@ -16,6 +17,7 @@ ghost use Rattle.cad_syntax.specs.Types.{pure_type};
 ghost use Rattle.cad_world.specs.State.{give, with_some};
 
 use crate::apart::discard_row;
+use crate::boxes::boxed;
 use crate::callees::Callee;
 use crate::evaluator::Evaluator;
 use cad_builtins::is_read;
@@ -33,9 +35,9 @@ pub(crate) fn call_with<E: Evaluator>(
     state: &mut RunState,
     name: &Name,
     row: Result<Vec<Place>, Stop>,
-) -> Result<Tree, Stop>
+) -> Result<Box<Tree>, Stop>
     requires { E.is_ready evaluator.now }
-    ensures { GoesOn HasNoneInRow items_row pure_tree (steps.called (E.calls evaluator.now) name.now) row state.old state.new result }
+    ensures { GoesOn HasNoneInRow items_row tree_in (steps.called (E.calls evaluator.now) name.now) row state.old state.new result }
 {
     match row {
         Ok(found) => call_function(evaluator, state, name, found),
@@ -49,9 +51,9 @@ fn call_function<E: Evaluator>(
     state: &mut RunState,
     name: &Name,
     row: Vec<Place>,
-) -> Result<Tree, Stop>
+) -> Result<Box<Tree>, Stop>
     requires { E.is_ready evaluator.now }
-    ensures { FindsAndCarriesOut pure_tree (steps.called (E.calls evaluator.now) name.now (pure_row row.items)) state.old state.new result }
+    ensures { FindsAndCarriesOut tree_in (steps.called (E.calls evaluator.now) name.now (pure_row row.items)) state.old state.new result }
 {
     match state.tick() {
         Ok(()) => evaluator.call(state, Callee::Function(name), row),
@@ -69,11 +71,11 @@ pub(crate) fn builtin_with(
     builtin: Builtin,
     types: &[CadType],
     row: Result<Vec<Place>, Stop>,
-) -> Result<Tree, Stop>
-    ensures { GoesOn HasNoneInRow items_row pure_tree (steps.built_in_called builtin (map pure_type types.now)) row state.old state.new result }
+) -> Result<Box<Tree>, Stop>
+    ensures { GoesOn HasNoneInRow items_row tree_in (steps.built_in_called builtin (map pure_type types.now)) row state.old state.new result }
 {
     match row {
-        Ok(found) => call_builtin(state, builtin, types, found),
+        Ok(found) => boxed(call_builtin(state, builtin, types, found)),
         Err(stop) => Err(stop),
     }
 }
@@ -106,9 +108,9 @@ pub(crate) fn call_method<E: Evaluator>(
     name: &Name,
     receiver: &Receiver,
     row: Result<Vec<Place>, Stop>,
-) -> Result<Tree, Stop>
+) -> Result<Box<Tree>, Stop>
     requires { E.is_ready evaluator.now }
-    ensures { GoesOn HasNoneInRow items_row pure_tree (steps.method_called (E.calls evaluator.now) name.now (receiver_of receiver.now)) row state.old state.new result }
+    ensures { GoesOn HasNoneInRow items_row tree_in (steps.method_called (E.calls evaluator.now) name.now (receiver_of receiver.now)) row state.old state.new result }
 {
     match row {
         Ok(found) => invoke(evaluator, state, name, receiver, found),
@@ -134,9 +136,9 @@ fn invoke<E: Evaluator>(
     name: &Name,
     receiver: &Receiver,
     row: Vec<Place>,
-) -> Result<Tree, Stop>
+) -> Result<Box<Tree>, Stop>
     requires { E.is_ready evaluator.now }
-    ensures { FindsAndCarriesOut pure_tree (steps.method_called (E.calls evaluator.now) name.now (receiver_of receiver.now) (pure_row row.items)) state.old state.new result }
+    ensures { FindsAndCarriesOut tree_in (steps.method_called (E.calls evaluator.now) name.now (receiver_of receiver.now) (pure_row row.items)) state.old state.new result }
 {
     match aim_again(state, receiver) {
         Ok(goal) => evaluator.call(
@@ -163,9 +165,9 @@ pub(crate) fn call_member<E: Evaluator>(
     types: &[CadType],
     receiver: &Receiver,
     row: Result<Vec<Place>, Stop>,
-) -> Result<Tree, Stop>
+) -> Result<Box<Tree>, Stop>
     requires { E.is_ready evaluator.now }
-    ensures { GoesOn HasNoneInRow items_row pure_tree (steps.member_called (E.front evaluator.now) (E.calls evaluator.now) builtin (map pure_type types.now) (receiver_of receiver.now)) row state.old state.new result }
+    ensures { GoesOn HasNoneInRow items_row tree_in (steps.member_called (E.front evaluator.now) (E.calls evaluator.now) builtin (map pure_type types.now) (receiver_of receiver.now)) row state.old state.new result }
 {
     match row {
         Ok(found) => call_member_with(evaluator, state, builtin, types, receiver, found),
@@ -191,9 +193,9 @@ fn add_contract<E: Evaluator>(
     state: &mut RunState,
     receiver: &Receiver,
     row: Vec<Place>,
-) -> Result<Tree, Stop>
+) -> Result<Box<Tree>, Stop>
     requires { E.is_ready evaluator.now }
-    ensures { FindsAndCarriesOut pure_tree (at_spot (receiver_of receiver.now) (λ spot. on_account Basic.AccountContracts spot (adding.add (E.front evaluator.now) (E.calls evaluator.now) (pure_row row.items)))) state.old state.new result }
+    ensures { FindsAndCarriesOut tree_in (at_spot (receiver_of receiver.now) (λ spot. on_account Basic.AccountContracts spot (adding.add (E.front evaluator.now) (E.calls evaluator.now) (pure_row row.items)))) state.old state.new result }
 {
     match contracts_address(state, receiver) {
         Ok(address) => evaluator.add(state, address, row),
@@ -204,6 +206,20 @@ fn add_contract<E: Evaluator>(
     }
 }
 
+/// A built-in member of a receiver is used with these, whatever calls mean.
+#[inline(never)]
+fn member_boxed(
+    state: &mut RunState,
+    builtin: Builtin,
+    types: &[CadType],
+    receiver: &Receiver,
+    row: Vec<Place>,
+) -> Result<Box<Tree>, Stop>
+    ensures { (front : Front) (calls : Calls) → FindsAndCarriesOut tree_in (at_spot (receiver_of receiver.now) (λ spot. members.member front calls builtin (map pure_type types.now) spot (pure_row row.items))) state.old state.new result }
+{
+    boxed(member(state, builtin, types, receiver, row))
+}
+
 /// A built-in member of a receiver is used with these: `contracts.add` by what calls mean, any other whatever they mean.
 fn use_member<E: Evaluator>(
     evaluator: &E,
@@ -212,13 +228,13 @@ fn use_member<E: Evaluator>(
     types: &[CadType],
     receiver: &Receiver,
     row: Vec<Place>,
-) -> Result<Tree, Stop>
+) -> Result<Box<Tree>, Stop>
     requires { E.is_ready evaluator.now }
-    ensures { FindsAndCarriesOut pure_tree (at_spot (receiver_of receiver.now) (λ spot. members.member (E.front evaluator.now) (E.calls evaluator.now) builtin (map pure_type types.now) spot (pure_row row.items))) state.old state.new result }
+    ensures { FindsAndCarriesOut tree_in (at_spot (receiver_of receiver.now) (λ spot. members.member (E.front evaluator.now) (E.calls evaluator.now) builtin (map pure_type types.now) spot (pure_row row.items))) state.old state.new result }
 {
     match builtin {
         Builtin::ContractsAdd => add_contract(evaluator, state, receiver, row),
-        _ => member(state, builtin, types, receiver, row),
+        _ => member_boxed(state, builtin, types, receiver, row),
     }
 }
 
@@ -230,9 +246,9 @@ fn call_member_with<E: Evaluator>(
     types: &[CadType],
     receiver: &Receiver,
     row: Vec<Place>,
-) -> Result<Tree, Stop>
+) -> Result<Box<Tree>, Stop>
     requires { E.is_ready evaluator.now }
-    ensures { FindsAndCarriesOut pure_tree (steps.member_called (E.front evaluator.now) (E.calls evaluator.now) builtin (map pure_type types.now) (receiver_of receiver.now) (pure_row row.items)) state.old state.new result }
+    ensures { FindsAndCarriesOut tree_in (steps.member_called (E.front evaluator.now) (E.calls evaluator.now) builtin (map pure_type types.now) (receiver_of receiver.now) (pure_row row.items)) state.old state.new result }
 {
     match state.tick() {
         Ok(()) => use_member(evaluator, state, builtin, types, receiver, row),

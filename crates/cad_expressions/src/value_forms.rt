@@ -3,10 +3,11 @@
 ghost use Rattle.cad_declarations.specs.Typed as e;
 ghost use Rattle.cad_declarations.specs.Views.{term_of};
 ghost use Rattle.cad_expressions.specs.Code.Steps as steps;
-ghost use Rattle.cad_rows.specs.Views.{pure_tree};
+ghost use Rattle.cad_expressions.specs.Views.{tree_in};
 ghost use Rattle.cad_state.specs.Views.{FindsAndCarriesOut};
 ghost use Rattle.cad_syntax.specs.Types.{PureType, pure_type};
 
+use crate::at_once::binary_at_once;
 use crate::ends::destroy_found;
 use crate::evaluator::Evaluator;
 use crate::operands::{choose_branch, coalesce, combine, evaluate_behind};
@@ -26,9 +27,9 @@ pub(crate) fn hold_form<E: Evaluator>(
     body: &Term,
     evaluator: &E,
     state: &mut RunState,
-) -> Result<Tree, Stop>
+) -> Result<Box<Tree>, Stop>
     requires { E.is_ready evaluator.now }
-    ensures { (type : PureType) → FindsAndCarriesOut pure_tree (steps.evaluated (E.front evaluator.now) (E.calls evaluator.now) (e.hold number type (term_of value.now) (term_of body.now))) state.old state.new result }
+    ensures { (type : PureType) → FindsAndCarriesOut tree_in (steps.evaluated (E.front evaluator.now) (E.calls evaluator.now) (e.hold number type (term_of value.now) (term_of body.now))) state.old state.new result }
 {
     let held = evaluator.value(state, value);
     let aside = put_aside(state, number, held);
@@ -42,9 +43,9 @@ pub(crate) fn destroy_form<E: Evaluator>(
     value: &Term,
     evaluator: &E,
     state: &mut RunState,
-) -> Result<Tree, Stop>
+) -> Result<Box<Tree>, Stop>
     requires { E.is_ready evaluator.now }
-    ensures { FindsAndCarriesOut pure_tree (steps.evaluated (E.front evaluator.now) (E.calls evaluator.now) (e.destroy (term_of value.now))) state.old state.new result }
+    ensures { FindsAndCarriesOut tree_in (steps.evaluated (E.front evaluator.now) (E.calls evaluator.now) (e.destroy (term_of value.now))) state.old state.new result }
 {
     let found = evaluator.value(state, value);
     destroy_found(evaluator, state, found)
@@ -57,9 +58,9 @@ pub(crate) fn unary_form<E: Evaluator>(
     value: &Term,
     evaluator: &E,
     state: &mut RunState,
-) -> Result<Tree, Stop>
+) -> Result<Box<Tree>, Stop>
     requires { E.is_ready evaluator.now }
-    ensures { FindsAndCarriesOut pure_tree (steps.evaluated (E.front evaluator.now) (E.calls evaluator.now) (e.unary operator (term_of value.now))) state.old state.new result }
+    ensures { FindsAndCarriesOut tree_in (steps.evaluated (E.front evaluator.now) (E.calls evaluator.now) (e.unary operator (term_of value.now))) state.old state.new result }
 {
     let found = evaluator.value(state, value);
     unary_of(state, operator, found)
@@ -71,9 +72,9 @@ pub(crate) fn force_form<E: Evaluator>(
     value: &Term,
     evaluator: &E,
     state: &mut RunState,
-) -> Result<Tree, Stop>
+) -> Result<Box<Tree>, Stop>
     requires { E.is_ready evaluator.now }
-    ensures { FindsAndCarriesOut pure_tree (steps.evaluated (E.front evaluator.now) (E.calls evaluator.now) (e.force (term_of value.now))) state.old state.new result }
+    ensures { FindsAndCarriesOut tree_in (steps.evaluated (E.front evaluator.now) (E.calls evaluator.now) (e.force (term_of value.now))) state.old state.new result }
 {
     let found = evaluator.value(state, value);
     force_of(found)
@@ -87,9 +88,9 @@ pub(crate) fn cast_form<E: Evaluator>(
     declared: &CadType,
     evaluator: &E,
     state: &mut RunState,
-) -> Result<Tree, Stop>
+) -> Result<Box<Tree>, Stop>
     requires { E.is_ready evaluator.now }
-    ensures { FindsAndCarriesOut pure_tree (steps.evaluated (E.front evaluator.now) (E.calls evaluator.now) (e.cast kind (term_of value.now) (pure_type declared.now))) state.old state.new result }
+    ensures { FindsAndCarriesOut tree_in (steps.evaluated (E.front evaluator.now) (E.calls evaluator.now) (e.cast kind (term_of value.now) (pure_type declared.now))) state.old state.new result }
 {
     let found = evaluator.value(state, value);
     cast_of(state, kind, declared, found)
@@ -103,12 +104,17 @@ pub(crate) fn binary_form<E: Evaluator>(
     right: &Term,
     evaluator: &E,
     state: &mut RunState,
-) -> Result<Tree, Stop>
+) -> Result<Box<Tree>, Stop>
     requires { E.is_ready evaluator.now }
-    ensures { FindsAndCarriesOut pure_tree (steps.evaluated (E.front evaluator.now) (E.calls evaluator.now) (e.binary operator (term_of left.now) (term_of right.now))) state.old state.new result }
+    ensures { FindsAndCarriesOut tree_in (steps.evaluated (E.front evaluator.now) (E.calls evaluator.now) (e.binary operator (term_of left.now) (term_of right.now))) state.old state.new result }
 {
-    let found = evaluator.value(state, left);
-    combine(right, evaluator, state, operator, found)
+    match binary_at_once(operator, left, right, state) {
+        Some(told) => told,
+        None => {
+            let found = evaluator.value(state, left);
+            combine(right, evaluator, state, operator, found)
+        }
+    }
 }
 
 /// The content of a value, or what comes in place of nil.
@@ -120,9 +126,9 @@ pub(crate) fn coalesce_form<E: Evaluator>(
     declared: &CadType,
     evaluator: &E,
     state: &mut RunState,
-) -> Result<Tree, Stop>
+) -> Result<Box<Tree>, Stop>
     requires { E.is_ready evaluator.now }
-    ensures { FindsAndCarriesOut pure_tree (steps.evaluated (E.front evaluator.now) (E.calls evaluator.now) (e.coalesce (term_of left.now) (term_of right.now) takes_off (pure_type declared.now))) state.old state.new result }
+    ensures { FindsAndCarriesOut tree_in (steps.evaluated (E.front evaluator.now) (E.calls evaluator.now) (e.coalesce (term_of left.now) (term_of right.now) takes_off (pure_type declared.now))) state.old state.new result }
 {
     let found = evaluator.value(state, left);
     coalesce(right, evaluator, state, takes_off, declared, found)
@@ -136,9 +142,9 @@ pub(crate) fn conditional_form<E: Evaluator>(
     no: &Term,
     evaluator: &E,
     state: &mut RunState,
-) -> Result<Tree, Stop>
+) -> Result<Box<Tree>, Stop>
     requires { E.is_ready evaluator.now }
-    ensures { FindsAndCarriesOut pure_tree (steps.evaluated (E.front evaluator.now) (E.calls evaluator.now) (e.conditional (term_of test.now) (term_of yes.now) (term_of no.now))) state.old state.new result }
+    ensures { FindsAndCarriesOut tree_in (steps.evaluated (E.front evaluator.now) (E.calls evaluator.now) (e.conditional (term_of test.now) (term_of yes.now) (term_of no.now))) state.old state.new result }
 {
     let found = evaluator.value(state, test);
     let truth = truth_of(found);

@@ -1,11 +1,12 @@
 // What is done with the value of a part, outside of the recursion.
-ghost use Rattle.std.specs.Prelude.{Bool, option_map};
+ghost use Rattle.std.specs.Prelude.{Bool, Option, option_map};
 ghost use Rattle.cad_evaluation.specs.Casts as casts;
+ghost use Rattle.cad_evaluation.specs.Numbers as numbers;
 ghost use Rattle.cad_evaluation.specs.Operators as operators;
 ghost use Rattle.cad_evaluation.specs.Uses as uses;
 ghost use Rattle.cad_expressions.specs.Code.Steps as steps;
 ghost use Rattle.cad_expressions.specs.Code.Steps.{AreTypes, GoesOn};
-ghost use Rattle.cad_expressions.specs.Views.{items_row, pairs_of};
+ghost use Rattle.cad_expressions.specs.Views.{items_row, pairs_of, tree_in};
 ghost use Rattle.cad_labels.specs.Laws.{HasNone, HasNoneInRow};
 ghost use Rattle.cad_label_runs.proofs.Values.{PairsHaveNone};
 ghost use Rattle.cad_members.specs.Optionals.{left_or_none};
@@ -15,15 +16,19 @@ ghost use Rattle.cad_rows.specs.Views.{pure_tree};
 ghost use Rattle.cad_state.specs.Views.{CarriesOut};
 ghost use Rattle.cad_state.specs.declared.state.RunState.{RunState};
 ghost use Rattle.cad_syntax.specs.Types.{pure_type};
+ghost use Rattle.cad_world.specs.Rows as rows;
+ghost use Rattle.cad_world.specs.State.{Action, give};
 ghost use Rattle.cad_world.specs.Transfers.{transferred};
+ghost use Rattle.cad_world.specs.Trees as trees;
 
+use crate::boxes::{boxed, discard_boxed, unboxed};
 use cad_declarations::discard_type;
 use cad_grammar::{BinaryOperator, CastKind, UnaryOperator};
 use cad_making::end_variables;
 use cad_members::{
     Pair, array, binary, coalesce, dictionary, discard_pairs, force, round, unary, wrap,
 };
-use cad_operators::{truth_in, truth_only};
+use cad_operators::{bool_tree, nil_tree, truth_in, truth_only};
 use cad_outcomes::Stop;
 use cad_receivers::{Receiver, cast, index};
 use cad_rows::{Place, Tree, discard_row, discard_tree};
@@ -36,21 +41,46 @@ pub(crate) fn memory(state: &RunState) -> Global {
     *state.making.allocator()
 }
 
-/// Lets a value go, if one was found.
-pub(crate) fn discard_found(value: Result<Tree, Stop>) {
-    match value {
-        Ok(found) => discard_tree(found),
-        Err(_) => {}
+/// Nil, on the heap.
+#[inline(never)]
+pub(crate) fn boxed_nil(state: &RunState) -> Result<Box<Tree>, Stop>
+    ensures { Gives tree_in (give trees.nil_tree) result }
+{
+    boxed(Ok(nil_tree(memory(state))))
+}
+
+/// A truth as a value, on the heap.
+#[inline(never)]
+pub(crate) fn boxed_truth(state: &RunState, truth: bool) -> Result<Box<Tree>, Stop>
+    ensures { Gives tree_in (give (numbers.bool_tree truth)) result }
+{
+    boxed(Ok(bool_tree(memory(state), truth)))
+}
+
+/// What was found of an optional, on the heap.
+fn boxed_option(found: Result<Option<Tree>, Stop>) -> Result<Option<Box<Tree>>, Stop>
+    ensures { (p : Action (Option rows.Tree)) → Gives (λ o. option_map (λ t. pure_tree t) o) p found → Gives (λ o. option_map (λ t. tree_in t) o) p result }
+{
+    match found {
+        Ok(Some(tree)) => match boxed(Ok(tree)) {
+            Ok(own) => Ok(Some(own)),
+            Err(stop) => Err(stop),
+        },
+        Ok(None) => Ok(None),
+        Err(stop) => Err(stop),
     }
 }
 
 /// An array literal of its elements.
 #[inline(never)]
-pub(crate) fn array_with(element: &CadType, row: Result<Vec<Place>, Stop>) -> Result<Tree, Stop>
-    ensures { (y : RunState) → GoesOn HasNoneInRow items_row pure_tree (uses.array_of (pure_type element.now)) row y y result }
+pub(crate) fn array_with(
+    element: &CadType,
+    row: Result<Vec<Place>, Stop>,
+) -> Result<Box<Tree>, Stop>
+    ensures { (y : RunState) → GoesOn HasNoneInRow items_row tree_in (uses.array_of (pure_type element.now)) row y y result }
 {
     match row {
-        Ok(found) => array_of(element, found),
+        Ok(found) => boxed(array_of(element, found)),
         Err(stop) => Err(stop),
     }
 }
@@ -75,11 +105,11 @@ pub(crate) fn dictionary_with(
     key: &CadType,
     value: &CadType,
     pairs: Result<Vec<Pair>, Stop>,
-) -> Result<Tree, Stop>
-    ensures { GoesOn PairsHaveNone pairs_of pure_tree (uses.dictionary_of (pure_type key.now) (pure_type value.now)) pairs state.old state.new result }
+) -> Result<Box<Tree>, Stop>
+    ensures { GoesOn PairsHaveNone pairs_of tree_in (uses.dictionary_of (pure_type key.now) (pure_type value.now)) pairs state.old state.new result }
 {
     match pairs {
-        Ok(found) => dictionary_of(state, key, value, found),
+        Ok(found) => boxed(dictionary_of(state, key, value, found)),
         Err(stop) => Err(stop),
     }
 }
@@ -123,12 +153,12 @@ fn copy_types(key: &CadType, value: &CadType) -> Result<(CadType, CadType), Stop
 pub(crate) fn put_aside(
     state: &mut RunState,
     number: u32,
-    value: Result<Tree, Stop>,
+    value: Result<Box<Tree>, Stop>,
 ) -> Result<(), Stop>
-    ensures { GoesOn HasNone pure_tree no_value (steps.put_aside number) value state.old state.new result }
+    ensures { GoesOn HasNone tree_in no_value (steps.put_aside number) value state.old state.new result }
 {
     match value {
-        Ok(found) => state.fill_variable(number as usize, found),
+        Ok(found) => state.fill_variable(number as usize, unboxed(found)),
         Err(stop) => Err(stop),
     }
 }
@@ -138,9 +168,9 @@ pub(crate) fn put_aside(
 pub(crate) fn take_down(
     state: &mut RunState,
     number: u32,
-    value: Result<Tree, Stop>,
-) -> Result<Tree, Stop>
-    ensures { GoesOn HasNone pure_tree pure_tree (steps.taken_down number) value state.old state.new result }
+    value: Result<Box<Tree>, Stop>,
+) -> Result<Box<Tree>, Stop>
+    ensures { GoesOn HasNone tree_in tree_in (steps.taken_down number) value state.old state.new result }
 {
     match value {
         Ok(found) => end_behind(state, number, found),
@@ -149,13 +179,13 @@ pub(crate) fn take_down(
 }
 
 /// Variables from a number on end, and the value stays.
-fn end_behind(state: &mut RunState, number: u32, value: Tree) -> Result<Tree, Stop>
-    ensures { CarriesOut pure_tree (steps.taken_down number (pure_tree value)) state.old state.new result }
+fn end_behind(state: &mut RunState, number: u32, value: Box<Tree>) -> Result<Box<Tree>, Stop>
+    ensures { CarriesOut tree_in (steps.taken_down number (tree_in value)) state.old state.new result }
 {
     match end_variables(state, number as usize) {
         Ok(()) => Ok(value),
         Err(stop) => {
-            discard_tree(value);
+            discard_boxed(value);
             Err(stop)
         }
     }
@@ -166,12 +196,12 @@ fn end_behind(state: &mut RunState, number: u32, value: Tree) -> Result<Tree, St
 pub(crate) fn unary_of(
     state: &mut RunState,
     operator: UnaryOperator,
-    value: Result<Tree, Stop>,
-) -> Result<Tree, Stop>
-    ensures { GoesOn HasNone pure_tree pure_tree (operators.unary operator) value state.old state.new result }
+    value: Result<Box<Tree>, Stop>,
+) -> Result<Box<Tree>, Stop>
+    ensures { GoesOn HasNone tree_in tree_in (operators.unary operator) value state.old state.new result }
 {
     match value {
-        Ok(found) => unary(state, operator, found),
+        Ok(found) => boxed(unary(state, operator, unboxed(found))),
         Err(stop) => Err(stop),
     }
 }
@@ -181,15 +211,19 @@ pub(crate) fn unary_of(
 pub(crate) fn binary_of(
     state: &mut RunState,
     operator: BinaryOperator,
-    left: Tree,
-    right: Result<Tree, Stop>,
-) -> Result<Tree, Stop>
-    ensures { GoesOn HasNone pure_tree pure_tree (operators.binary operator (pure_tree left)) right state.old state.new result }
+    left: Box<Tree>,
+    right: Result<Box<Tree>, Stop>,
+) -> Result<Box<Tree>, Stop>
+    ensures { GoesOn HasNone tree_in tree_in (operators.binary operator (tree_in left)) right state.old state.new result }
 {
     match right {
-        Ok(found) => binary(state, operator, left, found),
+        Ok(found) => {
+            let first = unboxed(left);
+            let second = unboxed(found);
+            boxed(binary(state, operator, first, second))
+        }
         Err(stop) => {
-            discard_tree(left);
+            discard_boxed(left);
             Err(stop)
         }
     }
@@ -197,11 +231,11 @@ pub(crate) fn binary_of(
 
 /// The content of an optional that is forced.
 #[inline(never)]
-pub(crate) fn force_of(value: Result<Tree, Stop>) -> Result<Tree, Stop>
-    ensures { (y : RunState) → GoesOn HasNone pure_tree pure_tree uses.forced value y y result }
+pub(crate) fn force_of(value: Result<Box<Tree>, Stop>) -> Result<Box<Tree>, Stop>
+    ensures { (y : RunState) → GoesOn HasNone tree_in tree_in uses.forced value y y result }
 {
     match value {
-        Ok(found) => force(found),
+        Ok(found) => boxed(force(unboxed(found))),
         Err(stop) => Err(stop),
     }
 }
@@ -212,25 +246,26 @@ pub(crate) fn cast_of(
     state: &mut RunState,
     kind: CastKind,
     declared: &CadType,
-    value: Result<Tree, Stop>,
-) -> Result<Tree, Stop>
-    ensures { GoesOn HasNone pure_tree pure_tree (casts.cast kind (pure_type declared.now)) value state.old state.new result }
+    value: Result<Box<Tree>, Stop>,
+) -> Result<Box<Tree>, Stop>
+    ensures { GoesOn HasNone tree_in tree_in (casts.cast kind (pure_type declared.now)) value state.old state.new result }
 {
     match value {
-        Ok(found) => cast(state, kind, declared, found),
+        Ok(found) => boxed(cast(state, kind, declared, unboxed(found))),
         Err(stop) => Err(stop),
     }
 }
 
 /// The truth that a value is.
 #[inline(never)]
-pub(crate) fn truth_of(value: Result<Tree, Stop>) -> Result<bool, Stop>
-    ensures { (y : RunState) → GoesOn HasNone pure_tree (λ (b : Bool). b) steps.truth_told value y y result }
+pub(crate) fn truth_of(value: Result<Box<Tree>, Stop>) -> Result<bool, Stop>
+    ensures { (y : RunState) → GoesOn HasNone tree_in (λ (b : Bool). b) steps.truth_told value y y result }
 {
     match value {
         Ok(found) => {
-            let truth = truth_in(&found);
-            discard_tree(found);
+            let tree = unboxed(found);
+            let truth = truth_in(&tree);
+            discard_tree(tree);
             match truth {
                 Some(is) => Ok(is),
                 None => Err(Stop::IllTyped),
@@ -242,14 +277,18 @@ pub(crate) fn truth_of(value: Result<Tree, Stop>) -> Result<bool, Stop>
 
 /// The truth that a second operand is, as a value.
 #[inline(never)]
-pub(crate) fn truth_only_of(state: &mut RunState, value: Result<Tree, Stop>) -> Result<Tree, Stop>
-    ensures { GoesOn HasNone pure_tree pure_tree uses.truth_only value state.old state.new result }
+pub(crate) fn truth_only_of(
+    state: &mut RunState,
+    value: Result<Box<Tree>, Stop>,
+) -> Result<Box<Tree>, Stop>
+    ensures { GoesOn HasNone tree_in tree_in uses.truth_only value state.old state.new result }
 {
     match value {
         Ok(found) => {
-            let truth = truth_only(memory(state), &found);
-            discard_tree(found);
-            truth
+            let tree = unboxed(found);
+            let truth = truth_only(memory(state), &tree);
+            discard_tree(tree);
+            boxed(truth)
         }
         Err(stop) => Err(stop),
     }
@@ -259,34 +298,43 @@ pub(crate) fn truth_only_of(state: &mut RunState, value: Result<Tree, Stop>) -> 
 #[inline(never)]
 pub(crate) fn content_or_whole(
     takes_off: bool,
-    value: Result<Tree, Stop>,
-) -> Result<Option<Tree>, Stop>
-    ensures { (y : RunState) → GoesOn HasNone pure_tree (λ o. option_map (λ t. pure_tree t) o) (left_or_none takes_off) value y y result }
+    value: Result<Box<Tree>, Stop>,
+) -> Result<Option<Box<Tree>>, Stop>
+    ensures { (y : RunState) → GoesOn HasNone tree_in (λ o. option_map (λ t. tree_in t) o) (left_or_none takes_off) value y y result }
 {
     match value {
-        Ok(found) => coalesce(takes_off, found),
+        Ok(found) => boxed_option(coalesce(takes_off, unboxed(found))),
         Err(stop) => Err(stop),
     }
 }
 
 /// A value in as many optionals as a type asks for.
 #[inline(never)]
-pub(crate) fn round_to(declared: &CadType, value: Result<Tree, Stop>) -> Result<Tree, Stop>
-    ensures { (y : RunState) → GoesOn HasNone pure_tree pure_tree (steps.rounded_to (pure_type declared.now)) value y y result }
+pub(crate) fn round_to(
+    declared: &CadType,
+    value: Result<Box<Tree>, Stop>,
+) -> Result<Box<Tree>, Stop>
+    ensures { (y : RunState) → GoesOn HasNone tree_in tree_in (steps.rounded_to (pure_type declared.now)) value y y result }
 {
     match value {
-        Ok(found) => round(declared, found),
+        Ok(found) => boxed(round(declared, unboxed(found))),
         Err(stop) => Err(stop),
     }
 }
 
 /// A value in one optional more, if it is wrapped.
 #[inline(never)]
-pub(crate) fn wrap_if(wraps: bool, value: Result<Tree, Stop>) -> Result<Tree, Stop>
-    ensures { (y : RunState) → GoesOn HasNone pure_tree pure_tree (steps.wrapped_by wraps) value y y result }
+pub(crate) fn wrap_if(wraps: bool, value: Result<Box<Tree>, Stop>) -> Result<Box<Tree>, Stop>
+    ensures { (y : RunState) → GoesOn HasNone tree_in tree_in (steps.wrapped_by wraps) value y y result }
 {
     match value {
-        Ok(found) => { if wraps { wrap(found) } else { Ok(found) } }
+        Ok(found) => {
+            if wraps {
+                boxed(wrap(unboxed(found)))
+            } else {
+                Ok(found)
+            }
+        }
         Err(stop) => Err(stop),
     }
 }
@@ -296,15 +344,16 @@ pub(crate) fn wrap_if(wraps: bool, value: Result<Tree, Stop>) -> Result<Tree, St
 pub(crate) fn read_index(
     state: &mut RunState,
     base: &Receiver,
-    at: Result<Tree, Stop>,
-) -> Result<Tree, Stop>
-    ensures { GoesOn HasNone pure_tree pure_tree (steps.index_of (receiver_of base.now)) at state.old state.new result }
+    at: Result<Box<Tree>, Stop>,
+) -> Result<Box<Tree>, Stop>
+    ensures { GoesOn HasNone tree_in tree_in (steps.index_of (receiver_of base.now)) at state.old state.new result }
 {
     match at {
         Ok(found) => {
-            let read = index(state, base, &found);
-            discard_tree(found);
-            read
+            let tree = unboxed(found);
+            let read = index(state, base, &tree);
+            discard_tree(tree);
+            boxed(read)
         }
         Err(stop) => Err(stop),
     }
@@ -315,12 +364,12 @@ pub(crate) fn read_index(
 pub(crate) fn hand_over(
     state: &mut RunState,
     declared: &CadType,
-    value: Result<Tree, Stop>,
-) -> Result<Tree, Stop>
-    ensures { GoesOn HasNone pure_tree pure_tree (transferred (pure_type declared.now)) value state.old state.new result }
+    value: Result<Box<Tree>, Stop>,
+) -> Result<Box<Tree>, Stop>
+    ensures { GoesOn HasNone tree_in tree_in (transferred (pure_type declared.now)) value state.old state.new result }
 {
     match value {
-        Ok(found) => state.transfer(found, declared),
+        Ok(found) => boxed(state.transfer(unboxed(found), declared)),
         Err(stop) => Err(stop),
     }
 }

@@ -333,7 +333,7 @@ fn add_there<E: FrontEnd, I: Initializers>(
 /// `contracts.add` at the account of an address, on its arguments: the name, the code, and those of the initializer. 118 where the
 /// name is taken, 119 where the code isn't accepted beside the contracts whose initializer doesn't run, 120 where it isn't one
 /// contract of that name, 125 and 113 of the further arguments, and the errors of the initializer, after which the contract is the
-/// account's. IllTyped where there is no such account, name or code. No memory where the run has no accounts.
+/// account's. IllTyped where there is no such account, name or code.
 pub fn add<E: FrontEnd, I: Initializers>(
     end: &E,
     by: &I,
@@ -344,15 +344,9 @@ pub fn add<E: FrontEnd, I: Initializers>(
     requires { I.is_ready by.now }
     ensures { FindsAndCarriesOut pure_tree (spec.add (E.front end.now) (I.calls by.now) (pure_row arguments.items) address) state.old state.new result }
 {
-    match is_account(state, address) {
-        Ok(true) => add_there(end, by, address, arguments, state),
-        Ok(false) => {
-            discard_row(arguments);
-            Err(Stop::IllTyped)
-        }
-        Err(_) => {
-            discard_row(arguments);
-            Err(Stop::Memory)
-        }
+    if is_account(state, address) {
+        return add_there(end, by, address, arguments, state);
     }
+    discard_row(arguments);
+    Err(Stop::IllTyped)
 }

@@ -6,6 +6,8 @@ mod accounts;
 #[cfg(test)]
 mod capabilities;
 #[cfg(test)]
+mod parts;
+#[cfg(test)]
 mod rows;
 #[cfg(test)]
 mod running;

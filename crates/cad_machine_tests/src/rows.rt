@@ -1,5 +1,5 @@
 // Rows of tests over accounts: transactions beside a contract, and what they come to.
-use crate::session::{asked, transacted};
+use crate::session::{End, asked, asked_known, transacted, transacted_known};
 use cad_outcomes::{RunError, Stop};
 use cad_syntax::{Kind, Num};
 use std::alloc::Global;
@@ -118,21 +118,101 @@ pub(crate) fn follow(rt: &impl Abort, alloc: Global, rows: &[(&str, &str, Wanted
     }
 }
 
+/// A script whose `main` has these statements.
+fn script(rt: &impl Abort, alloc: Global, statements: &str) -> String {
+    let text = format!(in alloc;
+        "import C from 0x1\naccess(all) fun main(): Int {{ {statements} }}"
+    );
+    text.expect(rt, "memory")
+}
+
 /// Asserts the number that a script with these statements gives behind a transaction.
 pub(crate) fn reads(rt: &impl Abort, alloc: Global, rows: &[(&str, &str, u64)]) {
     for (first, statements, wanted) in rows {
         let before = code(rt, alloc, first);
-        let script = format!(in alloc;
-            "import C from 0x1\naccess(all) fun main(): Int {{ {statements} }}"
-        ).expect(rt, "memory");
-        let given = asked(
+        let text = script(rt, alloc, statements);
+        let codes = [before.as_str()];
+        let end = asked(rt, alloc, CONTRACT, &codes, text.as_str(), UNITS);
+        assert_end(rt, &end, Expected::Tells(&[*wanted]), statements);
+    }
+}
+
+// ---- where some accounts are known
+
+/// What a command over accounts of which some are known is to come to: its numbers, its error, or the index of the account that it
+/// lacks, the first 0, for want of which memory fails.
+#[derive(Clone, Copy)]
+pub(crate) enum Expected<'a> {
+    Tells(&'a [u64]),
+    Fails(RunError),
+    Lacks(u64),
+}
+
+/// A command that has a transaction over all accounts before it: the statements of that one, the indices of the accounts that are
+/// known, the last first, its own statements, and what it is to come to.
+pub(crate) type Part<'a> = (&'a str, &'a [u64], &'a str, Expected<'a>);
+
+/// The numbers that a command is to tell.
+fn numbers_of<'a>(expected: Expected<'a>) -> &'a [u64] {
+    match expected {
+        Expected::Tells(numbers) => numbers,
+        _ => &[],
+    }
+}
+
+/// Why it is to stop.
+fn stop_of(expected: Expected<'_>) -> Option<Stop> {
+    match expected {
+        Expected::Tells(_) => None,
+        Expected::Fails(error) => Some(Stop::Failed(error)),
+        Expected::Lacks(_) => Some(Stop::Memory),
+    }
+}
+
+/// The account that it is to lack.
+fn lack_of(expected: Expected<'_>) -> Option<u64> {
+    match expected {
+        Expected::Lacks(index) => Some(index),
+        _ => None,
+    }
+}
+
+/// Asserts what a command came to.
+fn assert_end(rt: &impl Abort, end: &End, expected: Expected<'_>, statements: &str) {
+    assert_eq!(rt; end.stopped, stop_of(expected), "{statements}");
+    assert_eq!(rt; end.wanted, lack_of(expected), "{statements}");
+    let numbers = numbers_of(expected);
+    assert_eq!(rt; end.told.len(), numbers.len(), "{statements}");
+    for (number, one) in end.told.as_slice().iter().zip(numbers) {
+        assert_eq!(rt; *number, Some(int(rt, *one)), "{statements}");
+    }
+}
+
+/// Asserts what each row's transaction comes to.
+pub(crate) fn end_known(rt: &impl Abort, alloc: Global, rows: &[Part<'_>]) {
+    for (first, known, statements, expected) in rows {
+        let before = code(rt, alloc, first);
+        let text = code(rt, alloc, statements);
+        let end = transacted_known(
             rt,
             alloc,
             CONTRACT,
-            &[before.as_str()],
-            script.as_str(),
+            before.as_str(),
+            known,
+            text.as_str(),
             UNITS,
         );
-        assert_eq!(rt; given, Ok(Some(int(rt, *wanted))), "{statements}");
+        assert_end(rt, &end, *expected, statements);
+    }
+}
+
+/// Asserts what each row's script comes to, which tells the number that it gives.
+pub(crate) fn read_known(rt: &impl Abort, alloc: Global, rows: &[Part<'_>]) {
+    for (first, known, statements, expected) in rows {
+        let before = code(rt, alloc, first);
+        let text = script(rt, alloc, statements);
+        let codes = [before.as_str()];
+        let end = asked_known(rt, alloc, CONTRACT, &codes, known, text.as_str(), UNITS);
+        assert_end(rt, &end, *expected, statements);
     }
 }

@@ -5,7 +5,7 @@ use cad_discards::{discard_checked, discard_deployed, discard_installed, hold};
 use cad_outcomes::Stop;
 use cad_rows::{Place, Shape, Tree, add_last};
 use cad_scripts::{FrontEnd, begin, run_script};
-use cad_state::{Contract, RunState, discard_contract, discard_state};
+use cad_state::{Accounts, Contract, RunState, discard_contract, discard_state};
 use cad_syntax::{Address, Bytes, Name, Names, Num, Numbers, Text, TypeId};
 use cad_tables::{no_contracts, with_contract};
 use cad_values::Value;
@@ -201,7 +201,14 @@ pub(crate) fn ran(
     discard_deployed(none);
     let program = checked(rt, alloc, script, None, &beside);
     discard_deployed(beside);
-    let mut state = begin(alloc, program, None, contracts, 1, units);
+    let mut state = begin(
+        alloc,
+        program,
+        Accounts::All(Vec::new(alloc)),
+        contracts,
+        1,
+        units,
+    );
     let fuel = units.saturating_mul(2).saturating_add(2);
     let given = run_script(fuel, &Closed, Vec::new(alloc), &mut state);
     told(rt, alloc, given, state)

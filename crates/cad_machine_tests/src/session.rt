@@ -4,7 +4,10 @@ use cad_declarations::Deployed;
 use cad_discards::discard_deployed;
 use cad_outcomes::Stop;
 use cad_scripts::{begin, run_script};
-use cad_state::{Account, Contract, RunState, discard_shared, discard_state, discard_values};
+use cad_state::{
+    Account, Accounts, Contract, Known, RunState, discard_account, discard_accounts,
+    discard_run_accounts, discard_shared, discard_state, discard_values,
+};
 use cad_syntax::{Address, Num};
 use cad_tables::no_contracts;
 use cad_transaction_runs::{Left, left_accounts, run_transaction};
@@ -16,7 +19,7 @@ const SIGNERS: [Address; 2] = [Address(1), Address(2)];
 
 /// What stands between commands: the accounts 1 and 2, and a contract `C` of account 1.
 struct Session {
-    accounts: Vec<Account>,
+    accounts: Accounts,
     contracts: Vec<Contract>,
     next_identity: u64,
 }
@@ -38,11 +41,79 @@ fn two_accounts(rt: &impl Abort, alloc: Global) -> Vec<Account> {
     for _ in 0..2u64 {
         match accounts.push(empty_account(alloc)) {
             Ok(()) => {}
-            Err(refused) => cad_state::discard_account(refused.value),
+            Err(refused) => discard_account(refused.value),
         }
     }
     assert_eq!(rt; accounts.len(), 2usize);
     accounts
+}
+
+/// Lets an account that is known go.
+fn discard_one(one: Known) {
+    let Known { index: _, account } = one;
+    discard_account(account)
+}
+
+/// An account comes to those that are known, if its index is one of these; else it is let go.
+fn keep_known(known: &mut Vec<Known>, indices: &[u64], one: Known) {
+    if !indices.contains(&one.index) {
+        discard_one(one);
+        return;
+    }
+    match known.push(one) {
+        Ok(()) => {}
+        Err(refused) => discard_one(refused.value),
+    }
+}
+
+/// As many accounts, of which those with these indices are known, the last first; the others are let go.
+fn part_of(alloc: Global, all: Vec<Account>, indices: &[u64]) -> Accounts {
+    let count = all.len();
+    let mut left = all;
+    let mut known = Vec::new(alloc);
+    for _ in 0..count {
+        if let Some(account) = left.pop() {
+            let index = left.len() as u64;
+            keep_known(&mut known, indices, Known { index, account });
+        }
+    }
+    discard_accounts(left);
+    Accounts::Part {
+        count: count as u64,
+        known,
+    }
+}
+
+/// What stands between commands, where those accounts are known that have these indices.
+fn cut(alloc: Global, session: Session, indices: &[u64]) -> Session {
+    let Session {
+        accounts,
+        contracts,
+        next_identity,
+    } = session;
+    let known = match accounts {
+        Accounts::All(all) => part_of(alloc, all, indices),
+        Accounts::Part { count, known } => Accounts::Part { count, known },
+    };
+    Session {
+        accounts: known,
+        contracts,
+        next_identity,
+    }
+}
+
+/// Asserts that of two accounts those are known that have these indices, in their order.
+fn assert_known(rt: &impl Abort, accounts: &Accounts, indices: &[u64]) {
+    match accounts {
+        Accounts::All(all) => assert_eq!(rt; all.len(), 0usize, "all are known"),
+        Accounts::Part { count, known } => {
+            assert_eq!(rt; *count, 2u64);
+            assert_eq!(rt; known.len(), indices.len());
+            for (one, index) in known.as_slice().iter().zip(indices) {
+                assert_eq!(rt; one.index, *index);
+            }
+        }
+    }
 }
 
 /// More fuel than a run can use.
@@ -50,15 +121,15 @@ fn fuel(units: u64) -> u64 {
     units.saturating_mul(2).saturating_add(2)
 }
 
-/// What a transaction leaves.
-fn transact(
+/// The state behind a transaction, and how it ended.
+fn run_over(
     rt: &impl Abort,
     alloc: Global,
     session: Session,
     beside: &Deployed,
     code: &str,
     units: u64,
-) -> Result<Left, Stop> {
+) -> (RunState, Result<(), Stop>) {
     let Session {
         accounts,
         contracts,
@@ -66,14 +137,7 @@ fn transact(
     } = session;
     let program = checked(rt, alloc, code, None, beside);
     let held = program.clone().expect(rt, "memory");
-    let mut state = begin(
-        alloc,
-        program,
-        Some(accounts),
-        contracts,
-        next_identity,
-        units,
-    );
+    let mut state = begin(alloc, program, accounts, contracts, next_identity, units);
     let ended = match &held.bodies.transaction {
         Some(transaction) => run_transaction(
             fuel(units),
@@ -86,6 +150,19 @@ fn transact(
         None => Err(Stop::IllTyped),
     };
     discard_shared(held);
+    (state, ended)
+}
+
+/// What a transaction leaves.
+fn transact(
+    rt: &impl Abort,
+    alloc: Global,
+    session: Session,
+    beside: &Deployed,
+    code: &str,
+    units: u64,
+) -> Result<Left, Stop> {
+    let (state, ended) = run_over(rt, alloc, session, beside, code, units);
     match ended {
         Ok(()) => Ok(left_accounts(state).expect(rt, "memory")),
         Err(stop) => {
@@ -150,7 +227,7 @@ fn discard_session(session: Session) {
         contracts,
         next_identity: _,
     } = session;
-    cad_state::discard_accounts(accounts);
+    discard_run_accounts(accounts);
     cad_state::discard_contracts(contracts);
 }
 
@@ -162,7 +239,7 @@ fn opened(rt: &impl Abort, alloc: Global, contract: &str) -> (Session, Deployed)
     let beside = deployed(rt, alloc, &none, own);
     discard_deployed(none);
     let session = Session {
-        accounts: two_accounts(rt, alloc),
+        accounts: Accounts::All(two_accounts(rt, alloc)),
         contracts,
         next_identity: 1,
     };
@@ -190,7 +267,81 @@ pub(crate) fn transacted(
     }
 }
 
-/// What a script gives in a state over these accounts.
+/// What a command comes to over accounts of which some are known.
+#[derive(Drop)]
+pub(crate) struct End {
+    /// The numbers that it tells; none where it stopped.
+    pub told: Vec<Option<Num>>,
+    pub stopped: Option<Stop>,
+    /// The index of the account that it lacks, the first 0.
+    pub wanted: Option<u64>,
+}
+
+/// A command that stopped.
+fn end_by(alloc: Global, stop: Stop, wanted: Option<u64>) -> End {
+    End {
+        told: Vec::new(alloc),
+        stopped: Some(stop),
+        wanted,
+    }
+}
+
+/// What a transaction comes to over accounts of which those with these indices are known; behind it the same are known.
+fn transact_known(
+    rt: &impl Abort,
+    alloc: Global,
+    session: Session,
+    beside: &Deployed,
+    indices: &[u64],
+    code: &str,
+    units: u64,
+) -> End {
+    let (state, ended) = run_over(rt, alloc, session, beside, code, units);
+    let wanted = state.wanted;
+    match ended {
+        Ok(()) => {
+            let left = left_accounts(state).expect(rt, "memory");
+            let (last, told) = session_of(rt, alloc, left);
+            assert_known(rt, &last.accounts, indices);
+            discard_session(last);
+            End {
+                told,
+                stopped: None,
+                wanted,
+            }
+        }
+        Err(stop) => {
+            discard_state(state);
+            end_by(alloc, stop, wanted)
+        }
+    }
+}
+
+/// What the second of two transactions comes to where those accounts are known that have these indices, the last first; the first has
+/// all of them.
+pub(crate) fn transacted_known(
+    rt: &impl Abort,
+    alloc: Global,
+    contract: &str,
+    first: &str,
+    indices: &[u64],
+    code: &str,
+    units: u64,
+) -> End {
+    let (session, beside) = opened(rt, alloc, contract);
+    let end = match after(rt, alloc, session, &beside, &[first], units) {
+        Ok((now, _told)) => {
+            let part = cut(alloc, now, indices);
+            assert_known(rt, &part.accounts, indices);
+            transact_known(rt, alloc, part, &beside, indices, code, units)
+        }
+        Err(stop) => end_by(alloc, stop, None),
+    };
+    discard_deployed(beside);
+    end
+}
+
+/// What a script comes to over these accounts: it tells the number that it gives.
 fn scripted(
     rt: &impl Abort,
     alloc: Global,
@@ -198,30 +349,32 @@ fn scripted(
     beside: &Deployed,
     script: &str,
     units: u64,
-) -> Result<Option<Num>, Stop> {
+) -> End {
     let Session {
         accounts,
         contracts,
         next_identity,
     } = session;
     let program = checked(rt, alloc, script, None, beside);
-    let mut state: RunState = begin(
-        alloc,
-        program,
-        Some(accounts),
-        contracts,
-        next_identity,
-        units,
-    );
+    let mut state: RunState = begin(alloc, program, accounts, contracts, next_identity, units);
     let given = run_script(fuel(units), &Closed, Vec::new(alloc), &mut state);
+    let wanted = state.wanted;
     discard_state(state);
     match given {
-        Ok(value) => Ok(number_of(&value)),
-        Err(stop) => Err(stop),
+        Ok(value) => {
+            let mut told = Vec::new(alloc);
+            told.push(number_of(&value)).expect(rt, "memory");
+            End {
+                told,
+                stopped: None,
+                wanted,
+            }
+        }
+        Err(stop) => end_by(alloc, stop, wanted),
     }
 }
 
-/// The number that a script gives behind these transactions; or why one of all failed.
+/// What a script comes to behind these transactions, or the one of them that stopped.
 pub(crate) fn asked(
     rt: &impl Abort,
     alloc: Global,
@@ -229,12 +382,35 @@ pub(crate) fn asked(
     codes: &[&str],
     script: &str,
     units: u64,
-) -> Result<Option<Num>, Stop> {
+) -> End {
     let (session, beside) = opened(rt, alloc, contract);
-    let given = match after(rt, alloc, session, &beside, codes, units) {
+    let end = match after(rt, alloc, session, &beside, codes, units) {
         Ok((last, _told)) => scripted(rt, alloc, last, &beside, script, units),
-        Err(stop) => Err(stop),
+        Err(stop) => end_by(alloc, stop, None),
     };
     discard_deployed(beside);
-    given
+    end
+}
+
+/// The same where the script knows those accounts that have these indices, the last first.
+pub(crate) fn asked_known(
+    rt: &impl Abort,
+    alloc: Global,
+    contract: &str,
+    codes: &[&str],
+    indices: &[u64],
+    script: &str,
+    units: u64,
+) -> End {
+    let (session, beside) = opened(rt, alloc, contract);
+    let end = match after(rt, alloc, session, &beside, codes, units) {
+        Ok((last, _told)) => {
+            let part = cut(alloc, last, indices);
+            assert_known(rt, &part.accounts, indices);
+            scripted(rt, alloc, part, &beside, script, units)
+        }
+        Err(stop) => end_by(alloc, stop, None),
+    };
+    discard_deployed(beside);
+    end
 }

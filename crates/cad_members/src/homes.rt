@@ -8,7 +8,7 @@ ghost use Rattle.cad_members.specs.Code.Members as code;
 ghost use Rattle.cad_outcomes.specs.Outcomes.{Gives};
 ghost use Rattle.cad_receivers.specs.Views.{at_spot, settled_of, spot_of};
 ghost use Rattle.cad_rows.specs.Views.{pure_tree};
-ghost use Rattle.cad_state.specs.Views.{CarriesOut, FindsAndCarriesOut};
+ghost use Rattle.cad_state.specs.Views.{FindsAndCarriesOut};
 ghost use Rattle.cad_syntax.specs.Types.{pure_type};
 ghost use Rattle.cad_values.specs.Values as values;
 ghost use Rattle.cad_values.specs.Values.{pure_value};
@@ -69,7 +69,7 @@ fn optional_account(alloc: Global, address: Option<Address>) -> Tree
 
 /// The account in which the node with a label stands, or nil.
 fn owner_of(state: &RunState, label: u64) -> Result<Tree, Stop>
-    ensures { CarriesOut pure_tree (code.owner_of label) state.now state.now result }
+    ensures { FindsAndCarriesOut pure_tree (code.owner_of label) state.now state.now result }
 {
     match home(state, label) {
         Ok(address) => Ok(optional_account(*state.making.allocator(), address)),
@@ -79,7 +79,7 @@ fn owner_of(state: &RunState, label: u64) -> Result<Tree, Stop>
 
 /// The account in which a spot stands. IllTyped of what has no label.
 fn owner_of_spot(state: &RunState, spot: Spot<'_>) -> Result<Tree, Stop>
-    ensures { CarriesOut pure_tree (spec.read_owner (spot_of spot.entry)) state.now state.now result }
+    ensures { FindsAndCarriesOut pure_tree (spec.read_owner (spot_of spot.entry)) state.now state.now result }
 {
     match spot.label {
         Some(label) => owner_of(state, label),

@@ -1,12 +1,10 @@
 -- Two exchanges at one way are one; so the node at a way is changed, and the node with a label.
-use Rattle.std.proofs.Common.{◌≡◌, ℕ, zero, suc, List, [], ◌∷◌, map, reverse, Option, Some, None, Bool, true, false, if◌then◌else◌, refl, sym, ap, ◌∙◌, true≢false, option_map, length, arith, subst}
+use Rattle.std.proofs.Common.{◌≡◌, ℕ, zero, suc, List, [], ◌∷◌, map, reverse, Option, Some, None, Bool, true, false, if◌then◌else◌, refl, sym, ap, ◌∙◌, true≢false, option_map, subst}
 use Rattle.std.specs.Prelude.{slice_get, Result, Ok, Err, IfOk, OnOk, IsTrue}
 use Rattle.std.specs.declared.alloc.AllocError.{AllocError}
-use Rattle.std.specs.declared.alloc.Global.{Global}
-use Rattle.std.specs.declared.vec.Vec.{Vec}
 use Rattle.std.proofs.lemmas.List.{reverse-reverse}
 use Rattle.cad_nodes.specs.Edits.{edited_shape, edited_parts, left_by, changing}
-use Rattle.cad_nodes.specs.Exchanges.{IsExchanged, ChangesAt}
+use Rattle.cad_nodes.specs.Exchanges.{is_held, IsExchanged, ChangesAt}
 use Rattle.cad_nodes.specs.declared.edit.Edit.{Edit}
 use Rattle.cad_nodes.specs.declared.edit.OpenNode.{OpenNode}
 use Rattle.cad_rows.specs.Exchanges.{reshaped, within, exchanged, shape_of, parts_of}
@@ -15,8 +13,8 @@ use Rattle.cad_rows.specs.Views.{pure_row, pure_shape, pure_tree}
 use Rattle.cad_rows.specs.declared.tree.Tree as trees
 use Rattle.cad_state.proofs.Changes.{variables_changed, before_changed, result_changed, making_changed, stored_changed, value_changed}
 use Rattle.cad_state.proofs.Standing.{reached_in_state}
-use Rattle.cad_state.specs.Views.{state_over, accounts_with, account_of, held, frame_of, IsReady}
-use Rattle.cad_state.specs.Ways.{is_there, row_at, reached, if_labelled, at_index, in_variables, in_before, in_result, in_stored, in_value, with_row}
+use Rattle.cad_state.specs.Views.{state_over, frame_of, IsReady}
+use Rattle.cad_state.specs.Ways.{is_there, account_in, row_at, reached, if_labelled, at_index, if_held, in_variables, in_before, in_result, in_stored, in_value, with_row}
 use Rattle.cad_state.specs.declared.hints.Root.{Root}
 use Rattle.cad_state.specs.declared.hints.Root.TheVariants as root
 use Rattle.cad_state.specs.declared.state.Account.{Account as AccountCode}
@@ -53,7 +51,7 @@ exchanged_twice (i ∷ j ∷ ds) s k s' k' r =
 
 -- ---- in a state
 
--- whether the run has accounts is told by the flag
+-- whether the run has the account is told by the flag
 abbrev in_row : Root → Bool → (Row → Row) → State → State
 in_row (root.Variables i) b g s = record s { frames = reverse (at_index i (in_variables g) (reverse s.frames)) }
 in_row (root.Before i) b g s = record s { frames = reverse (at_index i (in_before g) (reverse s.frames)) }
@@ -62,18 +60,16 @@ in_row root.Making b g s = record s { making = g s.making }
 in_row (root.Stored i) b g s = record s { accounts = if b then at_index i (in_stored g) s.accounts else s.accounts }
 in_row (root.Contract i) b g s = record s { contracts = at_index i (in_value g) s.contracts }
 
-held_in : (f : List Account → List Account) (w : List Account) (o : Option (Vec AccountCode Global))
-    → accounts_with f w o ≡ (if is_there o then f (accounts_with (λ all. all) w o) else accounts_with (λ all. all) w o)
-unfolding accounts_with
-held_in f w None = refl
-held_in f w (Some all) = refl
+held_in : (f : List Account → List Account) (all : List Account) (o : Option AccountCode) → if_held o f all ≡ (if is_there o then f all else all)
+held_in f all None = refl
+held_in f all (Some c) = refl
 
-row_in : (at_root : Root) (g : Row → Row) (w : List Account) (x : RunState) → with_row at_root g w x ≡ in_row at_root (is_there x.accounts) g (state_over w x)
+row_in : (at_root : Root) (g : Row → Row) (w : List Account) (x : RunState) → with_row at_root g w x ≡ in_row at_root (is_held at_root x.accounts) g (state_over w x)
 row_in (root.Variables i) g w x = ap (λ fs. record (state_over w x) { frames = reverse (at_index i (in_variables g) fs) }) (sym (reverse-reverse (map frame_of x.calls.items)))
 row_in (root.Before i) g w x = ap (λ fs. record (state_over w x) { frames = reverse (at_index i (in_before g) fs) }) (sym (reverse-reverse (map frame_of x.calls.items)))
 row_in (root.Result i) g w x = ap (λ fs. record (state_over w x) { frames = reverse (at_index i (in_result g) fs) }) (sym (reverse-reverse (map frame_of x.calls.items)))
 row_in root.Making g w x = refl
-row_in (root.Stored i) g w x = ap (λ all. record (state_over w x) { accounts = all }) (held_in (at_index i (in_stored g)) w x.accounts)
+row_in (root.Stored i) g w x = ap (λ all. record (state_over w x) { accounts = all }) (held_in (at_index i (in_stored g)) (state_over w x).accounts (account_in x.accounts i))
 row_in (root.Contract i) g w x = refl
 
 index_twice : {A : Type 0} (i : ℕ) (g h : A → A) (xs : List A) → at_index i g (at_index i h xs) ≡ at_index i (λ x. g (h x)) xs
@@ -93,37 +89,16 @@ row_twice (root.Stored i) true g h s = ap (λ all. record s { accounts = all }) 
 row_twice (root.Stored i) false g h s = refl
 row_twice (root.Contract i) b g h s = ap (λ all. record s { contracts = all }) (index_twice i (in_value g) (in_value h) s.contracts)
 
-abbrev no_account : Account
-no_account = record { identifiers = []; stored = stop; published = []; controllers = []; next_controller = 0 }
-
--- no list of accounts is every one
-not_each : (all : List Account) → ((v : List Account) → all ≡ v) → ⊥
-not_each all e = absurd (omega (arith, ap length (sym (e []) ∙ e (no_account ∷ []))))
-
--- what changes accounts that the run has doesn't take them away, nor bring any
-held_alike : (f : List Account → List Account) (o q : Option (Vec AccountCode Global)) → ((v : List Account) → accounts_with (λ all. all) v q ≡ accounts_with f v o) → is_there q ≡ is_there o
-unfolding accounts_with
-held_alike f None None e = refl
-held_alike f None (Some all) e = absurd (not_each (map account_of all.items) e)
-held_alike f (Some all) None e = absurd (not_each (f (map account_of all.items)) (λ v. sym (e v)))
-held_alike f (Some all) (Some new) e = refl
-
-alike : (at_root : Root) (g : Row → Row) (x y : RunState) → ((v : List Account) → state_over v y ≡ with_row at_root g v x) → is_there y.accounts ≡ is_there x.accounts
-alike (root.Variables i) g x y e = held_alike (λ all. all) x.accounts y.accounts (λ v. ap (λ (s : State). s.accounts) (e v))
-alike (root.Before i) g x y e = held_alike (λ all. all) x.accounts y.accounts (λ v. ap (λ (s : State). s.accounts) (e v))
-alike (root.Result i) g x y e = held_alike (λ all. all) x.accounts y.accounts (λ v. ap (λ (s : State). s.accounts) (e v))
-alike root.Making g x y e = held_alike (λ all. all) x.accounts y.accounts (λ v. ap (λ (s : State). s.accounts) (e v))
-alike (root.Stored i) g x y e = held_alike (at_index i (in_stored g)) x.accounts y.accounts (λ v. ap (λ (s : State). s.accounts) (e v))
-alike (root.Contract i) g x y e = held_alike (λ all. all) x.accounts y.accounts (λ v. ap (λ (s : State). s.accounts) (e v))
-
 once : (at_root : Root) (ds : List ℕ) (x y : RunState) (s : NodeShape) (k : Row) (s' : NodeShape) (k' : Row)
-    → ((v : List Account) → state_over v y ≡ with_row at_root (exchanged ds s' k') v x) → (w : List Account) → with_row at_root (exchanged ds s k) w y ≡ with_row at_root (exchanged ds s k) w x
-once at_root ds x y s k s' k' e w =
+    → is_held at_root y.accounts ≡ is_held at_root x.accounts → ((v : List Account) → state_over v y ≡ with_row at_root (exchanged ds s' k') v x) → (w : List Account)
+    → with_row at_root (exchanged ds s k) w y ≡ with_row at_root (exchanged ds s k) w x
+once at_root ds x y s k s' k' held e w =
+    let b = is_held at_root x.accounts in
     row_in at_root (exchanged ds s k) w y
-    ∙ ap (λ b. in_row at_root b (exchanged ds s k) (state_over w y)) (alike at_root (exchanged ds s' k') x y e)
-    ∙ ap (in_row at_root (is_there x.accounts) (exchanged ds s k)) (e w ∙ row_in at_root (exchanged ds s' k') w x)
-    ∙ row_twice at_root (is_there x.accounts) (exchanged ds s k) (exchanged ds s' k') (state_over w x)
-    ∙ (λ m. in_row at_root (is_there x.accounts) (λ r. exchanged_twice ds s k s' k' r m) (state_over w x))
+    ∙ ap (λ b. in_row at_root b (exchanged ds s k) (state_over w y)) held
+    ∙ ap (in_row at_root b (exchanged ds s k)) (e w ∙ row_in at_root (exchanged ds s' k') w x)
+    ∙ row_twice at_root b (exchanged ds s k) (exchanged ds s' k') (state_over w x)
+    ∙ (λ m. in_row at_root b (λ r. exchanged_twice ds s k s' k' r m) (state_over w x))
     ∙ sym (row_in at_root (exchanged ds s k) w x)
 
 changed_at : (at_root : Root) (ds : List ℕ) (e : Edit) (o : Option Tree) (x y z : RunState) (a b u v : OpenNode)
@@ -138,7 +113,7 @@ changed_at at_root ds e o x y z a b u v first second shape parts left f there =
     record {
       left = left ∙ ap (left_by e) old_parts;
       state = λ w. second.state w
-          ∙ once at_root ds x y (pure_shape u.shape) (pure_row u.parts.items) (pure_shape a.shape) (pure_row a.parts.items) first.state w
+          ∙ once at_root ds x y (pure_shape u.shape) (pure_row u.parts.items) (pure_shape a.shape) (pure_row a.parts.items) first.held first.state w
           ∙ (λ m. with_row at_root (exchanged ds (new_shape m) (new_parts m)) w x);
     }
 
@@ -169,9 +144,9 @@ way_changed only w x (root.Result i) p s k ds f ready e d = go (slice_get x.call
     go None q there = absurd (true≢false (ap is_there (sym there)))
     go (Some y) q there = result_changed only w x p s k ds i y f ready q there d
 way_changed only w x root.Making p s k ds f ready e d = making_changed only w x p s k ds f ready e d
-way_changed only w x (root.Stored i) p s k ds f ready e d = go (slice_get (held x.accounts) i) refl e
+way_changed only w x (root.Stored i) p s k ds f ready e d = go (account_in x.accounts i) refl e
   where
-    go : (o : Option AccountCode) → slice_get (held x.accounts) i ≡ o → reached ds (option_map (λ y. y.stored.items) o) ≡ Some f → with_row (root.Stored i) (exchanged ds s k) w x ≡ with_node p s k (state_over w x)
+    go : (o : Option AccountCode) → account_in x.accounts i ≡ o → reached ds (option_map (λ y. y.stored.items) o) ≡ Some f → with_row (root.Stored i) (exchanged ds s k) w x ≡ with_node p s k (state_over w x)
     go None q there = absurd (true≢false (ap is_there (sym there)))
     go (Some y) q there = stored_changed only w x p s k ds i y f ready q there d
 way_changed only w x (root.Contract i) p s k ds f ready e d = go (slice_get x.contracts.items i) refl e

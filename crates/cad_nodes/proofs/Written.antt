@@ -1,19 +1,18 @@
 -- One row of a state is written.
-use Rattle.std.proofs.Common.{◌≡◌, ℕ, zero, suc, ◌<◌, ◌≤◌, List, [], ◌∷◌, map, Some, None, refl, sym, ap, ◌∙◌, arith, length, get_or}
-use Rattle.std.specs.Prelude.{slice_get, slice_set, option_map}
-use Rattle.std.specs.declared.alloc.Global.{Global}
-use Rattle.std.specs.declared.vec.Vec.{Vec}
-use Rattle.cad_nodes.specs.Exchanges.{IsExchanged}
+use Rattle.std.proofs.Common.{◌≡◌, ℕ, zero, suc, ◌<◌, ◌≤◌, List, [], ◌∷◌, map, Some, None, refl, sym, ap, subst, ◌∙◌, arith, length, get_or}
+use Rattle.std.specs.Prelude.{slice_set, option_map}
+use Rattle.cad_nodes.specs.Exchanges.{is_held, IsExchanged}
 use Rattle.cad_nodes.specs.declared.edit.OpenNode.{OpenNode}
 use Rattle.cad_rows.specs.Exchanges.{exchanged, shape_of, parts_of}
 use Rattle.cad_rows.specs.Views.{pure_row, pure_shape}
 use Rattle.cad_rows.specs.Ways.{node_at}
 use Rattle.cad_rows.specs.declared.tree.Place.{Place}
-use Rattle.cad_state.specs.Views.{state_over, account_of, accounts_with, held, frame_of, contract_of}
-use Rattle.cad_state.specs.Ways.{row_at, reached, at_index, in_stored, with_row}
+use Rattle.cad_state.specs.Views.{state_over, account_of, accounts_over, frame_of, contract_of}
+use Rattle.cad_state.specs.Ways.{is_there, account_in, row_at, reached, at_index, if_held, in_stored, with_row}
 use Rattle.cad_state.specs.declared.hints.Root.{Root}
 use Rattle.cad_state.specs.declared.hints.Root.TheVariants as root
 use Rattle.cad_state.specs.declared.state.Account.{Account as AccountCode}
+use Rattle.cad_state.specs.declared.state.Accounts.{Accounts}
 use Rattle.cad_state.specs.declared.state.Call.{Call}
 use Rattle.cad_state.specs.declared.state.Contract as c
 use Rattle.cad_state.specs.declared.state.RunState.{RunState}
@@ -36,11 +35,6 @@ stored_written h [] i old new inside is e = absurd (omega (arith, inside))
 stored_written h (d ∷ cs) zero old new inside is e = ap (λ f. f ∷ map account_of cs) (e ∙ ap (λ y. h (account_of y)) is)
 stored_written h (d ∷ cs) (suc i) old new inside is e = ap (λ fs. account_of d ∷ fs) (stored_written h cs i old new (omega (arith, inside)) is e)
 
-pub stored_kept : (h : Account → Account) (cs : List AccountCode) (i : ℕ) → length cs ≤ i → map account_of cs ≡ at_index i h (map account_of cs)
-stored_kept h [] i outside = refl
-stored_kept h (d ∷ cs) zero outside = absurd (omega (arith, outside))
-stored_kept h (d ∷ cs) (suc i) outside = ap (λ fs. account_of d ∷ fs) (stored_kept h cs i (omega (arith, outside)))
-
 pub values_written : (h : Contract → Contract) (cs : List c.Contract) (i : ℕ) (old new : c.Contract) → i < length cs → old ≡ get_or cs i old → contract_of new ≡ h (contract_of old)
     → map contract_of (slice_set cs i new) ≡ at_index i h (map contract_of cs)
 values_written h [] i old new inside is e = absurd (omega (arith, inside))
@@ -56,11 +50,12 @@ values_kept h (d ∷ cs) (suc i) outside = ap (λ fs. contract_of d ∷ fs) (val
 pub swapped : (at_root : Root) (ds : List ℕ) (x y : RunState) (ps : List Place) (a b : OpenNode) → row_at at_root x ≡ Some ps
     → ((w : List Account) → state_over w y ≡ with_row at_root (exchanged ds (pure_shape a.shape) (pure_row a.parts.items)) w x)
     → pure_shape b.shape ≡ shape_of (pure_shape a.shape) (node_at ds (pure_row ps)) → pure_row b.parts.items ≡ parts_of (pure_row a.parts.items) (node_at ds (pure_row ps))
-    → IsExchanged at_root ds x y a b
-swapped at_root ds x y ps a b there state shape parts = record {
+    → is_held at_root y.accounts ≡ is_held at_root x.accounts → IsExchanged at_root ds x y a b
+swapped at_root ds x y ps a b there state shape parts held = record {
   state = state;
   shape = shape ∙ ap (λ o. shape_of (pure_shape a.shape) (reached ds o)) (sym there);
   parts = parts ∙ ap (λ o. parts_of (pure_row a.parts.items) (reached ds o)) (sym there);
+  held = held;
 }
 
 -- it isn't
@@ -70,32 +65,24 @@ missed at_root ds x a nowhere state = record {
   state = state;
   shape = ap (λ o. shape_of (pure_shape a.shape) (reached ds o)) (sym nowhere);
   parts = ap (λ o. parts_of (pure_row a.parts.items) (reached ds o)) (sym nowhere);
+  held = refl;
 }
 
 -- the same in what an account stores that the run has
-pub stored_swapped : (i : ℕ) (ds : List ℕ) (x : RunState) (old new : Vec AccountCode Global) (ps : List Place) (a b : OpenNode) → x.accounts ≡ Some old
-    → option_map (λ (y : AccountCode). y.stored.items) (slice_get old.items i) ≡ Some ps
-    → map account_of new.items ≡ at_index i (in_stored (exchanged ds (pure_shape a.shape) (pure_row a.parts.items))) (map account_of old.items)
-    → pure_shape b.shape ≡ shape_of (pure_shape a.shape) (node_at ds (pure_row ps)) → pure_row b.parts.items ≡ parts_of (pure_row a.parts.items) (node_at ds (pure_row ps))
-    → IsExchanged (root.Stored i) ds x (record x { accounts = Some new }) a b
-unfolding accounts_with
-stored_swapped i ds x old new ps a b is there written shape parts =
+pub stored_swapped : (i : ℕ) (ds : List ℕ) (x : RunState) (new : Accounts) (old one : AccountCode) (a b : OpenNode) → account_in x.accounts i ≡ Some old → account_in new i ≡ Some one
+    → ((w : List Account) → accounts_over w new ≡ at_index i (in_stored (exchanged ds (pure_shape a.shape) (pure_row a.parts.items))) (accounts_over w x.accounts))
+    → pure_shape b.shape ≡ shape_of (pure_shape a.shape) (node_at ds (pure_row old.stored.items)) → pure_row b.parts.items ≡ parts_of (pure_row a.parts.items) (node_at ds (pure_row old.stored.items))
+    → IsExchanged (root.Stored i) ds x (record x { accounts = new }) a b
+stored_swapped i ds x new old one a b there then written shape parts =
     let g = exchanged ds (pure_shape a.shape) (pure_row a.parts.items) in
-    swapped (root.Stored i) ds x (record x { accounts = Some new }) ps a b
-    (ap (λ o. option_map (λ (y : AccountCode). y.stored.items) (slice_get (held o) i)) is ∙ there)
-    (λ w. ap (λ all. record (state_over w x) { accounts = all }) (written ∙ ap (accounts_with (at_index i (in_stored g)) w) (sym is)))
-    shape parts
+    swapped (root.Stored i) ds x (record x { accounts = new }) old.stored.items a b
+    (ap (option_map (λ (y : AccountCode). y.stored.items)) there)
+    (λ w. ap (λ all. record (state_over w x) { accounts = all }) (written w ∙ ap (λ o. if_held o (at_index i (in_stored g)) (accounts_over w x.accounts)) (sym there)))
+    shape parts (ap is_there then ∙ sym (ap is_there there))
 
-pub stored_missed : (i : ℕ) (ds : List ℕ) (x : RunState) (old : Vec AccountCode Global) (a : OpenNode) → x.accounts ≡ Some old
-    → option_map (λ (y : AccountCode). y.stored.items) (slice_get old.items i) ≡ None
-    → map account_of old.items ≡ at_index i (in_stored (exchanged ds (pure_shape a.shape) (pure_row a.parts.items))) (map account_of old.items)
-    → IsExchanged (root.Stored i) ds x (record x { accounts = Some old }) a a
-unfolding accounts_with
-stored_missed i ds x old a is nowhere kept =
+pub stored_missed : (i : ℕ) (ds : List ℕ) (x : RunState) (all : Accounts) (a : OpenNode) → x.accounts ≡ all → account_in x.accounts i ≡ None → IsExchanged (root.Stored i) ds x (record x { accounts = all }) a a
+stored_missed i ds x all a is nowhere =
     let g = exchanged ds (pure_shape a.shape) (pure_row a.parts.items) in
-    let there : row_at (root.Stored i) x ≡ None = ap (λ o. option_map (λ (y : AccountCode). y.stored.items) (slice_get (held o) i)) is ∙ nowhere in
-    record {
-      state = λ w. ap (λ all. record (state_over w x) { accounts = all }) (kept ∙ ap (accounts_with (at_index i (in_stored g)) w) (sym is));
-      shape = ap (λ o. shape_of (pure_shape a.shape) (reached ds o)) (sym there);
-      parts = ap (λ o. parts_of (pure_row a.parts.items) (reached ds o)) (sym there);
-    }
+    subst (λ o. IsExchanged (root.Stored i) ds x (record x { accounts = o }) a a) is
+    (missed (root.Stored i) ds x a (ap (option_map (λ (y : AccountCode). y.stored.items)) nowhere)
+    (λ w. ap (λ all. record (state_over w x) { accounts = all }) (ap (λ o. if_held o (at_index i (in_stored g)) (accounts_over w x.accounts)) (sym nowhere))))

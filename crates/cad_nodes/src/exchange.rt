@@ -11,7 +11,7 @@ ghost use Rattle.cad_world.specs.State.{Account, ok};
 use crate::edit::{Edit, OpenNode, discard_edit, discard_left, edit_node};
 use cad_rows::laws::a_node_with_the_label_is_the_node;
 use cad_rows::{Shape, Tree, discard_row, discard_shape, holds_label, swap_node};
-use cad_state::{Root, RunState, Way};
+use cad_state::{Accounts, Root, RunState, Way, known_place};
 use cad_values::Value;
 use std::alloc::{AllocError, Global};
 use std::mem::replace;
@@ -105,14 +105,27 @@ fn swap_in_result(state: &mut RunState, i: usize, down: &[usize], node: &mut Ope
     }
 }
 
-/// The same in what an account stores.
-#[tactic(auto, unfolding(cad_state::specs::Views::accounts_with))]
+/// The same in what an account stores; nothing changes where the run doesn't have it.
 fn swap_in_stored(state: &mut RunState, i: usize, down: &[usize], node: &mut OpenNode)
     ensures { IsExchanged (root.Stored i) down.now state.old state.new node.old node.new }
 {
-    if let Some(all) = &mut state.accounts {
-        if i < all.len() {
-            swap_node(&mut all[i].stored, down, &mut node.shape, &mut node.parts);
+    match &mut state.accounts {
+        Accounts::All(all) => {
+            if i < all.len() {
+                swap_node(&mut all[i].stored, down, &mut node.shape, &mut node.parts);
+            }
+        }
+        Accounts::Part { count, known } => {
+            let index = i as u64;
+            if index < *count {
+                match known_place(known.as_slice(), index) {
+                    Some(n) => {
+                        let account = &mut known[n].account;
+                        swap_node(&mut account.stored, down, &mut node.shape, &mut node.parts);
+                    }
+                    None => {}
+                }
+            }
         }
     }
 }

@@ -1,8 +1,8 @@
 -- A number is the one of its kind with its sign and magnitude, and with its integer.
-use Rattle.std.proofs.Common.{◌≡◌, ℕ, zero, suc, Bool, true, false, ℤ, pos, Option, Some, Result, Ok, Err, IfOk, refl, ap, sym, subst, ◌∙◌, arith}
+use Rattle.std.proofs.Common.{◌≡◌, ℕ, zero, suc, Bool, true, false, ℤ, pos, Option, Some, None, Result, Ok, Err, IfOk, refl, ap, sym, subst, ◌∙◌, arith}
 use Rattle.std.proofs.lemmas.Int.{ints}
 use Rattle.std.proofs.lemmas.Bool.Decides.{nat_tests}
-use Rattle.std.specs.Prelude.{int_lt}
+use Rattle.std.specs.Prelude.{IfSome, int_lt}
 use Rattle.std.proofs.Math.Bool.{Bool-set}
 use Rattle.cad_syntax.specs.declared.kind.Kind.{Kind}
 use Rattle.cad_syntax.specs.declared.kind.Kind.TheVariants as k
@@ -77,3 +77,12 @@ guarded {B} view false p q r e f h = cc
 -- the Int of a count
 pub counted : (n : ℕ) (x : Num) (t : Tree) → number_of k.Int false n ≡ Some x → t ≡ number_tree x → (s : State) → given_int n s ≡ ok t s
 counted n x t e f s = rw (e, f) refl
+
+-- ---- numbers that stand in no tree
+
+pub number_alone : (r : Result Num NumError) (x : Num) → r ≡ Ok x → (k : Kind) → IfOk r (λ n. n.kind ≡ k) → (s : State) → numbered k (valued r) s ≡ ok (number_tree x) s
+number_alone r x e = numbered_ok r x (number_tree x) e refl
+
+pub guarded_number : (b : Bool) (p q : Action Tree) (o : Option Num) → b ≡ true → q ≡ p → IfSome o (λ n. Gives number_tree q (Ok n)) → IfSome o (λ n. Gives number_tree (guard b p) (Ok n))
+guarded_number b p q None e f h = tt
+guarded_number b p q (Some n) e f h = guarded number_tree b p q (Ok n) e f h

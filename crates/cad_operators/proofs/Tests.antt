@@ -1,6 +1,12 @@
 -- Tests of sameness tell whether two are the same.
-use Rattle.std.proofs.Common.{◌≤◌, length, map, arith, ◌≡◌, ℕ, Bool, true, false, ◌==◌, ◌&&◌, ◌↔◌, IsTrue, List, [], ◌∷◌, None, refl, ap, sym}
+use Rattle.std.proofs.Common.{◌≤◌, length, map, arith, ◌≡◌, ℕ, Bool, true, false, ◌==◌, ◌&&◌, ◌↔◌, IsTrue, List, [], ◌∷◌, None, encode_utf8_all, refl, ap, sym, ◌∙◌}
 use Rattle.std.proofs.lemmas.Bool.{false≢true}
+use Rattle.std.proofs.lemmas.Str.{IsUtf8-from_ascii, chars-IsAscii, encodes-chars}
+use Rattle.std.proofs.lemmas.Str.Ascii.{All-from_ascii}
+use Rattle.std.specs.Str.{IsAscii}
+use Rattle.unicode_normalization.proofs.FormsLemmas.{normalize-ascii}
+use Rattle.unicode_normalization.specs.Forms.{nfc}
+use Rattle.cad_text.specs.Texts.{normal_form}
 use Rattle.cad_syntax.specs.TypeIds.{same_id}
 use Rattle.cad_syntax.specs.Types.{PureType}
 use Rattle.cad_syntax.specs.Types as t
@@ -66,6 +72,12 @@ types_by r x y h = answer_by same_type types_tell r x y h
 
 pub texts_by : (r : Bool) (x y : List ℕ) → (IsTrue r ↔ (x ≡ y)) → r ≡ same_text x y
 texts_by r x y h = answer_by same_text (lists_tell ◌==◌ numbers_tell) r x y h
+
+-- a text of ASCII letters alone is its own NFC form
+pub ascii_form : (bs : List ℕ) → IsAscii bs → normal_form bs ≡ bs
+ascii_form bs h =
+    let spelled = chars-IsAscii bs h in
+    ap encode_utf8_all (ap nfc spelled ∙ normalize-ascii _ bs (All-from_ascii bs h) ∙ sym spelled) ∙ encodes-chars bs (IsUtf8-from_ascii bs h)
 
 pub two_composites : (x y : TypeId) (i j : ℕ) (f g : Fields) → same_key (v.composite x i f) (v.composite y j g) ≡ same_case x (case_number f) y (case_number g)
 two_composites x y i j (fields n (v.number p) no_fields) (fields m (v.number q) no_fields) = refl

@@ -54,11 +54,14 @@ fn is_same_type(x: &CadType, y: &CadType) -> bool
     x.same(y)
 }
 
-/// Whether two texts have one NFC form.
+/// Whether two texts have one NFC form. Texts of ASCII letters alone are their own, and most keys are such.
 #[tactic(auto, using(crate::proofs::Tests::texts_by))]
 fn is_same_text(alloc: Global, x: &str, y: &str) -> Result<bool, AllocError>
     ensures { IfOk result (λ is. is ≡ spec.same_text (normal_form x.now) (normal_form y.now)) }
 {
+    if x.is_ascii() && y.is_ascii() {
+        return Ok(x == y);
+    }
     cad_text::equal(alloc, x, y)
 }
 

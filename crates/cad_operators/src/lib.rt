@@ -13,6 +13,7 @@ mod number_texts;
 mod numbers;
 mod operators;
 mod order;
+mod pairs;
 mod sameness;
 mod slices;
 mod texts;
@@ -32,6 +33,7 @@ pub use numbers::{
 };
 pub use operators::{binary, is_comparison};
 pub use order::less;
+pub use pairs::{calculate_numbers, compare_numbers};
 pub use sameness::{key_position, same};
 pub use slices::text_slice;
 pub use texts::{

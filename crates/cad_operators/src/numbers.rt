@@ -54,7 +54,7 @@ fn numbered(alloc: Global, number: Result<Num, NumError>) -> Result<Tree, Stop>
 }
 
 /// The operation on two numbers.
-fn calculated(operation: Operation, x: Num, y: Num) -> Result<Num, NumError>
+pub(crate) fn calculated(operation: Operation, x: Num, y: Num) -> Result<Num, NumError>
     requires { x.kind ≡ y.kind }
     ensures value { valued result ≡ on_integers operation x.kind (value_of x) (value_of y) }
     ensures kind { IfOk result (λ n. n.kind ≡ x.kind) }

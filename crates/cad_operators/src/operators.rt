@@ -72,7 +72,7 @@ fn compare(
 }
 
 /// The operation on numbers that an operator is, if it is one.
-fn calculation(operation: BinaryOperator) -> Option<Operation>
+pub(crate) fn calculation(operation: BinaryOperator) -> Option<Operation>
     ensures { result ≡ answers.calculation operation }
 {
     match operation {

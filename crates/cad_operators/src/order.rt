@@ -23,7 +23,7 @@ fn is_less(x: Num, y: Num) -> bool
 }
 
 /// Whether a number is less than another; nothing of numbers of two kinds.
-fn number_less(x: Num, y: Num) -> Option<bool>
+pub(crate) fn number_less(x: Num, y: Num) -> Option<bool>
     ensures { result ≡ spec.number_less x y }
 {
     if is_same_kind(x.kind, y.kind) {

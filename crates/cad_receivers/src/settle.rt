@@ -1,22 +1,25 @@
 // What receivers are settled to, so that it is seen without a change of the state what they are.
-ghost use Rattle.std.specs.Prelude.{◌≡◌, option_map};
+ghost use Rattle.std.specs.Prelude.{◌≡◌, List, option_map};
 ghost use Rattle.cad_receivers.specs.Settled.{settled, settled_target, settled_value};
 ghost use Rattle.cad_receivers.specs.Views.{receiver_of, settled_of};
 ghost use Rattle.cad_rows.specs.Views.{pure_shape};
-ghost use Rattle.cad_state.specs.Views.{FindsAndCarriesOut};
+ghost use Rattle.cad_state.specs.Views.{FindsAndCarriesOut, state_over};
 ghost use Rattle.cad_syntax.specs.Types.{pure_type};
 ghost use Rattle.cad_values.specs.Values.{pure_value};
 ghost use Rattle.cad_world.specs.Receivers as spec;
 ghost use Rattle.cad_world.specs.Rows.{plain};
+ghost use Rattle.cad_world.specs.State.{Account};
 
 use crate::receivers::{Receiver, Settled};
 use crate::stored::settle_stored;
 use cad_casts::{find_node, is_controller};
 use cad_outcomes::{RunError, Stop};
 use cad_rows::Shape;
+use cad_run_accounts::know;
 use cad_state::RunState;
 use cad_syntax::Authorization;
 use cad_values::{Reference, Target, Value};
+use std::alloc::AllocError;
 
 /// Settles a node that is met with these rights and seen in so many optionals.
 fn settle_node<'a>(
@@ -96,8 +99,34 @@ fn settle_value<'a>(
     }
 }
 
-/// What a reference that isn't one to a node is settled to.
+/// The run has the account that a reference leads into, if it leads into one; else memory fails.
+fn know_target(state: &mut RunState, to: &Target) -> Result<(), AllocError>
+    ensures { (accounts : List Account) → state_over accounts state.new ≡ state_over accounts state.old }
+{
+    match to {
+        Target::Stored { address, .. } => know(state, *address),
+        Target::Controller { address, .. } => know(state, *address),
+        _ => Ok(()),
+    }
+}
+
+/// What a reference that isn't one to a node is settled to. Memory fails too where the run doesn't have the account that it leads into.
 fn settle_target<'a>(
+    state: &mut RunState,
+    shape: &'a Shape,
+    reference: &'a Reference,
+) -> Result<Settled<'a>, Stop>
+    requires { pure_shape shape.now ≡ plain (pure_value (Value.Reference reference.now)) }
+    ensures { FindsAndCarriesOut settled_of (settled_target reference.now.authorization (pure_type reference.now.target) reference.now.to) state.old state.new result }
+{
+    match know_target(state, &reference.to) {
+        Ok(()) => settle_known(state, shape, reference),
+        Err(_) => Err(Stop::Memory),
+    }
+}
+
+/// The same where the run has that account.
+fn settle_known<'a>(
     state: &mut RunState,
     shape: &'a Shape,
     reference: &'a Reference,

@@ -2,6 +2,7 @@
 ghost use Rattle.std.specs.Prelude.{◌≡◌, List, IfOk, OnOk, map, option_map};
 ghost use Rattle.cad_rows.specs.Views.{pure_tree};
 ghost use Rattle.cad_run_accounts.specs.Code.Changing.{changed_by, left_by};
+ghost use Rattle.cad_state.specs.Parts.{with_known};
 ghost use Rattle.cad_state.specs.Views.{account_of, state_over};
 ghost use Rattle.cad_world.specs.Labels as spec;
 ghost use Rattle.cad_world.specs.State as s;
@@ -11,7 +12,7 @@ use crate::find::account_index;
 use crate::publications::{publish_in, unpublish_in};
 use crate::stored::{name_in, store_in, take_in};
 use cad_rows::{Tree, discard_tree};
-use cad_state::{Account, Publication, RunState};
+use cad_state::{Account, Accounts, Known, Publication, RunState, known_place};
 use cad_syntax::{Address, CadType, Name};
 use std::alloc::AllocError;
 
@@ -92,8 +93,33 @@ fn change_among(
     }
 }
 
-/// Does it to the account of an address. Memory fails too where the run has no accounts.
-#[tactic(auto, unfolding(cad_state::specs::Views::accounts_with))]
+/// Does it to the account of an address, of so many of which these are known; memory fails too where it isn't known.
+fn change_known(
+    count: u64,
+    known: &mut Vec<Known>,
+    address: Address,
+    change: Change<'_>,
+) -> Result<Option<Tree>, AllocError>
+    ensures all { OnOk result ((accounts : List s.Account) → with_known accounts count known.new.items ≡ spec.change_account address.0 (changed_by change.entry) (with_known accounts count known.old.items)) }
+    ensures left { IfOk result (λ o. (accounts : List s.Account) → option_map pure_tree o ≡ left_by change.entry (spec.account_at (with_known accounts count known.old.items) address.0)) }
+{
+    match account_index(count as usize, address) {
+        Some(i) => match known_place(known.as_slice(), i as u64) {
+            Some(n) => change_account(&mut known[n].account, change),
+            None => {
+                discard_change(change);
+                Err(AllocError)
+            }
+        },
+        None => {
+            discard_change(change);
+            Ok(None)
+        }
+    }
+}
+
+/// Does it to the account of an address. Memory fails too where the run doesn't have it.
+#[tactic(auto, unfolding(cad_state::specs::Views::accounts_over))]
 pub(crate) fn change_at(
     state: &mut RunState,
     address: Address,
@@ -103,11 +129,8 @@ pub(crate) fn change_at(
     ensures left { IfOk result (λ o. (accounts : List s.Account) → option_map pure_tree o ≡ left_by change.entry (spec.account_at (state_over accounts state.old).accounts address.0)) }
 {
     match &mut state.accounts {
-        Some(all) => change_among(all, address, change),
-        None => {
-            discard_change(change);
-            Err(AllocError)
-        }
+        Accounts::All(all) => change_among(all, address, change),
+        Accounts::Part { count, known } => change_known(*count, known, address, change),
     }
 }
 

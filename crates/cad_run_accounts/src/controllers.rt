@@ -126,7 +126,7 @@ pub(crate) fn remove_in(account: &mut Account, n: u64)
 
 // ---- of the account of an address
 
-/// An account's controller of a number. Memory fails only where the run has no accounts.
+/// An account's controller of a number. Memory fails only where the run doesn't have it.
 pub fn controller(
     state: &RunState,
     address: Address,
@@ -141,8 +141,8 @@ pub fn controller(
     }
 }
 
-/// The number of an account's next controller; None where there is no such account. Memory fails only where the run has no
-/// accounts.
+/// The number of an account's next controller; None where there is no such account. Memory fails only where the run
+/// doesn't have it.
 pub fn next_controller(state: &RunState, address: Address) -> Result<Option<u64>, AllocError>
     ensures { IfOk result (λ o. (accounts : List s.Account) → o ≡ option_map (λ a. a.next_controller) (spec.account_at (state_over accounts state.now).accounts address.0)) }
 {
@@ -184,7 +184,7 @@ pub fn retarget(
     change_only(state, address, Change::Edit(n, Edit::Target(target)))
 }
 
-/// The account loses its controllers of a number. Memory fails only where the run has no accounts.
+/// The account loses its controllers of a number. Memory fails only where the run doesn't have it.
 pub fn remove_controller(state: &mut RunState, address: Address, n: u64) -> Result<(), AllocError>
     ensures { OnOk result ((accounts : List s.Account) → state_over accounts state.new ≡ capabilities.without_controller (record { address = address; number = n }) (state_over accounts state.old)) }
 {

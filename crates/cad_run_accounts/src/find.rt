@@ -1,11 +1,12 @@
 // Accounts by their addresses.
 ghost use Rattle.std.specs.Option.{is_some};
-ghost use Rattle.std.specs.Prelude.{◌≡◌, ◌<◌, ◌≤◌, suc, ℕ, List, IfOk, MatchOption, map, option_map};
+ghost use Rattle.std.specs.Prelude.{◌≡◌, ◌<◌, ◌≤◌, suc, ℕ, List, IfOk, OnOk, MatchOption, length, option_map};
+ghost use Rattle.cad_run_accounts.specs.Known.{IsKnown};
 ghost use Rattle.cad_state.specs.Views.{account_of, state_over};
 ghost use Rattle.cad_world.specs.Labels as spec;
 ghost use Rattle.cad_world.specs.State as s;
 
-use cad_state::{Account, RunState};
+use cad_state::{Account, Accounts, RunState};
 use cad_syntax::Address;
 use std::alloc::AllocError;
 
@@ -22,35 +23,53 @@ pub(crate) fn account_index(count: usize, address: Address) -> Option<usize>
     Some((address.0 - 1) as usize)
 }
 
-/// The account of an address among these.
-#[tactic(auto, using(crate::proofs::Found::account_there, crate::proofs::Found::account_nowhere))]
-fn account_among(all: &[Account], address: Address) -> Option<&Account>
-    ensures { option_map (λ a. account_of a.now) result ≡ spec.account_at (map account_of all.now) address.0 }
+/// How many accounts there are.
+fn account_total(state: &RunState) -> usize
+    ensures { (accounts : List s.Account) → result ≡ length (state_over accounts state.now).accounts }
 {
-    match account_index(all.len(), address) {
-        Some(i) => Some(&all[i]),
-        None => None,
+    match &state.accounts {
+        Accounts::All(all) => all.len(),
+        Accounts::Part { count, known: _ } => *count as usize,
     }
 }
 
-/// The account of an address. Memory fails only where the run has no accounts.
-#[tactic(auto, unfolding(cad_state::specs::Views::accounts_with))]
+/// The account of an address. Memory fails only where the run doesn't have it.
 pub(crate) fn account(state: &RunState, address: Address) -> Result<Option<&Account>, AllocError>
     ensures { IfOk result (λ o. (accounts : List s.Account) → option_map (λ a. account_of a.now) o ≡ spec.account_at (state_over accounts state.now).accounts address.0) }
 {
-    match &state.accounts {
-        Some(all) => Ok(account_among(all.as_slice(), address)),
-        None => Err(AllocError),
+    match account_index(account_total(state), address) {
+        Some(i) => match state.account_of_index(i) {
+            Some(account) => Ok(Some(account)),
+            None => Err(AllocError),
+        },
+        None => Ok(None),
     }
 }
 
-/// Whether there is an account of an address. Memory fails only where the run has no accounts.
-pub fn is_account(state: &RunState, address: Address) -> Result<bool, AllocError>
-    ensures { IfOk result (λ b. (accounts : List s.Account) → is_some (spec.account_at (state_over accounts state.now).accounts address.0) ≡ b) }
+/// Whether there is an account of an address. It doesn't have to be one that the run has.
+pub fn is_account(state: &RunState, address: Address) -> bool
+    ensures { (accounts : List s.Account) → is_some (spec.account_at (state_over accounts state.now).accounts address.0) ≡ result }
 {
-    match account(state, address) {
-        Ok(Some(_)) => Ok(true),
-        Ok(None) => Ok(false),
-        Err(error) => Err(error),
+    match account_index(account_total(state), address) {
+        Some(_) => true,
+        None => false,
+    }
+}
+
+/// Makes sure that the run has the account of an address, if there is one. Where it doesn't, the state says which it lacks, and memory
+/// fails.
+pub fn know(state: &mut RunState, address: Address) -> Result<(), AllocError>
+    ensures same { (accounts : List s.Account) → state_over accounts state.new ≡ state_over accounts state.old }
+    ensures known { OnOk result (IsKnown address.0 state.old) }
+{
+    match account_index(account_total(state), address) {
+        Some(i) => match state.account_of_index(i) {
+            Some(_) => Ok(()),
+            None => {
+                state.wanted = Some(i as u64);
+                Err(AllocError)
+            }
+        },
+        None => Ok(()),
     }
 }

@@ -67,7 +67,7 @@ pub(crate) fn unpublish_in(account: &mut Account, name: &Name)
 
 // ---- of the account of an address
 
-/// What an account publishes under an identifier. Memory fails only where the run has no accounts.
+/// What an account publishes under an identifier. Memory fails only where the run doesn't have it.
 pub fn published<'a>(
     state: &'a RunState,
     address: Address,
@@ -93,7 +93,7 @@ pub fn publish(
     change_only(state, address, Change::Publish(publication))
 }
 
-/// An account publishes nothing more under an identifier. Memory fails only where the run has no accounts.
+/// An account publishes nothing more under an identifier. Memory fails only where the run doesn't have it.
 pub fn unpublish(state: &mut RunState, address: Address, name: &Name) -> Result<(), AllocError>
     ensures { OnOk result ((accounts : List s.Account) → state_over accounts state.new ≡ spec.with_account address.0 (capabilities.unpublishing name.now) (state_over accounts state.old)) }
 {

@@ -70,7 +70,7 @@ pub(crate) fn take_in(account: &mut Account, name: &Name) -> Option<Tree>
 
 // ---- of the account of an address
 
-/// What an account stores under an identifier. Memory fails only where the run has no accounts.
+/// What an account stores under an identifier. Memory fails only where the run doesn't have it.
 pub fn stored_slot<'a>(
     state: &'a RunState,
     address: Address,
@@ -115,8 +115,8 @@ pub fn store(
     change_only(state, address, Change::Store(name, tree))
 }
 
-/// What is stored under an identifier leaves the account's storage, without labels. Memory fails only where the run has no
-/// accounts.
+/// What is stored under an identifier leaves the account's storage, without labels. Memory fails only where the run
+/// doesn't have it.
 pub fn take_stored(
     state: &mut RunState,
     address: Address,

@@ -24,6 +24,10 @@ pub enum Unfinished {
     Memory,
     /// The run asked of a code of which the front end says nothing: the code, and the contracts beside which it was asked.
     Unknown(Unknown),
+    /// The run lacked the account of this index.
+    Lacks(u64),
+    /// The run added a contract to a World of which some accounts may not be known: it has to be over the whole World.
+    Whole,
 }
 
 impl From<AllocError> for Unfinished {

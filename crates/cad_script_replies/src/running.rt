@@ -1,20 +1,22 @@
 // The run of a script's `main`, and what is told of it.
-ghost use Rattle.std.specs.Prelude.{◌≡◌, ◌≢◌, ◌≤◌, IfOk, Ok, Some, map};
+ghost use Rattle.std.specs.Prelude.{◌≡◌, ◌≢◌, ◌≤◌, IfOk, List, Ok, Some, map};
 ghost use Rattle.serde_json.specs.Data.{Data};
 ghost use Rattle.cad_rows.specs.Views.{pure_row};
 ghost use Rattle.cad_runs.specs.Commands.{Reply, failed};
 ghost use Rattle.cad_script_replies.specs.Code.{told_of, told_stop};
 ghost use Rattle.cad_script_replies.specs.Replies as spec;
 ghost use Rattle.cad_script_replies.specs.Views.{Tells};
+ghost use Rattle.cad_script_replies.specs.Worlds.{run_world};
 ghost use Rattle.cad_state.specs.Views.{contract_of, program_of, state_over};
 ghost use Rattle.cad_types.specs.Views.{declarations as types_of};
 ghost use Rattle.cad_values.specs.Shapes.{declarations};
 ghost use Rattle.cad_values.specs.Values.{pure_value};
 ghost use Rattle.cad_world.specs.Begin.{begun, IsKept};
 ghost use Rattle.cad_world.specs.Shapes.{shapes};
-ghost use Rattle.cad_worlds.specs.Standing.{world_of};
+ghost use Rattle.cad_world.specs.State.{Account, World};
 
 use crate::reply::{ScriptReply, Unfinished};
+use crate::run_worlds::{RunWorld, discard_run_world};
 use cad_contract_shapes::sorts_of_contracts;
 use cad_declarations::Checked;
 use cad_discards::hold;
@@ -25,27 +27,19 @@ use cad_scripts::{FrontEnd, begin, run_script};
 use cad_state::{Contract, RunState, discard_state, discard_value, unknown_of};
 use cad_types::DeclaredTypes;
 use cad_values::Value;
-use cad_worlds::{World, discard_world};
 use std::alloc::{AllocError, Global};
 use std::rc::Rc;
 
 /// The state in which a program begins over a World, with so many units. It takes no memory.
-pub fn begin_over(alloc: Global, checked: Rc<Checked>, world: World, units: u64) -> RunState
-    ensures { state_over (world_of world).accounts result ≡ begun (program_of checked.value) units (world_of world) }
+pub fn begin_over(alloc: Global, checked: Rc<Checked>, world: RunWorld, units: u64) -> RunState
+    ensures { (base : List Account) → state_over base result ≡ begun (program_of checked.value) units (run_world base world) }
 {
-    let World {
+    let RunWorld {
         accounts,
         contracts,
         next_identity,
     } = world;
-    begin(
-        alloc,
-        checked,
-        Some(accounts),
-        contracts,
-        next_identity,
-        units,
-    )
+    begin(alloc, checked, accounts, contracts, next_identity, units)
 }
 
 /// A value as a reply: its JSON, or 134 where a part of it has no form.
@@ -103,11 +97,16 @@ fn reply_to(
     }
 }
 
-/// Why there is no reply of a run that stopped in a state for want of memory: the code of which it asked, where it did.
+/// Why there is no reply of a run that stopped in a state for want of memory: the account that it lacked, or the code of which it
+/// asked, where it did.
 pub fn unfinished(state: RunState) -> Unfinished {
+    let wanted = state.wanted;
     match unknown_of(state) {
         Some(unknown) => Unfinished::Unknown(unknown),
-        None => Unfinished::Memory,
+        None => match wanted {
+            Some(index) => Unfinished::Lacks(index),
+            None => Unfinished::Memory,
+        },
     }
 }
 
@@ -132,12 +131,12 @@ fn run_main<E: FrontEnd>(
     alloc: Global,
     end: &E,
     checked: Rc<Checked>,
-    world: World,
+    world: RunWorld,
     row: Vec<Place>,
     limit: u64,
 ) -> Result<ScriptReply, Unfinished>
     requires { limit ≤ 1000000 }
-    ensures { IsKept (world_of world) → IfOk result (λ it. (reply : Reply Data) × spec.Ran (E.front end.now) (world_of world) (program_of checked.value) (pure_row row.items) limit reply × (reply ≢ failed 0) × Tells it reply) }
+    ensures { (w : World) → run_world w.accounts world ≡ w → IsKept w → IfOk result (λ it. (reply : Reply Data) × spec.Ran (E.front end.now) w (program_of checked.value) (pure_row row.items) limit reply × (reply ≢ failed 0) × Tells it reply) }
 {
     let mut state = begin_over(alloc, checked, world, limit);
     let outcome = run_script(2 * limit + 2, end, row, &mut state);
@@ -150,19 +149,18 @@ pub fn answer_row<E: FrontEnd>(
     alloc: Global,
     end: &E,
     checked: &Rc<Checked>,
-    world: World,
+    world: RunWorld,
     row: Vec<Place>,
     limit: u64,
 ) -> Result<ScriptReply, Unfinished>
-    requires units { limit ≤ 1000000 }
-    requires kept { IsKept (world_of world) }
-    ensures { IfOk result (λ it. (reply : Reply Data) × spec.Ran (E.front end.now) (world_of world) (program_of checked.now.value) (pure_row row.items) limit reply × (reply ≢ failed 0) × Tells it reply) }
+    requires { limit ≤ 1000000 }
+    ensures { (w : World) → run_world w.accounts world ≡ w → IsKept w → IfOk result (λ it. (reply : Reply Data) × spec.Ran (E.front end.now) w (program_of checked.now.value) (pure_row row.items) limit reply × (reply ≢ failed 0) × Tells it reply) }
 {
     match hold(checked) {
         Ok(shared) => run_main(alloc, end, shared, world, row, limit),
         Err(_) => {
             discard_row(row);
-            discard_world(world);
+            discard_run_world(world);
             Err(Unfinished::Memory)
         }
     }

@@ -8,29 +8,31 @@ ghost use Rattle.cad_runs.specs.Commands as runs;
 ghost use Rattle.cad_runs.specs.Run as run;
 ghost use Rattle.cad_script_replies.specs.Replies.{Answers};
 ghost use Rattle.cad_script_replies.specs.Views.{Tells};
+ghost use Rattle.cad_script_replies.specs.Worlds.{run_world};
 ghost use Rattle.cad_state.specs.Views.{program_of};
 ghost use Rattle.cad_world.specs.Begin.{IsKept};
-ghost use Rattle.cad_worlds.specs.Standing.{world_of};
+ghost use Rattle.cad_world.specs.State as s;
 
 use crate::arguments::row_for;
 use crate::main_function::{main_name, main_of};
 use crate::reply::{ScriptReply, Unfinished};
+use crate::run_worlds::{RunWorld, discard_run_world};
 use crate::running::answer_row;
 use cad_declarations::{Checked, TypedFunction};
-use cad_discards::discard_checked;
 use cad_scripts::FrontEnd;
-use cad_state::discard_shared;
 use cad_syntax::Name;
-use cad_worlds::{World, discard_world};
 use serde_json::Value as Json;
 use std::alloc::Global;
 use std::rc::Rc;
 
 /// A reply that comes without a run. The World is let go.
-fn refuse(world: World, reply: Result<ScriptReply, Unfinished>) -> Result<ScriptReply, Unfinished>
+fn refuse(
+    world: RunWorld,
+    reply: Result<ScriptReply, Unfinished>,
+) -> Result<ScriptReply, Unfinished>
     ensures { result ≡ reply }
 {
-    discard_world(world);
+    discard_run_world(world);
     reply
 }
 
@@ -41,14 +43,13 @@ fn answer_arguments<E: FrontEnd>(
     end: &E,
     checked: &Rc<Checked>,
     main: &TypedFunction,
-    world: World,
+    world: RunWorld,
     arguments: &[Json],
     limit: u64,
 ) -> Result<ScriptReply, Unfinished>
     requires units { limit ≤ 1000000 }
-    requires kept { IsKept (world_of world) }
     requires counted { length arguments.now ≡ length main.now.parameters.items }
-    ensures { runs.main_of (program_of checked.now.value) ≡ Some (function_of main.now) → IfOk result (λ it. (reply : Reply Data) × Answers (E.front end.now) (world_of world) (program_of checked.now.value) (map view arguments.now) limit reply × (reply ≢ failed 0) × Tells it reply) }
+    ensures { (w : s.World) → run_world w.accounts world ≡ w → IsKept w → runs.main_of (program_of checked.now.value) ≡ Some (function_of main.now) → IfOk result (λ it. (reply : Reply Data) × Answers (E.front end.now) w (program_of checked.now.value) (map view arguments.now) limit reply × (reply ≢ failed 0) × Tells it reply) }
 {
     match row_for(
         alloc,
@@ -69,13 +70,12 @@ fn answer_main<E: FrontEnd>(
     end: &E,
     checked: &Rc<Checked>,
     main: &TypedFunction,
-    world: World,
+    world: RunWorld,
     arguments: &[Json],
     limit: u64,
 ) -> Result<ScriptReply, Unfinished>
-    requires units { limit ≤ 1000000 }
-    requires kept { IsKept (world_of world) }
-    ensures { runs.main_of (program_of checked.now.value) ≡ Some (function_of main.now) → IfOk result (λ it. (reply : Reply Data) × Answers (E.front end.now) (world_of world) (program_of checked.now.value) (map view arguments.now) limit reply × (reply ≢ failed 0) × Tells it reply) }
+    requires { limit ≤ 1000000 }
+    ensures { (w : s.World) → run_world w.accounts world ≡ w → IsKept w → runs.main_of (program_of checked.now.value) ≡ Some (function_of main.now) → IfOk result (λ it. (reply : Reply Data) × Answers (E.front end.now) w (program_of checked.now.value) (map view arguments.now) limit reply × (reply ≢ failed 0) × Tells it reply) }
 {
     if arguments.len() != main.parameters.len() {
         return refuse(world, Ok(ScriptReply::Bad(25)));
@@ -89,14 +89,13 @@ fn answer_named<E: FrontEnd>(
     end: &E,
     checked: &Rc<Checked>,
     name: &Name,
-    world: World,
+    world: RunWorld,
     arguments: &[Json],
     limit: u64,
 ) -> Result<ScriptReply, Unfinished>
     requires units { limit ≤ 1000000 }
-    requires kept { IsKept (world_of world) }
     requires named { name.now ≡ run.main_name }
-    ensures { IfOk result (λ it. (reply : Reply Data) × Answers (E.front end.now) (world_of world) (program_of checked.now.value) (map view arguments.now) limit reply × (reply ≢ failed 0) × Tells it reply) }
+    ensures { (w : s.World) → run_world w.accounts world ≡ w → IsKept w → IfOk result (λ it. (reply : Reply Data) × Answers (E.front end.now) w (program_of checked.now.value) (map view arguments.now) limit reply × (reply ≢ failed 0) × Tells it reply) }
 {
     match main_of(checked, name) {
         Some(main) => answer_main(alloc, end, checked, main, world, arguments, limit),
@@ -104,50 +103,24 @@ fn answer_named<E: FrontEnd>(
     }
 }
 
-/// What a program that others may hold answers.
-fn answer_shared<E: FrontEnd>(
+/// What a script that others may hold answers over a World, of which some accounts may not be known, to JSON as its arguments, with so
+/// many units, under a front end that is asked of the codes that it adds. Bad 26 where it has no `main` that everybody may call, 25 where
+/// the arguments are more or fewer than its parameters, 24 where they aren't of their types; else its result, the number of its error, or
+/// that the units were too few. Unknown where the run asked of a code of which the front end says nothing, Lacks where it lacked an
+/// account.
+pub fn answer_over<E: FrontEnd>(
     alloc: Global,
     end: &E,
     checked: &Rc<Checked>,
-    world: World,
+    world: RunWorld,
     arguments: &[Json],
     limit: u64,
 ) -> Result<ScriptReply, Unfinished>
-    requires units { limit ≤ 1000000 }
-    requires kept { IsKept (world_of world) }
-    ensures { IfOk result (λ it. (reply : Reply Data) × Answers (E.front end.now) (world_of world) (program_of checked.now.value) (map view arguments.now) limit reply × (reply ≢ failed 0) × Tells it reply) }
+    requires { limit ≤ 1000000 }
+    ensures { (w : s.World) → run_world w.accounts world ≡ w → IsKept w → IfOk result (λ it. (reply : Reply Data) × Answers (E.front end.now) w (program_of checked.now.value) (map view arguments.now) limit reply × (reply ≢ failed 0) × Tells it reply) }
 {
     match main_name(alloc) {
         Ok(name) => answer_named(alloc, end, checked, &name, world, arguments, limit),
         Err(_) => refuse(world, Err(Unfinished::Memory)),
-    }
-}
-
-/// What a script answers over a World to JSON as its arguments, with so many units, under a front end that is asked of the codes that it
-/// adds. Bad 26 where it has no `main` that everybody may call, 25 where the arguments are more or fewer than its parameters, 24 where
-/// they aren't of their types; else its result, the number of its error, or that the units were too few. Unknown where the run asked of a
-/// code of which the front end says nothing.
-pub fn answer<E: FrontEnd>(
-    alloc: Global,
-    end: &E,
-    checked: Checked,
-    world: World,
-    arguments: &[Json],
-    limit: u64,
-) -> Result<ScriptReply, Unfinished>
-    requires units { limit ≤ 1000000 }
-    requires kept { IsKept (world_of world) }
-    ensures { IfOk result (λ it. (reply : Reply Data) × Answers (E.front end.now) (world_of world) (program_of checked) (map view arguments.now) limit reply × (reply ≢ failed 0) × Tells it reply) }
-{
-    match Rc::new(alloc, checked) {
-        Ok(shared) => {
-            let reply = answer_shared(alloc, end, &shared, world, arguments, limit);
-            discard_shared(shared);
-            reply
-        }
-        Err(refused) => {
-            discard_checked(refused.value);
-            refuse(world, Err(Unfinished::Memory))
-        }
     }
 }

@@ -1,5 +1,6 @@
 // The run of a script.
 ghost use Rattle.std.specs.Prelude.{◌≡◌, IfOk, codes};
+ghost use Rattle.cad_calls.specs.Passed.{tree_in};
 ghost use Rattle.cad_evaluation.specs.Evaluation.{calls_to};
 ghost use Rattle.cad_scripts.specs.Code as steps;
 ghost use Rattle.cad_outcomes.specs.Outcomes.{Gives};
@@ -10,7 +11,7 @@ ghost use Rattle.cad_values.specs.Values.{pure_value};
 ghost use Rattle.cad_world.specs.Rows as rows;
 ghost use Rattle.cad_world.specs.Trees.{value_of};
 
-use cad_calls::{Callee, FrontEnd, call_with};
+use cad_calls::{Callee, FrontEnd, call_with, unboxed};
 use cad_making::is_told;
 use cad_outcomes::{RunError, Stop};
 use cad_rows::{Place, Tree, discard_row, discard_tree};
@@ -58,8 +59,8 @@ fn call_function<E: FrontEnd>(
     end: &E,
     arguments: Vec<Place>,
     state: &mut RunState,
-) -> Result<Tree, Stop>
-    ensures { FindsAndCarriesOut pure_tree (steps.called (calls_to (E.front end.now) fuel) name.now (pure_row arguments.items)) state.old state.new result }
+) -> Result<Box<Tree>, Stop>
+    ensures { FindsAndCarriesOut tree_in (steps.called (calls_to (E.front end.now) fuel) name.now (pure_row arguments.items)) state.old state.new result }
 {
     match state.tick() {
         Ok(()) => call_with(fuel, end, state, Callee::Function(name), arguments),
@@ -81,7 +82,7 @@ fn run_main<E: FrontEnd>(
     ensures { name.now ≡ spec.main_name → FindsAndCarriesOut pure_value (spec.run_script (calls_to (E.front end.now) fuel) (pure_row arguments.items)) state.old state.new result }
 {
     match call_function(name, fuel, end, arguments, state) {
-        Ok(tree) => told(*state.making.allocator(), tree),
+        Ok(value) => told(*state.making.allocator(), unboxed(value)),
         Err(stop) => Err(stop),
     }
 }

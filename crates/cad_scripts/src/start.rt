@@ -1,28 +1,28 @@
 // The state in which a program begins.
-ghost use Rattle.std.specs.Prelude.{◌≡◌, map};
-ghost use Rattle.cad_state.specs.Views.{accounts_with, contract_of, program_of, state_over};
+ghost use Rattle.std.specs.Prelude.{◌≡◌, List, map};
+ghost use Rattle.cad_state.specs.Views.{accounts_over, contract_of, program_of, state_over};
 ghost use Rattle.cad_world.specs.Begin.{begun};
-ghost use Rattle.cad_world.specs.State.{World};
+ghost use Rattle.cad_world.specs.State.{Account, World};
 
 use cad_declarations::Checked;
 use cad_rows::Place;
-use cad_state::{Account, Call, Contract, Hints, RunState};
+use cad_state::{Accounts, Call, Contract, Hints, RunState};
 use cad_syntax::{Numbers, TypeIds};
 use cad_values::Value;
 use std::alloc::Global;
 use std::rc::Rc;
 
-/// The state in which a program begins, over these accounts (where it has none, it leaves them as they are) and beside these contracts,
+/// The state in which a program begins, over these accounts (those that it doesn't know stay as they are) and beside these contracts,
 /// with so many units. It takes no memory.
 pub fn begin(
     alloc: Global,
     checked: Rc<Checked>,
-    accounts: Option<Vec<Account>>,
+    accounts: Accounts,
     contracts: Vec<Contract>,
     next_identity: u64,
     units: u64,
 ) -> RunState
-    ensures { (w : World) → w.accounts ≡ accounts_with (λ all. all) w.accounts accounts → w.contracts ≡ map contract_of contracts.items → w.next_identity ≡ next_identity → state_over w.accounts result ≡ begun (program_of checked.value) units w }
+    ensures { (base : List Account) (w : World) → w.accounts ≡ accounts_over base accounts → w.contracts ≡ map contract_of contracts.items → w.next_identity ≡ next_identity → state_over base result ≡ begun (program_of checked.value) units w }
 {
     RunState {
         calls: Vec::<Call>::new(alloc),
@@ -40,5 +40,6 @@ pub fn begin(
         depth: 0,
         hints: Hints::new(alloc),
         asked: None,
+        wanted: None,
     }
 }

@@ -1,9 +1,9 @@
 -- How far a generated session has come.
-use Rattle.std.proofs.Common.{◌≡◌, ℕ, suc, ◌≤◌, ◌<◌, ◌+◌, List, [], ◌∷◌, ◌++◌, length, take, get_or, Some, unwrap_or, refl, sym, ◌∙◌, ap, subst, arith, append_assoc}
-use Rattle.std.proofs.lemmas.List.{append-nil, take_more, take_all}
+use Rattle.std.proofs.Common.{◌≡◌, ℕ, suc, ◌<◌, ◌+◌, List, [], ◌∷◌, ◌++◌, length, take, get_or, Some, unwrap_or, refl, sym, ◌∙◌, ap, subst, arith, append_assoc}
+use Rattle.std.proofs.lemmas.List.{take_more}
 use Rattle.serde_json.specs.Data.{Data}
 use Rattle.cad_accounts.specs.Registers.{Map, folded, no_registers}
-use Rattle.cad_generation.specs.Lines.{generated, transfers, transfer_of, first_lines}
+use Rattle.cad_generation.specs.Lines.{transfers, transfer_of}
 use Rattle.cad_generation.specs.Numbers.{number, next_number}
 use Rattle.cad_host.specs.Disk.{reads}
 use Rattle.cad_loads.specs.Loads as loads

@@ -13,6 +13,9 @@ pub mod Judgements
 pub mod Receipts
 pub mod Replying
 pub mod Transacting
+pub mod PartLaws
+pub mod OneMoreAccount
+pub mod LeftWorlds
 pub mod Tellings
 pub mod Runs
 pub mod Openings

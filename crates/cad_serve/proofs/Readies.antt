@@ -1,5 +1,5 @@
 -- What is ready in answer to a line.
-use Rattle.std.proofs.Common.{◌≡◌, ◌≢◌, ℕ, ◌≤◌, ◌<◌, true, false, ltb, List, [], ◌∷◌, length, Result, Ok, Err, IfOk, refl, sym, ◌∙◌, ap, subst}
+use Rattle.std.proofs.Common.{◌≡◌, ℕ, ◌≤◌, ◌<◌, true, false, ltb, List, [], length, Result, Ok, Err, IfOk, sym, ◌∙◌, subst}
 use Rattle.std.proofs.lemmas.List.{take_all}
 use Rattle.std.proofs.lemmas.Bool.Decides.{nat_tests}
 use Rattle.std.proofs.Common.{arith}
@@ -16,7 +16,7 @@ use Rattle.cad_runs.specs.Commands.{Command, Reply, failed, bad}
 use Rattle.cad_transaction_replies.specs.Replies as spec
 use Rattle.serde_json.specs.Data.{Data}
 use Rattle.cad_store.specs.declared.store.Store.{Store}
-use Rattle.cad_serve.specs.Answer.{Answers, answer_line, too_long, answered, Does, Commits, unchanged, fits, full, most_bytes}
+use Rattle.cad_serve.specs.Answer.{Answers, too_long, answered, Does, Commits, unchanged, fits, full, most_bytes}
 use Rattle.cad_serve.specs.Held.{longest}
 use Rattle.cad_serve.specs.Code.Held.{Holds}
 use Rattle.cad_serve.specs.Code.Outcomes.{Comes, IsReady, IsSettled, RunsTo}

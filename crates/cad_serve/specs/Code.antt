@@ -1,6 +1,8 @@
 pub mod Views
 pub mod Worlds
+pub mod Parts
 pub mod Outcomes
+pub mod Programs
 pub mod Held
 pub mod Progress
 pub mod Ending

@@ -1,6 +1,7 @@
 //! `serve`: command lines come in over a host, and one reply line goes out for each.
 #![tactic(auto)]
 
+mod attempts;
 mod commands;
 mod counting;
 mod deploys;
@@ -10,7 +11,9 @@ mod laws;
 mod line;
 mod making;
 mod outcome;
+mod parts;
 mod prepare;
+mod reach;
 mod reply;
 mod scripts;
 mod serving;

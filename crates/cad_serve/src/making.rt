@@ -1,27 +1,28 @@
 // One account more.
-ghost use Rattle.std.specs.Prelude.{◌≡◌, ◌<◌, IfOk, OnOk, length};
+ghost use Rattle.std.specs.Prelude.{◌≡◌, ◌<◌, IfOk, OnOk};
 ghost use Rattle.cad_runs.specs.Commands as runs;
 ghost use Rattle.cad_state.specs.Views.{account_of};
 ghost use Rattle.cad_store.specs.Stores.{held};
 ghost use Rattle.cad_world.specs.Begin.{new_account};
-ghost use Rattle.cad_worlds.specs.Standing.{world_of};
-ghost use Rattle.cad_serve.specs.Answer.{one_more};
+ghost use Rattle.cad_world.specs.State as definition;
+ghost use Rattle.cad_worlds.specs.Standing.{StandsFor};
 ghost use Rattle.cad_serve.specs.Code.Outcomes.{Comes};
+ghost use Rattle.cad_serve.specs.Code.Parts.{HasOneMore};
 
 use crate::outcome::Outcome;
+use crate::parts::{part_changes_to, part_in};
 use crate::reply::Reply;
-use crate::worlds::changes_to;
 use cad_loading::Programs;
 use cad_rows::Place;
 use cad_script_replies::Unfinished;
-use cad_state::{Account, Controller, Publication, discard_account};
+use cad_state::{Account, Controller, Known, Publication, discard_account};
 use cad_store::Store;
 use cad_syntax::{Address, Name};
-use cad_worlds::{World, discard_world};
+use cad_worlds::{WorldPart, discard_part};
 use std::alloc::{AllocError, Global};
 
 /// How many accounts there may be.
-const MOST_ACCOUNTS: usize = 1_000_000;
+const MOST_ACCOUNTS: u64 = 1_000_000;
 
 // An account in which nothing is. It takes no memory.
 fn new_account(alloc: Global) -> Account
@@ -36,28 +37,38 @@ fn new_account(alloc: Global) -> Account
     }
 }
 
-// Adds an account.
-fn add_account(alloc: Global, world: &mut World) -> Result<(), AllocError>
-    ensures { OnOk result (world_of world.new ≡ one_more (world_of world.old)) }
+// Adds an account, which is known.
+fn add_account(alloc: Global, part: &mut WorldPart) -> Result<(), AllocError>
+    requires { part.old.count < 1000000 }
+    ensures { OnOk result (HasOneMore part.old part.new) }
 {
-    match world.accounts.push(new_account(alloc)) {
-        Ok(()) => Ok(()),
+    let one = Known {
+        index: part.count,
+        account: new_account(alloc),
+    };
+    match part.known.push(one) {
+        Ok(()) => {
+            part.count += 1;
+            Ok(())
+        }
         Err(refused) => {
-            discard_account(refused.value);
+            let Known { index: _, account } = refused.value;
+            discard_account(account);
             Err(AllocError)
         }
     }
 }
 
-// A World with one account more.
-fn with_account(alloc: Global, world: World) -> Result<World, AllocError>
-    ensures { IfOk result (λ new. world_of new ≡ one_more (world_of world)) }
+// A part of a World with one account more.
+fn with_account(alloc: Global, part: WorldPart) -> Result<WorldPart, AllocError>
+    requires { part.count < 1000000 }
+    ensures { IfOk result (λ new. HasOneMore part new) }
 {
-    let mut new = world;
+    let mut new = part;
     match add_account(alloc, &mut new) {
         Ok(()) => Ok(new),
         Err(error) => {
-            discard_world(new);
+            discard_part(new);
             Err(error)
         }
     }
@@ -68,16 +79,16 @@ pub fn account_outcome(
     alloc: Global,
     programs: &mut Programs,
     store: &Store,
-    world: World,
 ) -> Result<Outcome, Unfinished>
-    ensures { IfOk result (λ o. Comes o (held store.now) (world_of world) runs.account) }
+    ensures { IfOk result (λ o. (w : definition.World) → StandsFor (held store.now) w → Comes o (held store.now) w runs.account) }
 {
-    let count = world.accounts.len();
+    let part = part_in(alloc, programs, store, &[])?;
+    let count = part.count;
     if count >= MOST_ACCOUNTS {
-        discard_world(world);
+        discard_part(part);
         return Ok(Outcome::Stays(Reply::Failed(127)));
     }
-    let new = with_account(alloc, world)?;
-    let changes = changes_to(alloc, programs, store, new)?;
-    Ok(Outcome::Leads(Reply::Account(Address(count as u64 + 1)), changes))
+    let new = with_account(alloc, part)?;
+    let changes = part_changes_to(alloc, programs, store, new)?;
+    Ok(Outcome::Leads(Reply::Account(Address(count + 1)), changes))
 }

@@ -1,25 +1,26 @@
 // Scripts that run.
-ghost use Rattle.std.specs.Prelude.{◌≤◌, IfOk, List, ℕ, None, map};
+ghost use Rattle.std.specs.Prelude.{◌≡◌, ◌≤◌, IfOk, List, ℕ, map};
 ghost use Rattle.serde_json.specs.Data.{Data};
 ghost use Rattle.serde_json.specs.View.{view};
-ghost use Rattle.cad_acceptance.specs.Acceptance.{AcceptsText, checked_of};
+ghost use Rattle.cad_accounts.specs.Registers.{Map};
 ghost use Rattle.cad_fronts.specs.Views.{front_of};
 ghost use Rattle.cad_loads.specs.Fronts.{IsRight};
 ghost use Rattle.cad_runs.specs.Commands as runs;
 ghost use Rattle.cad_script_replies.specs.Views as script;
-ghost use Rattle.cad_world.specs.Begin.{IsKept};
-ghost use Rattle.cad_worlds.specs.Standing.{world_of};
-ghost use Rattle.cad_serve.specs.Answer.{RunsScript, beside};
+ghost use Rattle.cad_world.specs.State as definition;
+ghost use Rattle.cad_worlds.specs.Standing.{StandsFor};
+ghost use Rattle.cad_serve.specs.Code.Outcomes.{Comes};
+ghost use Rattle.cad_serve.specs.Code.Programs.{IsProgram, IsToldOf};
 ghost use Rattle.cad_serve.specs.Code.Views.{Tells};
 
-use crate::judging::verdict_of;
+use crate::outcome::Outcome;
 use crate::reply::Reply;
 use cad_declarations::Checked;
 use cad_fronts::Verdicts;
-use cad_script_replies::{ScriptReply, Unfinished, answer};
-use cad_worlds::{World, discard_world};
+use cad_script_replies::{RunWorld, ScriptReply, Unfinished, answer_over};
 use serde_json::Value as Json;
 use std::alloc::Global;
+use std::rc::Rc;
 
 /// The reply to what a script replies, or a transaction that leaves the World.
 pub fn reply_of(reply: ScriptReply) -> Reply
@@ -34,48 +35,21 @@ pub fn reply_of(reply: ScriptReply) -> Reply
     }
 }
 
-// The reply to a script that is accepted, by verdicts that are known.
-fn served(
+/// What a script whose code is this program comes to over a World or a part of it, by verdicts that are known. Unknown where it asked
+/// for another verdict, Lacks where it lacked an account.
+pub fn script_outcome(
     alloc: Global,
     verdicts: &Verdicts,
-    checked: Checked,
-    world: World,
+    checked: &Rc<Checked>,
+    world: RunWorld,
     arguments: &[Json],
     limit: u64,
-) -> Result<Reply, Unfinished>
+) -> Result<Outcome, Unfinished>
     requires units { limit ≤ 1000000 }
-    requires kept { IsKept (world_of world) }
     requires right { IsRight (front_of verdicts.now) }
-    ensures { IfOk result (λ reply. (code : List ℕ) → AcceptsText (beside (world_of world)) None code (checked_of checked)
-        → (a : runs.Reply Data) × Tells reply a × RunsScript (world_of world) code (map view arguments.now) limit a) }
+    ensures { IfOk result (λ o. (m : Map) (code : List ℕ) → IsToldOf m world → IsProgram m code checked.now.value → (w : definition.World) → StandsFor m w
+        → Comes o m w (runs.script code (map view arguments.now) limit)) }
 {
-    let reply = answer(alloc, verdicts, checked, world, arguments, limit)?;
-    Ok(reply_of(reply))
-}
-
-/// The reply to a script, by verdicts that are known. Unknown where it asked for another.
-pub fn script_reply(
-    alloc: Global,
-    verdicts: &Verdicts,
-    world: World,
-    code: &str,
-    arguments: &[Json],
-    limit: u64,
-) -> Result<Reply, Unfinished>
-    requires units { limit ≤ 1000000 }
-    requires kept { IsKept (world_of world) }
-    requires right { IsRight (front_of verdicts.now) }
-    ensures { IfOk result (λ reply. (a : runs.Reply Data) × Tells reply a × RunsScript (world_of world) code.now (map view arguments.now) limit a) }
-{
-    match verdict_of(alloc, &world, None, code) {
-        Ok(Ok(checked)) => served(alloc, verdicts, checked, world, arguments, limit),
-        Ok(Err(rejected)) => {
-            discard_world(world);
-            Ok(Reply::Rejected(rejected))
-        }
-        Err(_) => {
-            discard_world(world);
-            Err(Unfinished::Memory)
-        }
-    }
+    let reply = answer_over(alloc, verdicts, checked, world, arguments, limit)?;
+    Ok(Outcome::Stays(reply_of(reply)))
 }

@@ -1,17 +1,22 @@
 // Worlds, as a store holds them.
 ghost use Rattle.std.specs.Prelude.{◌≡◌, true, map, IfOk, IfSome, IfNone};
 ghost use Rattle.cad_accounts.specs.Registers.{at, are_rising};
+ghost use Rattle.cad_script_replies.specs.Worlds.{run_world};
 ghost use Rattle.cad_store.specs.Stores.{held};
 ghost use Rattle.cad_world.specs.Registers.{registers};
 ghost use Rattle.cad_world.specs.State as definition;
 ghost use Rattle.cad_worlds.specs.Standing.{Becomes, StandsFor, coding, register_of, world_of};
 ghost use Rattle.cad_serve.specs.Code.Worlds.{AreSound, LeadsOn};
 
+use crate::parts::{part_changes_to, part_in};
+use crate::reach::Reach;
 use cad_accounts::{Changes, Row};
 use cad_loading::{Programs, discard_kept, nothing_kept};
+use cad_script_replies::{RunWorld, Unfinished, of_part, of_world};
+use cad_state::Accounts;
 use cad_store::{Judge, Store};
-use cad_world_reading::{known_world, read_world};
-use cad_worlds::{World, changes, discard_world, registers_of};
+use cad_world_reading::{known_world, one_world, read_world};
+use cad_worlds::{World, WorldPart, changes, discard_world, registers_of};
 use std::alloc::{AllocError, Global};
 
 // The World that a store holds; None where its registers stand for none. The codes of its contracts are checked.
@@ -51,6 +56,33 @@ pub fn world_in(alloc: Global, programs: &mut Programs, store: &Store) -> Result
     known_world(alloc, programs, store.rows())
 }
 
+// The same for a run.
+fn all_in(alloc: Global, programs: &mut Programs, store: &Store) -> Result<RunWorld, AllocError>
+    requires { AreSound (held store.now) }
+    ensures { IfOk result (λ world. (w : definition.World) → StandsFor (held store.now) w → run_world w.accounts world ≡ w) }
+{
+    one_world();
+    let world = world_in(alloc, programs, store)?;
+    Ok(of_world(world))
+}
+
+/// What a store tells of its World to a run that knows some accounts, or all.
+pub fn world_for(
+    alloc: Global,
+    programs: &mut Programs,
+    store: &Store,
+    reach: &Reach,
+) -> Result<RunWorld, AllocError>
+    requires { AreSound (held store.now) }
+    ensures { IfOk result (λ world. (w : definition.World) → StandsFor (held store.now) w → run_world w.accounts world ≡ w) }
+{
+    if reach.is_whole {
+        return all_in(alloc, programs, store);
+    }
+    let part = part_in(alloc, programs, store, reach.wanted.as_slice())?;
+    Ok(of_part(part))
+}
+
 // The registers of a World, which is let go.
 fn written(alloc: Global, world: World) -> Result<Vec<Row>, AllocError>
     ensures { IfOk result (λ rows. map register_of rows.items ≡ registers coding (world_of world)) }
@@ -87,4 +119,40 @@ pub fn changes_to(
 {
     let rows = rows_of(alloc, programs, world)?;
     changes(alloc, store.rows(), rows)
+}
+
+/// The same of a run that knew all accounts, or some.
+pub fn run_changes_to(
+    alloc: Global,
+    programs: &mut Programs,
+    store: &Store,
+    world: RunWorld,
+) -> Result<Changes, Unfinished>
+    ensures { IfOk result (λ changes. (w : definition.World) → StandsFor (held store.now) w → LeadsOn (held store.now) (run_world w.accounts world) changes) }
+{
+    let RunWorld {
+        accounts,
+        contracts,
+        next_identity,
+    } = world;
+    match accounts {
+        Accounts::All(accounts) => {
+            let all = World {
+                accounts,
+                contracts,
+                next_identity,
+            };
+            let changes = changes_to(alloc, programs, store, all)?;
+            Ok(changes)
+        }
+        Accounts::Part { count, known } => {
+            let part = WorldPart {
+                count,
+                known,
+                contracts,
+                next_identity,
+            };
+            part_changes_to(alloc, programs, store, part)
+        }
+    }
 }

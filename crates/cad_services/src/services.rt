@@ -20,6 +20,7 @@ use crate::values::value_member;
 use cad_outcomes::Stop;
 use cad_receivers::Settled;
 use cad_rows::{Place, Tree, discard_row};
+use cad_run_accounts::know;
 use cad_state::RunState;
 use cad_syntax::{Address, CadType};
 use cad_types::Builtin;
@@ -44,6 +45,25 @@ fn held_member(
     }
 }
 
+/// The same, once the run has the account; memory fails where it doesn't.
+fn known_member(
+    state: &mut RunState,
+    held: Held,
+    types: &[CadType],
+    arguments: Vec<Place>,
+    address: Address,
+) -> Result<Tree, Stop>
+    ensures { FindsAndCarriesOut pure_tree (code.held_member held (map (λ t. pure_type t) types.now) (pure_row arguments.items) address) state.old state.new result }
+{
+    match know(state, address) {
+        Ok(()) => held_member(state, held, types, arguments, address),
+        Err(_) => {
+            discard_row(arguments);
+            Err(Stop::Memory)
+        }
+    }
+}
+
 /// A member of the account, or of a part of it, that a receiver that was settled is.
 fn of_account(
     state: &mut RunState,
@@ -55,7 +75,7 @@ fn of_account(
     ensures { FindsAndCarriesOut pure_tree (at_spot (settled_of receiver.entry) (λ spot. on_account (groups.part_of held) spot (code.held_member held (map (λ t. pure_type t) types.now) (pure_row arguments.items)))) state.old state.new result }
 {
     match address_of(state, part_of(held), receiver) {
-        Ok(address) => held_member(state, held, types, arguments, address),
+        Ok(address) => known_member(state, held, types, arguments, address),
         Err(stop) => {
             discard_row(arguments);
             Err(stop)

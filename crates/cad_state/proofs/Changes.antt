@@ -1,8 +1,6 @@
 -- The node with a label is changed where a way leads to it: so the state is changed as the definition changes it by the label.
 use Rattle.std.proofs.Common.{◌≡◌, ℕ, zero, suc, ◌+◌, ◌≤◌, List, [], ◌∷◌, map, reverse, Option, Some, None, refl, sym, ap, ◌∙◌, true, true≢false, arith, option_map}
 use Rattle.std.specs.Prelude.{slice_get}
-use Rattle.std.specs.declared.alloc.Global.{Global}
-use Rattle.std.specs.declared.vec.Vec.{Vec}
 use Rattle.std.proofs.lemmas.Option.{slice_get-map}
 use mathlib.Core.List.{reverse_aux}
 use Rattle.cad_world.specs.Labels.{on_frame, on_account, on_contract, with_node}
@@ -11,16 +9,18 @@ use Rattle.cad_world.specs.State.{Account, Contract, Frame}
 use Rattle.cad_labels.proofs.Marks.{mark, marks_mark}
 use Rattle.cad_labels.proofs.States.{frame_rows, account_rows, contract_rows, total, whole}
 use Rattle.cad_rows.specs.Views.{pure_row}
-use Rattle.cad_state.specs.Views.{state_over, account_of, accounts_with, held, frame_of, contract_of, IsReady}
-use Rattle.cad_state.specs.Ways.{is_there, at_index, in_variables, in_before, in_result, in_stored, in_value, with_row}
+use Rattle.cad_state.specs.Views.{state_over, account_of, accounts_over, frame_of, contract_of, IsReady}
+use Rattle.cad_state.specs.Ways.{is_there, account_in, if_held, at_index, in_variables, in_before, in_result, in_stored, in_value, with_row}
 use Rattle.cad_state.specs.declared.hints.Root.TheVariants as root
 use Rattle.cad_state.specs.declared.state.Account.{Account as AccountCode}
+use Rattle.cad_state.specs.declared.state.Accounts.{Accounts}
 use Rattle.cad_state.specs.declared.state.Call.{Call}
 use Rattle.cad_state.specs.declared.state.Contract.{Contract as ContractCode}
 use Rattle.cad_state.specs.declared.state.RunState.{RunState}
 use Rattle.cad_rows.specs.Exchanges.{exchanged}
 use Rattle.cad_rows.specs.Laws.{IsTheNode}
 use Rattle.cad_rows.specs.Ways.{node_at}
+use Rattle.cad_state.proofs.Holding.{held_get}
 use Rattle.cad_state.proofs.Nodes.{some_marked, unchanged}
 use Rattle.cad_state.proofs.Standing.{once_whole, row_mark}
 
@@ -78,7 +78,7 @@ frames_one p sh k h (g ∷ fs) (suc i) f e d one most =
     head_of x [] = x
     head_of x (y ∷ ys) = y
 
-account_marked : (q : ℕ) (gs : List Account) (n : ℕ) (x : Account) → slice_get gs n ≡ Some x → mark q x.stored ≤ total q (account_rows gs)
+pub account_marked : (q : ℕ) (gs : List Account) (n : ℕ) (x : Account) → slice_get gs n ≡ Some x → mark q x.stored ≤ total q (account_rows gs)
 account_marked q [] n x r = absurd (true≢false (ap is_there (sym r)))
 account_marked q (y ∷ gs) zero x r = omega (arith, ap (λ (z : Account). mark q z.stored) (ap (or_else x) r))
 account_marked q (y ∷ gs) (suc n) x r = omega (arith, account_marked q gs n x r)
@@ -97,20 +97,16 @@ accounts_one p sh k h (b ∷ all) (suc i) c e d one most =
     let rest : map (on_account (changed p sh k)) all ≡ at_index i h all = accounts_one p sh k h all i c e d one (omega (arith, most)) in
     λ j. record b { stored = v j } ∷ rest j
 
--- in those that the run has
-held_marked : (q : ℕ) (w : List Account) (o : Option (Vec AccountCode Global)) (i : ℕ) (c : AccountCode) → slice_get (held o) i ≡ Some c
-    → mark q (pure_row c.stored.items) ≤ total q (account_rows (accounts_with (λ all. all) w o))
-unfolding accounts_with
-held_marked q w None i c e = absurd (true≢false (ap is_there (sym e)))
-held_marked q w (Some all) i c e = account_marked q (map account_of all.items) i (account_of c) (slice_get-map account_of all.items i ∙ ap (option_map account_of) e)
+-- in one that the run has
+held_marked : (q : ℕ) (w : List Account) (all : Accounts) (i : ℕ) (c : AccountCode) → account_in all i ≡ Some c → mark q (pure_row c.stored.items) ≤ total q (account_rows (accounts_over w all))
+held_marked q w all i c e = account_marked q (accounts_over w all) i (account_of c) (held_get w all i c e)
 
-held_one : (p : ℕ) (sh : NodeShape) (k : Row) (h : Account → Account) (w : List Account) (o : Option (Vec AccountCode Global)) (i : ℕ) (c : AccountCode) → slice_get (held o) i ≡ Some c
-    → on_account (changed p sh k) (account_of c) ≡ h (account_of c) → 1 ≤ mark p (pure_row c.stored.items) → total p (account_rows (accounts_with (λ all. all) w o)) ≤ 1
-    → map (on_account (changed p sh k)) (accounts_with (λ all. all) w o) ≡ accounts_with (at_index i h) w o
-unfolding accounts_with
-held_one p sh k h w None i c e d one most = absurd (true≢false (ap is_there (sym e)))
-held_one p sh k h w (Some all) i c e d one most =
-    accounts_one p sh k h (map account_of all.items) i (account_of c) (slice_get-map account_of all.items i ∙ ap (option_map account_of) e) d one most
+held_one : (p : ℕ) (sh : NodeShape) (k : Row) (h : Account → Account) (w : List Account) (all : Accounts) (i : ℕ) (c : AccountCode) → account_in all i ≡ Some c
+    → on_account (changed p sh k) (account_of c) ≡ h (account_of c) → 1 ≤ mark p (pure_row c.stored.items) → total p (account_rows (accounts_over w all)) ≤ 1
+    → map (on_account (changed p sh k)) (accounts_over w all) ≡ if_held (account_in all i) (at_index i h) (accounts_over w all)
+held_one p sh k h w all i c e d one most =
+    accounts_one p sh k h (accounts_over w all) i (account_of c) (held_get w all i c e) d one most
+    ∙ ap (λ o. if_held o (at_index i h) (accounts_over w all)) (sym e)
 
 contract_marked : (q : ℕ) (gs : List Contract) (n : ℕ) (x : Contract) → slice_get gs n ≡ Some x → mark q x.value ≤ total q (contract_rows gs)
 contract_marked q [] n x r = absurd (true≢false (ap is_there (sym r)))
@@ -221,7 +217,7 @@ making_changed only w x p sh k ds f ready e d =
     let v : map (on_contract (changed p sh k)) (map contract_of x.contracts.items) ≡ map contract_of x.contracts.items = contracts_same p sh k (map contract_of x.contracts.items) (omega (arith, all, one)) in
     λ j. record (state_over w x) { frames = sym a j; making = b j; accounts = sym c j; contracts = sym v j }
 
-pub stored_changed : IsTheNode → (w : List Account) (x : RunState) (p : ℕ) (sh : NodeShape) (k : Row) (ds : List ℕ) (i : ℕ) (c : AccountCode) (f : Found) → IsReady w x → slice_get (held x.accounts) i ≡ Some c
+pub stored_changed : IsTheNode → (w : List Account) (x : RunState) (p : ℕ) (sh : NodeShape) (k : Row) (ds : List ℕ) (i : ℕ) (c : AccountCode) (f : Found) → IsReady w x → account_in x.accounts i ≡ Some c
     → node_at ds (pure_row c.stored.items) ≡ Some f → is_one_of p f.labels ≡ true → with_row (root.Stored i) (exchanged ds sh k) w x ≡ with_node p sh k (state_over w x)
 stored_changed only w x p sh k ds i c f ready q e d =
     let all : whole p (state_over w x) ≤ 1 = once_whole p (state_over w x) ready.once in
@@ -231,7 +227,7 @@ stored_changed only w x p sh k ds i c f ready q e d =
     let by : exchanged ds sh k (pure_row c.stored.items) ≡ changed p sh k (pure_row c.stored.items) = by_way only p ds sh k (pure_row c.stored.items) f e d most in
     let a : map (on_frame (changed p sh k)) (reverse (map frame_of x.calls.items)) ≡ reverse (map frame_of x.calls.items) = frames_same p sh k (reverse (map frame_of x.calls.items)) (omega (arith, all, one, inner)) in
     let b : changed p sh k (pure_row x.making.items) ≡ pure_row x.making.items = unchanged p sh k (pure_row x.making.items) (omega (arith, all, one, inner)) in
-    let u : map (on_account (changed p sh k)) (state_over w x).accounts ≡ accounts_with (at_index i (in_stored (exchanged ds sh k))) w x.accounts =
+    let u : map (on_account (changed p sh k)) (state_over w x).accounts ≡ if_held (account_in x.accounts i) (at_index i (in_stored (exchanged ds sh k))) (accounts_over w x.accounts) =
     held_one p sh k (in_stored (exchanged ds sh k)) w x.accounts i c q (λ j. record (account_of c) { stored = sym by j }) one (omega (arith, all)) in
     let v : map (on_contract (changed p sh k)) (map contract_of x.contracts.items) ≡ map contract_of x.contracts.items = contracts_same p sh k (map contract_of x.contracts.items) (omega (arith, all, one, inner)) in
     λ j. record (state_over w x) { frames = sym a j; making = sym b j; accounts = sym u j; contracts = sym v j }

@@ -1,8 +1,6 @@
 -- The rows of a state in which each label stands once: what is found in one of them, and what changes there.
 use Rattle.std.proofs.Common.{◌≡◌, ◌⊎◌, inl, inr, ℕ, zero, suc, ◌+◌, ◌≤◌, ◌<◌, Bool, true, false, if◌then◌else◌, List, [], ◌∷◌, ◌++◌, map, reverse, Option, Some, None, refl, sym, ap, subst, ◌∙◌, true≢false, arith, option_map, length, drop}
 use Rattle.std.specs.Prelude.{slice_get, nat_lt, IfSome}
-use Rattle.std.specs.declared.alloc.Global.{Global}
-use Rattle.std.specs.declared.vec.Vec.{Vec}
 use mathlib.Core.List.{reverse-cons}
 use Rattle.cad_world.specs.Labels.{at, found_in_frames, found_in_accounts, found_in_contracts}
 use Rattle.cad_world.specs.Marks.{AreGivenOnce}
@@ -14,17 +12,19 @@ use Rattle.cad_rows.specs.Views.{pure_row}
 use Rattle.cad_rows.specs.Ways.{pure_node}
 use Rattle.cad_rows.specs.declared.found.Node.{Node}
 use Rattle.cad_rows.specs.declared.tree.Place.{Place}
-use Rattle.cad_state.specs.Views.{state_over, account_of, accounts_with, held, frame_of, contract_of, IsReady}
-use Rattle.cad_state.specs.Ways.{is_there, row_at, reached, found_in, if_labelled, Stands, NotIn}
+use Rattle.cad_state.specs.Views.{state_over, account_of, accounts_over, frame_of, contract_of, IsReady}
+use Rattle.cad_state.specs.Ways.{is_there, account_in, count_in, index_in, row_at, reached, found_in, if_labelled, Stands, NotIn, NotStored}
 use Rattle.cad_state.specs.declared.hints.Way.{Way}
 use Rattle.cad_state.specs.declared.hints.Root.{Root}
 use Rattle.cad_state.specs.declared.hints.Root.TheVariants as root
 use Rattle.cad_state.specs.declared.state.Account.{Account as AccountCode}
+use Rattle.cad_state.specs.declared.state.Accounts.{Accounts}
 use Rattle.cad_state.specs.declared.state.Call.{Call}
 use Rattle.cad_state.specs.declared.state.Contract.{Contract as ContractCode}
 use Rattle.cad_state.specs.declared.state.RunState.{RunState}
 use Rattle.cad_rows.specs.Laws.{IsTheNode}
 use Rattle.cad_labels.proofs.Marks.{marks_mark}
+use Rattle.cad_state.proofs.Holding.{held_get, each_held, one_more, not_held}
 use Rattle.cad_state.proofs.Nodes.{either_assoc, some_marked}
 
 -- ---- a list of rows
@@ -126,21 +126,18 @@ in_call r (d ∷ cs) zero c e w = subst (Within r) (sym (turned_rows (frame_of d
 in_call r (d ∷ cs) (suc i) c e w = subst (Within r) (sym (turned_rows (frame_of d) (map frame_of cs)))
     (in_first r (frame_rows (reverse (map frame_of cs))) (frame_rows (frame_of d ∷ [])) (in_call r cs i c e w))
 
-in_account : (r : Row) (cs : List AccountCode) (i : ℕ) (c : AccountCode) → slice_get cs i ≡ Some c → pure_row c.stored.items ≡ r → Within r (account_rows (map account_of cs))
-in_account r [] i c e w = absurd (true≢false (ap is_there (sym e)))
-in_account r (d ∷ cs) zero c e w = inl (ap row_of e ∙ w)
+in_accounts : (r : Row) (all : List Account) (i : ℕ) (a : Account) → slice_get all i ≡ Some a → a.stored ≡ r → Within r (account_rows all)
+in_accounts r [] i a e w = absurd (true≢false (ap is_there (sym e)))
+in_accounts r (b ∷ all) zero a e w = inl (ap row_of e ∙ w)
   where
-    row_of : Option AccountCode → Row
+    row_of : Option Account → Row
     row_of None = r
-    row_of (Some x) = pure_row x.stored.items
-in_account r (d ∷ cs) (suc i) c e w = inr (in_account r cs i c e w)
+    row_of (Some x) = x.stored
+in_accounts r (b ∷ all) (suc i) a e w = inr (in_accounts r all i a e w)
 
 -- in one that the run has
-in_held : (w : List Account) (r : Row) (o : Option (Vec AccountCode Global)) (i : ℕ) (c : AccountCode) → slice_get (held o) i ≡ Some c → pure_row c.stored.items ≡ r
-    → Within r (account_rows (accounts_with (λ all. all) w o))
-unfolding accounts_with
-in_held w r None i c e d = absurd (true≢false (ap is_there (sym e)))
-in_held w r (Some all) i c e d = in_account r all.items i c e d
+in_held : (w : List Account) (r : Row) (all : Accounts) (i : ℕ) (c : AccountCode) → account_in all i ≡ Some c → pure_row c.stored.items ≡ r → Within r (account_rows (accounts_over w all))
+in_held w r all i c e d = in_accounts r (accounts_over w all) i (account_of c) (held_get w all i c e) d
 
 in_contract : (r : Row) (cs : List ContractCode) (i : ℕ) (c : ContractCode) → slice_get cs i ≡ Some c → pure_row c.value.items ≡ r → Within r (contract_rows (map contract_of cs))
 in_contract r [] i c e w = absurd (true≢false (ap is_there (sym e)))
@@ -176,9 +173,9 @@ stands_in w x (root.Result i) ps e = go (slice_get x.calls.items i) refl e
         (in_call (pure_row ps) x.calls.items i c q (inr (inr (inl (ap (λ o. pure_row (or_row ps o)) e2)))))
 stands_in w x root.Making ps e = in_second (pure_row ps) (frame_rows (reverse (map frame_of x.calls.items))) (pure_row x.making.items ∷ (account_rows (state_over w x).accounts ++ contract_rows (map contract_of x.contracts.items)))
     (inl (ap (λ o. pure_row (or_row ps o)) e))
-stands_in w x (root.Stored i) ps e = go (slice_get (held x.accounts) i) refl e
+stands_in w x (root.Stored i) ps e = go (account_in x.accounts i) refl e
   where
-    go : (o : Option AccountCode) → slice_get (held x.accounts) i ≡ o → option_map (λ a. a.stored.items) o ≡ Some ps → Within (pure_row ps) (all_rows (state_over w x))
+    go : (o : Option AccountCode) → account_in x.accounts i ≡ o → option_map (λ a. a.stored.items) o ≡ Some ps → Within (pure_row ps) (all_rows (state_over w x))
     go None q e2 = absurd (true≢false (ap is_there (sym e2)))
     go (Some c) q e2 = in_second (pure_row ps) (frame_rows (reverse (map frame_of x.calls.items))) (pure_row x.making.items ∷ (account_rows (state_over w x).accounts ++ contract_rows (map contract_of x.contracts.items)))
         (inr (in_first (pure_row ps) (account_rows (state_over w x).accounts) (contract_rows (map contract_of x.contracts.items)) (in_held w (pure_row ps) x.accounts i c q (ap (λ o. pure_row (or_row ps o)) e2))))
@@ -257,16 +254,11 @@ pub calls_turn : (p : ℕ) (x : RunState) (i j : ℕ) → i < length x.calls.ite
     → found_in_frames p (reverse (map frame_of (drop i x.calls.items))) ≡ None
 calls_turn p x i j h e away none = calls_step p x.calls.items i h away.0 away.1 away.2 (subst (λ k. found_in_frames p (reverse (map frame_of (drop k x.calls.items))) ≡ None) e none)
 
-accounts_step : (p : ℕ) (cs : List AccountCode) (i : ℕ) → i < length cs → found_in p (option_map (λ a. a.stored.items) (slice_get cs i)) ≡ None
-    → found_in_accounts p (map account_of (drop i cs)) ≡ found_in_accounts p (map account_of (drop (suc i) cs))
-accounts_step p [] i h v = absurd (omega (arith, h))
-accounts_step p (c ∷ cs) zero h v = ap (λ o. either o (found_in_accounts p (map account_of cs))) v
-accounts_step p (c ∷ cs) (suc i) h v = accounts_step p cs i (omega (arith, h)) v
-
-pub accounts_turn : (p : ℕ) (x : RunState) (i j : ℕ) → i < length (held x.accounts) → j ≡ suc i → found_in p (row_at (root.Stored i) x) ≡ None
-    → found_in_accounts p (map account_of (drop i (held x.accounts))) ≡ found_in_accounts p (map account_of (held x.accounts))
-    → found_in_accounts p (map account_of (drop j (held x.accounts))) ≡ found_in_accounts p (map account_of (held x.accounts))
-accounts_turn p x i j h e none is = ap (λ k. found_in_accounts p (map account_of (drop k (held x.accounts)))) e ∙ sym (accounts_step p (held x.accounts) i h none) ∙ is
+pub accounts_turn : (p : ℕ) (x : RunState) (i j r : ℕ) → j ≡ suc i → r ≡ index_in x.accounts i → found_in p (row_at (root.Stored r) x) ≡ None
+    → ((k : ℕ) → k < i → found_in p (row_at (root.Stored (index_in x.accounts k)) x) ≡ None)
+    → (k : ℕ) → k < j → found_in p (row_at (root.Stored (index_in x.accounts k)) x) ≡ None
+accounts_turn p x i j r e at none before =
+    one_more {P = λ k. found_in p (row_at (root.Stored (index_in x.accounts k)) x) ≡ None} i j e (subst (λ k. found_in p (row_at (root.Stored k) x) ≡ None) at none) before
 
 contracts_step : (p : ℕ) (cs : List ContractCode) (i : ℕ) → i < length cs → found_in p (option_map (λ c. c.value.items) (slice_get cs i)) ≡ None
     → found_in_contracts p (map contract_of (drop i cs)) ≡ found_in_contracts p (map contract_of (drop (suc i) cs))
@@ -279,17 +271,10 @@ pub contracts_turn : (p : ℕ) (x : RunState) (i j : ℕ) → i < length x.contr
     → found_in_contracts p (map contract_of (drop j x.contracts.items)) ≡ found_in_contracts p (map contract_of x.contracts.items)
 contracts_turn p x i j h e none is = ap (λ k. found_in_contracts p (map contract_of (drop k x.contracts.items))) e ∙ sym (contracts_step p x.contracts.items i h none) ∙ is
 
--- neither in those that the run has nor in those that count where it has none
-not_held : (w : List Account) (p : ℕ) (o : Option (Vec AccountCode Global)) → found_in_accounts p w ≡ None → found_in_accounts p (map account_of (held o)) ≡ None
-    → found_in_accounts p (accounts_with (λ all. all) w o) ≡ None
-unfolding accounts_with
-not_held w p None a h = a
-not_held w p (Some all) a h = h
-
 -- in all rows
 pub nowhere : (w : List Account) (x : RunState) (p : ℕ) → found_in_accounts p w ≡ None → found_in_frames p (reverse (map frame_of x.calls.items)) ≡ None → found p (pure_row x.making.items) ≡ None
-    → found_in_accounts p (map account_of (held x.accounts)) ≡ None → found_in_contracts p (map contract_of x.contracts.items) ≡ None → at p (state_over w x) ≡ None
-nowhere w x p a f m h c = λ i. either (f i) (either (m i) (either (not_held w p x.accounts a h i) (c i)))
+    → NotStored p x → found_in_contracts p (map contract_of x.contracts.items) ≡ None → at p (state_over w x) ≡ None
+nowhere w x p a f m h c = λ i. either (f i) (either (m i) (either (not_held p w x.accounts a h i) (c i)))
 
 all_dropped : {A : Type 0} (xs : List A) (n : ℕ) → length xs ≤ n → drop n xs ≡ []
 all_dropped [] n h = drop_nil n
@@ -303,8 +288,8 @@ all_dropped (x ∷ xs) (suc n) h = all_dropped xs n (omega (arith, h))
 pub calls_begin : (p : ℕ) (cs : List Call) (n : ℕ) → length cs ≤ n → found_in_frames p (reverse (map frame_of (drop n cs))) ≡ None
 calls_begin p cs n h = ap (λ xs. found_in_frames p (reverse (map frame_of xs))) (all_dropped cs n h)
 
-pub accounts_end : (p : ℕ) (cs : List AccountCode) (n : ℕ) → length cs ≤ n → found_in_accounts p (map account_of (drop n cs)) ≡ found_in_accounts p (map account_of cs) → found_in_accounts p (map account_of cs) ≡ None
-accounts_end p cs n h is = sym is ∙ ap (λ xs. found_in_accounts p (map account_of xs)) (all_dropped cs n h)
+pub accounts_end : (p : ℕ) (x : RunState) (n : ℕ) → count_in x.accounts ≤ n → ((k : ℕ) → k < n → found_in p (row_at (root.Stored (index_in x.accounts k)) x) ≡ None) → NotStored p x
+accounts_end p x n h none = each_held p x.accounts n h none
 
 pub contracts_end : (p : ℕ) (cs : List ContractCode) (n : ℕ) → length cs ≤ n → found_in_contracts p (map contract_of (drop n cs)) ≡ found_in_contracts p (map contract_of cs) → found_in_contracts p (map contract_of cs) ≡ None
 contracts_end p cs n h is = sym is ∙ ap (λ xs. found_in_contracts p (map contract_of xs)) (all_dropped cs n h)

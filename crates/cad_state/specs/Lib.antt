@@ -1,2 +1,4 @@
+pub mod Accounts
 pub mod Views
 pub mod Ways
+pub mod Parts

@@ -1,22 +1,20 @@
--- What the state of a run is: the state of the definition, over accounts that the run leaves as they are where it has none.
-use Rattle.std.specs.Prelude.{◌≡◌, ℕ, List, [], Option, Some, None, Result, map, reverse}
-use Rattle.std.specs.declared.alloc.Global.{Global}
-use Rattle.std.specs.declared.vec.Vec.{Vec}
+-- What the state of a run is: the state of the definition, over accounts that the run leaves as they are where it doesn't know them.
+use Rattle.std.specs.Prelude.{◌≡◌, ℕ, List, None, Result, map, reverse}
 use Rattle.cad_outcomes.specs.Outcomes.{Does}
 use Rattle.cad_outcomes.specs.declared.stop.Stop.{Stop}
 use Rattle.cad_declarations.specs.Views.{tables_of, bodies_of}
 use Rattle.cad_declarations.specs.declared.program.Checked.{Checked}
-use Rattle.cad_syntax.specs.Types.{pure_type}
 use Rattle.cad_values.specs.Values.{pure_value}
 use Rattle.cad_world.specs.Labels.{found_in_accounts}
 use Rattle.cad_world.specs.Marks.{AreGivenOnce}
 use Rattle.cad_world.specs.State as s
 use Rattle.cad_rows.specs.Views.{pure_row}
-use Rattle.cad_state.specs.declared.state.Account.{Account}
+pub use Rattle.cad_state.specs.Accounts.{publication_of, controller_of, account_of}
+use Rattle.cad_state.specs.Parts.{with_known}
+use Rattle.cad_state.specs.declared.state.Accounts.{Accounts}
+use Rattle.cad_state.specs.declared.state.Accounts.TheVariants as v
 use Rattle.cad_state.specs.declared.state.Call.{Call}
 use Rattle.cad_state.specs.declared.state.Contract.{Contract}
-use Rattle.cad_state.specs.declared.state.Controller.{Controller}
-use Rattle.cad_state.specs.declared.state.Publication.{Publication}
 use Rattle.cad_state.specs.declared.state.RunState.{RunState}
 
 abbrev pub program_of : Checked → s.Program
@@ -32,30 +30,10 @@ frame_of x = record {
   result = pure_row x.result.items;
 }
 
-abbrev pub publication_of : Publication → s.Publication
-publication_of x = record { identifier = x.identifier; number = x.number; lent = pure_type x.lent }
-
-abbrev pub controller_of : Controller → s.Controller
-controller_of x = record { number = x.number; borrow = pure_type x.borrow; tag = x.tag; target = x.target }
-
-abbrev pub account_of : Account → s.Account
-account_of x = record {
-  identifiers = x.identifiers.items;
-  stored = pure_row x.stored.items;
-  published = map publication_of x.published.items;
-  controllers = map controller_of x.controllers.items;
-  next_controller = x.next_controller;
-}
-
--- the accounts that the run has
-abbrev pub held : Option (Vec Account Global) → List Account
-held None = []
-held (Some all) = all.items
-
--- those of the state, changed where the run has them; else they are these, as they were
-unfoldable pub accounts_with : (List s.Account → List s.Account) → List s.Account → Option (Vec Account Global) → List s.Account
-accounts_with f accounts None = accounts
-accounts_with f accounts (Some all) = f (map account_of all.items)
+-- all that the run has; or so many, of which those that it doesn't know are as they are among these
+unfoldable pub accounts_over : List s.Account → Accounts → List s.Account
+accounts_over base (v.All all) = map account_of all.items
+accounts_over base (v.Part count known) = with_known base count known.items
 
 abbrev pub contract_of : Contract → s.Contract
 contract_of x = record {
@@ -66,12 +44,12 @@ contract_of x = record {
   is_running = x.is_running;
 }
 
--- the state over these accounts, which count where the run has none
+-- the state over these accounts, which count where the run doesn't know its own
 abbrev pub state_over : List s.Account → RunState → s.State
 state_over accounts x = record {
   frames = reverse (map frame_of x.calls.items);
   making = pure_row x.making.items;
-  accounts = accounts_with (λ all. all) accounts x.accounts;
+  accounts = accounts_over accounts x.accounts;
   contracts = map contract_of x.contracts.items;
   program = program_of x.checked.value;
   events = map pure_value x.events.items;

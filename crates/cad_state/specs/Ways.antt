@@ -1,19 +1,53 @@
--- The rows of a state, the nodes to which ways lead in them, and hints.
-use Rattle.std.specs.Prelude.{◌≡◌, ℕ, zero, suc, ◌%◌, Bool, true, false, if◌then◌else◌, List, [], ◌∷◌, map, reverse, Option, Some, None, slice_get, option_map}
+-- The accounts and rows of a state, the nodes to which ways lead in them, and hints.
+use Rattle.std.specs.Prelude.{◌≡◌, ℕ, zero, suc, ◌%◌, ◌==◌, nat_le, Bool, true, false, if◌then◌else◌, List, [], ◌∷◌, map, length, reverse, Option, Some, None, slice_get, option_map}
 use Rattle.cad_world.specs.Rows.{Row, Found, found, is_one_of, Slot, full, tree_owns}
 use Rattle.cad_world.specs.State as s
 use Rattle.cad_rows.specs.Views.{pure_row}
 use Rattle.cad_rows.specs.Ways.{node_at}
 use Rattle.cad_rows.specs.declared.tree.Place.{Place}
-use Rattle.cad_state.specs.Views.{state_over, accounts_with, held, frame_of, contract_of}
+use Rattle.cad_state.specs.Views.{state_over, accounts_over, frame_of, contract_of}
 use Rattle.cad_state.specs.declared.hints.Root.{Root}
 use Rattle.cad_state.specs.declared.hints.Root.TheVariants as root
 use Rattle.cad_state.specs.declared.hints.Way.{Way}
+use Rattle.cad_state.specs.declared.state.Account.{Account}
+use Rattle.cad_state.specs.declared.state.Accounts.{Accounts}
+use Rattle.cad_state.specs.declared.state.Accounts.TheVariants as v
+use Rattle.cad_state.specs.declared.state.Known.{Known}
 use Rattle.cad_state.specs.declared.state.RunState.{RunState}
 
 abbrev pub is_there : {A : Type 0} → Option A → Bool
 is_there None = false
 is_there (Some a) = true
+
+-- ---- accounts by their indices, the first 0
+
+-- the account that is known of an index
+abbrev pub code_in : List Known → ℕ → Option Account
+code_in [] i = None
+code_in (k ∷ ks) i = if k.index == i then Some k.account else code_in ks i
+
+-- where it stands among those that are known
+abbrev pub place_in : List Known → ℕ → Option ℕ
+place_in [] i = None
+place_in (k ∷ ks) i = if k.index == i then Some 0 else option_map suc (place_in ks i)
+
+-- the account of an index, if the run has it
+abbrev pub account_in : Accounts → ℕ → Option Account
+account_in (v.All all) i = slice_get all.items i
+account_in (v.Part count known) i = if nat_le count i then None else code_in known.items i
+
+-- how many accounts the run has, and the index of each of them
+abbrev pub count_in : Accounts → ℕ
+count_in (v.All all) = length all.items
+count_in (v.Part count known) = length known.items
+
+abbrev pub index_or : ℕ → Option Known → ℕ
+index_or i None = i
+index_or i (Some k) = k.index
+
+abbrev pub index_in : Accounts → ℕ → ℕ
+index_in (v.All all) n = n
+index_in (v.Part count known) n = index_or n (slice_get known.items n)
 
 -- ---- in a state
 
@@ -23,7 +57,7 @@ row_at (root.Variables i) x = option_map (λ c. c.variables.items) (slice_get x.
 row_at (root.Before i) x = option_map (λ c. c.before.items) (slice_get x.calls.items i)
 row_at (root.Result i) x = option_map (λ c. c.result.items) (slice_get x.calls.items i)
 row_at root.Making x = Some x.making.items
-row_at (root.Stored i) x = option_map (λ a. a.stored.items) (slice_get (held x.accounts) i)
+row_at (root.Stored i) x = option_map (λ a. a.stored.items) (account_in x.accounts i)
 row_at (root.Contract i) x = option_map (λ c. c.value.items) (slice_get x.contracts.items i)
 
 -- the node at the end of a way from a row that may not be there
@@ -51,13 +85,18 @@ in_stored g a = record a { stored = g a.stored }
 abbrev pub in_value : (Row → Row) → s.Contract → s.Contract
 in_value g c = record c { value = g c.value }
 
+-- an account changes, if the run has it
+abbrev pub if_held : {A B : Type 0} → Option A → (B → B) → B → B
+if_held None g b = b
+if_held (Some a) g b = g b
+
 -- the state in which one row is changed
 abbrev pub with_row : Root → (Row → Row) → List s.Account → RunState → s.State
 with_row (root.Variables i) g w x = record (state_over w x) { frames = reverse (at_index i (in_variables g) (map frame_of x.calls.items)) }
 with_row (root.Before i) g w x = record (state_over w x) { frames = reverse (at_index i (in_before g) (map frame_of x.calls.items)) }
 with_row (root.Result i) g w x = record (state_over w x) { frames = reverse (at_index i (in_result g) (map frame_of x.calls.items)) }
 with_row root.Making g w x = record (state_over w x) { making = g (pure_row x.making.items) }
-with_row (root.Stored i) g w x = record (state_over w x) { accounts = accounts_with (at_index i (in_stored g)) w x.accounts }
+with_row (root.Stored i) g w x = record (state_over w x) { accounts = if_held (account_in x.accounts i) (at_index i (in_stored g)) (accounts_over w x.accounts) }
 with_row (root.Contract i) g w x = record (state_over w x) { contracts = at_index i (in_value g) (map contract_of x.contracts.items) }
 
 -- ---- by a label
@@ -87,6 +126,10 @@ Stands p x way = (reached way.down.items (row_at way.root x) ≡ found_in p (row
 -- nothing is found in the call of this number
 abbrev pub NotIn : ℕ → RunState → ℕ → Type 0
 NotIn p x i = (found_in p (row_at (root.Variables i) x) ≡ None) × (found_in p (row_at (root.Before i) x) ≡ None) × (found_in p (row_at (root.Result i) x) ≡ None)
+
+-- nothing is found in what is stored in the accounts that the run has
+abbrev pub NotStored : ℕ → RunState → Type 0
+NotStored p x = (i : ℕ) → found_in p (row_at (root.Stored i) x) ≡ None
 
 -- ---- places
 

@@ -1,5 +1,5 @@
 // The state of a run and its parts are let go.
-use crate::state::{Account, Call, Contract, RunState, Unknown};
+use crate::state::{Account, Accounts, Call, Contract, Known, RunState, Unknown};
 use cad_declarations::Checked;
 use cad_discards::discard_checked;
 use cad_rows::{Place, Shape, discard_row, discard_shape};
@@ -82,6 +82,24 @@ pub fn discard_accounts(accounts: Vec<Account>) {
     left.destroy_empty()
 }
 
+/// Lets accounts that are known go.
+pub fn discard_known(known: Vec<Known>) {
+    let mut left = known;
+    while let Some(one) = left.pop() {
+        let Known { index: _, account } = one;
+        discard_account(account);
+    }
+    left.destroy_empty()
+}
+
+/// Lets the accounts of a run go.
+pub fn discard_run_accounts(accounts: Accounts) {
+    match accounts {
+        Accounts::All(all) => discard_accounts(all),
+        Accounts::Part { count: _, known } => discard_known(known),
+    }
+}
+
 /// Lets a contract go.
 pub fn discard_contract(contract: Contract) {
     let Contract {
@@ -134,13 +152,11 @@ pub fn unknown_of(state: RunState) -> Option<Unknown> {
         depth: _,
         hints,
         asked,
+        wanted: _,
     } = state;
     discard_calls(calls);
     discard_row(making);
-    match accounts {
-        Some(all) => discard_accounts(all),
-        None => {}
-    }
+    discard_run_accounts(accounts);
     discard_shared(checked);
     discard_values(events);
     drop(made);

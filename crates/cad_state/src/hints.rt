@@ -11,7 +11,7 @@ pub enum Root {
     Before(usize),
     Result(usize),
     Making,
-    /// What the account with this number stores, the first 0.
+    /// What the account of this index stores, the first 0.
     Stored(usize),
     /// The value of the contract with this number.
     Contract(usize),

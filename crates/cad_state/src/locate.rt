@@ -1,38 +1,65 @@
 // Nodes of the state, found by their labels: the hint is tried first, then all rows.
 ghost use Rattle.std.specs.Prelude.{◌≡◌, ◌<◌, List, Some, None, IfOk, IfSome, MatchOption, length, map, reverse, option_map, vec_len};
 ghost use Rattle.cad_world.specs.Labels as spec;
-ghost use Rattle.cad_world.specs.State.{Account};
+ghost use Rattle.cad_world.specs.State as states;
 ghost use Rattle.cad_rows.specs.Ways.{pure_node};
-ghost use Rattle.cad_state.specs.Views.{state_over, account_of, held, frame_of, contract_of, IsReady};
+ghost use Rattle.cad_state.specs.Views.{state_over, frame_of, contract_of, IsReady};
 ghost use Rattle.cad_state.specs.Ways as ways;
 ghost use Rattle.cad_state.specs.declared.hints.Root.TheVariants as root;
 
 use crate::hints::{Root, Way, hint_index};
-use crate::state::RunState;
+use crate::known::known_account;
+use crate::state::{Account, Accounts, RunState};
 use cad_rows::laws::a_node_with_the_label_is_the_node;
 use cad_rows::{Node, Place, holds_label, node_at, way_to};
 use std::alloc::AllocError;
 
 impl RunState {
     /// How many accounts the run has.
-    fn account_count(&self) -> usize
-        ensures { result ≡ length (held self.now.accounts) }
+    pub fn account_count(&self) -> usize
+        ensures { result ≡ ways.count_in self.now.accounts }
     {
         match &self.accounts {
-            Some(all) => all.len(),
-            None => 0,
+            Accounts::All(all) => all.len(),
+            Accounts::Part { count: _, known } => known.len(),
         }
     }
 
-    /// What the account with this number stores, the first 0.
+    /// The index of one of the accounts that the run has.
+    pub fn account_index(&self, n: usize) -> usize
+        ensures { result ≡ ways.index_in self.now.accounts n }
+    {
+        match &self.accounts {
+            Accounts::All(_) => n,
+            Accounts::Part { count: _, known } => match known.get(n) {
+                Some(one) => one.index as usize,
+                None => n,
+            },
+        }
+    }
+
+    /// The account of an index, if the run has it.
+    pub fn account_of_index(&self, i: usize) -> Option<&Account>
+        ensures { option_map (λ a. a.now) result ≡ ways.account_in self.now.accounts i }
+    {
+        match &self.accounts {
+            Accounts::All(all) => all.get(i),
+            Accounts::Part { count, known } => {
+                let index = i as u64;
+                if *count <= index {
+                    return None;
+                }
+                known_account(known.as_slice(), index)
+            }
+        }
+    }
+
+    /// What the account of an index stores, if the run has it.
     fn stored_row(&self, i: usize) -> Option<&[Place]>
         ensures { option_map (λ r. r.now) result ≡ ways.row_at (root.Stored i) self.now }
     {
-        match &self.accounts {
-            Some(all) => match all.get(i) {
-                Some(account) => Some(account.stored.as_slice()),
-                None => None,
-            },
+        match self.account_of_index(i) {
+            Some(account) => Some(account.stored.as_slice()),
             None => None,
         }
     }
@@ -90,7 +117,7 @@ impl RunState {
 
     /// The node with a label, if its hint leads there; so it does behind `locate`. It takes no memory.
     fn hinted(&self, label: u64) -> Option<Node<'_>>
-        ensures { IfSome result (λ n. (accounts : List Account) → IsReady accounts self.now → spec.at label (state_over accounts self.now) ≡ Some (pure_node n)) }
+        ensures { IfSome result (λ n. (accounts : List states.Account) → IsReady accounts self.now → spec.at label (state_over accounts self.now) ≡ Some (pure_node n)) }
     {
         a_node_with_the_label_is_the_node();
         match self.hints.ways.get(hint_index(label)) {
@@ -143,13 +170,14 @@ impl RunState {
         Ok(None)
     }
 
-    /// The way to the node with a label in what the accounts store.
+    /// The way to the node with a label in what the accounts store that the run has.
     #[tactic(auto, using(crate::proofs::Standing::accounts_turn, crate::proofs::Standing::accounts_end))]
     fn way_in_accounts(&self, label: u64) -> Result<Option<Way>, AllocError>
-        ensures { IfOk result (λ o. MatchOption o (spec.found_in_accounts label (map account_of (held self.now.accounts)) ≡ None) (ways.Stands label self.now)) }
+        ensures { IfOk result (λ o. MatchOption o (ways.NotStored label self.now) (ways.Stands label self.now)) }
     {
-        for i in 0..self.account_count() {
-            if let Some(way) = self.way_in_row(Root::Stored(i), label)? {
+        for n in 0..self.account_count() {
+            let root = Root::Stored(self.account_index(n));
+            if let Some(way) = self.way_in_row(root, label)? {
                 return Ok(Some(way));
             }
         }
@@ -172,7 +200,7 @@ impl RunState {
     /// The way to the node with a label.
     #[tactic(auto, using(crate::proofs::Standing::nowhere))]
     fn way(&self, label: u64) -> Result<Option<Way>, AllocError>
-        ensures { IfOk result (λ o. MatchOption o ((accounts : List Account) → spec.found_in_accounts label accounts ≡ None → spec.at label (state_over accounts self.now) ≡ None) (ways.Stands label self.now)) }
+        ensures { IfOk result (λ o. MatchOption o ((accounts : List states.Account) → spec.found_in_accounts label accounts ≡ None → spec.at label (state_over accounts self.now) ≡ None) (ways.Stands label self.now)) }
     {
         if let Some(way) = self.way_in_calls(label)? {
             return Ok(Some(way));
@@ -191,7 +219,7 @@ impl RunState {
 
     /// The node with a label, by a search in all rows. None too where memory ran out.
     fn searched(&self, label: u64) -> Option<Node<'_>>
-        ensures { IfSome result (λ n. (accounts : List Account) → IsReady accounts self.now → spec.at label (state_over accounts self.now) ≡ Some (pure_node n)) }
+        ensures { IfSome result (λ n. (accounts : List states.Account) → IsReady accounts self.now → spec.at label (state_over accounts self.now) ≡ Some (pure_node n)) }
     {
         a_node_with_the_label_is_the_node();
         match self.way(label) {
@@ -203,7 +231,7 @@ impl RunState {
     /// The node with a label, by its hint or else by a search. None where no node has it, and where memory ran out. Behind
     /// `locate` it takes no memory and no search, unless another label's hint has taken the place of this one's since.
     pub fn node(&self, label: u64) -> Option<Node<'_>>
-        ensures { IfSome result (λ n. (accounts : List Account) → IsReady accounts self.now → spec.at label (state_over accounts self.now) ≡ Some (pure_node n)) }
+        ensures { IfSome result (λ n. (accounts : List states.Account) → IsReady accounts self.now → spec.at label (state_over accounts self.now) ≡ Some (pure_node n)) }
     {
         match self.hinted(label) {
             Some(node) => Some(node),
@@ -213,7 +241,7 @@ impl RunState {
 
     /// Keeps the way to a label's node as its hint.
     fn keep(&mut self, label: u64, way: Way) -> Result<(), AllocError>
-        ensures { (accounts : List Account) → state_over accounts self.new ≡ state_over accounts self.old }
+        ensures { (accounts : List states.Account) → state_over accounts self.new ≡ state_over accounts self.old }
     {
         self.hints.keep(label, way)
     }
@@ -221,8 +249,8 @@ impl RunState {
     /// Whether there is a node with a label. Where there is, its hint leads there from then on.
     #[tactic(auto, using(crate::proofs::Standing::standing_there))]
     pub fn locate(&mut self, label: u64) -> Result<bool, AllocError>
-        ensures same { (accounts : List Account) → state_over accounts self.new ≡ state_over accounts self.old }
-        ensures found { IfOk result (λ b. (accounts : List Account) → IsReady accounts self.old → ways.is_there (spec.at label (state_over accounts self.old)) ≡ b) }
+        ensures same { (accounts : List states.Account) → state_over accounts self.new ≡ state_over accounts self.old }
+        ensures found { IfOk result (λ b. (accounts : List states.Account) → IsReady accounts self.old → ways.is_there (spec.at label (state_over accounts self.old)) ≡ b) }
     {
         if let Some(_) = self.hinted(label) {
             return Ok(true);

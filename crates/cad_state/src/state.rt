@@ -67,6 +67,20 @@ pub struct Account {
     pub next_controller: u64,
 }
 
+/// An account that a run knows, and its place among all, the first 0.
+pub struct Known {
+    pub index: u64,
+    pub account: Account,
+}
+
+/// The accounts of a run.
+pub enum Accounts {
+    /// All, by their addresses, from 1 on.
+    All(Vec<Account>),
+    /// So many, of which it knows some: the others stay as they are.
+    Part { count: u64, known: Vec<Known> },
+}
+
 /// A code that is to be added at an address, and of which the front end says nothing.
 #[derive(Drop)]
 pub struct Question {
@@ -86,8 +100,7 @@ pub struct RunState {
     pub calls: Vec<Call>,
     /// What initializers make, the newest first; fields that aren't set are empty places.
     pub making: Vec<Place>,
-    /// By their addresses, from 1 on. None where the run doesn't have them: it leaves them as they are.
-    pub accounts: Option<Vec<Account>>,
+    pub accounts: Accounts,
     /// Those that were added stand last.
     pub contracts: Vec<Contract>,
     /// What runs.
@@ -108,4 +121,6 @@ pub struct RunState {
     pub hints: Hints,
     /// The code for which the run stopped, where memory failed of it. It isn't a part of what the state is.
     pub asked: Option<Question>,
+    /// The index of the account for which the run stopped, where memory failed of it. It isn't a part of what the state is.
+    pub wanted: Option<u64>,
 }

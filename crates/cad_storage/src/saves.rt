@@ -133,15 +133,9 @@ fn save_arguments(state: &mut RunState, address: Address, row: Vec<Place>) -> Re
 pub fn save(state: &mut RunState, address: Address, row: Vec<Place>) -> Result<Tree, Stop>
     ensures { CarriesOut pure_tree (spec.save (pure_row row.items) address) state.old state.new result }
 {
-    match is_account(state, address) {
-        Ok(true) => save_arguments(state, address, row),
-        Ok(false) => {
-            discard_row(row);
-            Err(Stop::IllTyped)
-        }
-        Err(_) => {
-            discard_row(row);
-            Err(Stop::Memory)
-        }
+    if is_account(state, address) {
+        return save_arguments(state, address, row);
     }
+    discard_row(row);
+    Err(Stop::IllTyped)
 }

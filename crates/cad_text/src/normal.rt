@@ -6,12 +6,15 @@ ghost use Rattle.cad_text.specs.Texts.{normal_form};
 
 use std::alloc::{AllocError, Global};
 use std::cmp::Ordering;
-use unicode_normalization::to_nfc;
+use unicode_normalization::{is_nfc, to_nfc};
 
 /// Whether two texts have one NFC form.
 pub fn equal(alloc: Global, a: &str, b: &str) -> Result<bool, AllocError>
     ensures { IfOk result (λ same. IsTrue same ↔ (normal_form a.now ≡ normal_form b.now)) }
 {
+    if is_nfc(alloc, a)? && is_nfc(alloc, b)? {
+        return Ok(a == b);
+    }
     let left = to_nfc(alloc, a)?;
     let right = to_nfc(alloc, b)?;
     Ok(left.as_str() == right.as_str())

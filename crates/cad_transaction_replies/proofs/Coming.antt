@@ -8,21 +8,21 @@ use Rattle.cad_world.specs.Fronts.{Front}
 use Rattle.cad_world.specs.Rows.{Row}
 use Rattle.cad_world.specs.State.{Program, World}
 use Rattle.cad_transaction_replies.specs.Replies.{Outcome, Comes, Ran, stays}
-use Rattle.cad_transaction_replies.specs.Views.{Tells}
-use Rattle.cad_transaction_replies.specs.declared.outcome.TransactionOutcome.{TransactionOutcome}
+use Rattle.cad_transaction_replies.specs.Views.{TellsOver}
+use Rattle.cad_transaction_replies.specs.declared.outcome.RunOutcome.{RunOutcome}
 
 pub if_ok : {A E : Type 0} {P Q : A → Type 0} (r : Result A E) → ((a : A) → P a → Q a) → IfOk r P → IfOk r Q
 if_ok (Ok a) f h = f a h
 if_ok (Err e) f h = tt
 
 -- what is told is what the program comes to
-abbrev pub IsOutcome : Front → World → Program → List Data → List Address → ℕ → TransactionOutcome → Type 0
-IsOutcome front w p all signers units it = (o : Outcome) × Comes front w p all signers units o × (o ≢ stays (failed 0)) × Tells it o
+abbrev pub IsOutcome : Front → World → Program → List Data → List Address → ℕ → RunOutcome → Type 0
+IsOutcome front w p all signers units it = (o : Outcome) × Comes front w p all signers units o × (o ≢ stays (failed 0)) × TellsOver w.accounts it o
 
 -- what is told is what its run comes to
-abbrev pub RunsTo : Front → World → Program → TransactionBody → Row → List Address → ℕ → TransactionOutcome → Type 0
-RunsTo front w p t r signers units it = (o : Outcome) × Ran front w p t r signers units o × (o ≢ stays (failed 0)) × Tells it o
+abbrev pub RunsTo : Front → World → Program → TransactionBody → Row → List Address → ℕ → RunOutcome → Type 0
+RunsTo front w p t r signers units it = (o : Outcome) × Ran front w p t r signers units o × (o ≢ stays (failed 0)) × TellsOver w.accounts it o
 
 -- a reply without a run
-pub refused_with : {E : Type 0} (P : TransactionOutcome → Type 0) (r : Result TransactionOutcome E) (it : TransactionOutcome) → r ≡ Ok it → P it → IfOk r P
-refused_with P r it is h = subst (λ (x : Result TransactionOutcome _). IfOk x P) (sym is) h
+pub refused_with : {A E : Type 0} (P : A → Type 0) (r : Result A E) (it : A) → r ≡ Ok it → P it → IfOk r P
+refused_with {A} {E} P r it is h = subst (λ (x : Result A E). IfOk x P) (sym is) h

@@ -1,10 +1,18 @@
--- Which accounts are there.
-use Rattle.std.proofs.Common.{◌≡◌, ◌⊎◌, inl, inr, ℕ, zero, suc, ◌≤◌, ◌<◌, ◌==◌, ◌&&◌, Bool, true, false, List, [], ◌∷◌, length, refl, sym, ◌∙◌, arith}
+-- Which accounts are there, and how many.
+use Rattle.std.proofs.Common.{◌≡◌, ◌⊎◌, inl, inr, ℕ, zero, suc, ◌≤◌, ◌<◌, ◌==◌, ◌&&◌, Bool, true, false, List, [], ◌∷◌, length, refl, sym, ap, ◌∙◌, arith}
 use Rattle.std.proofs.lemmas.Bool.Decides.{eqb_tells, nat_tests}
+use Rattle.std.proofs.lemmas.List.{length-map}
+use Rattle.std.specs.Global.{Vec}
 use Rattle.std.specs.Option.{is_some}
 use Rattle.std.specs.Prelude.{nat_le}
+use Rattle.cad_state.specs.Views.{account_of, accounts_over}
+use Rattle.cad_state.specs.declared.state.Account as own
+use Rattle.cad_state.specs.declared.state.Accounts.{Accounts}
+use Rattle.cad_state.specs.declared.state.Accounts.TheVariants as v
+use Rattle.cad_state.specs.declared.state.Known.{Known}
 use Rattle.cad_world.specs.Labels.{account_at}
 use Rattle.cad_world.specs.State.{Account}
+use Rattle.cad_worlds.proofs.PartLaws.{length_from}
 
 pub is_there : (all : List Account) (n : ℕ) → 1 ≤ n → n ≤ length all → is_some (account_at all n) ≡ true
 is_there all zero low high = absurd (omega (arith, low))
@@ -54,3 +62,13 @@ same_count a b n m same counts = by b (n == m) (eqb_tells n m) same
     by true y (inl told) e = e ∙ sym told.0
     by false y (inl told) e = e
     by x y (inr told) e = absurd (told.1 counts)
+
+-- ---- how many accounts there are
+
+pub total_all : (base : List Account) (x : Accounts) (all : Vec own.Account) (n : ℕ) → x ≡ v.All all → n ≡ length all.items → n ≡ length (accounts_over base x)
+unfolding accounts_over
+total_all base x all n is e = e ∙ sym (length-map all.items account_of) ∙ ap (λ y. length (accounts_over base y)) (sym is)
+
+pub total_part : (base : List Account) (x : Accounts) (count : ℕ) (known : Vec Known) → x ≡ v.Part count known → count ≡ length (accounts_over base x)
+unfolding accounts_over
+total_part base x count known is = sym (length_from base known.items 0 count) ∙ ap (λ y. length (accounts_over base y)) (sym is)

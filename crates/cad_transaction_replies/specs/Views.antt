@@ -4,9 +4,13 @@ use Rattle.serde_json.specs.Data.{Data, array, Items, no_items, item}
 use Rattle.serde_json.specs.Written.{compact_text}
 use Rattle.cad_runs.specs.Commands.{Reply, ran}
 use Rattle.cad_script_replies.specs.Views as script
+use Rattle.cad_script_replies.specs.Worlds.{run_world}
+use Rattle.cad_world.specs.State.{Account}
 use Rattle.cad_worlds.specs.Standing.{world_of}
 use Rattle.cad_transaction_replies.specs.Replies.{Outcome, stays, leads}
 use Rattle.cad_transaction_replies.specs.declared.outcome.Receipt.{Receipt}
+use Rattle.cad_transaction_replies.specs.declared.outcome.RunOutcome.{RunOutcome}
+use Rattle.cad_transaction_replies.specs.declared.outcome.RunOutcome.TheVariants as over
 use Rattle.cad_transaction_replies.specs.declared.outcome.TransactionOutcome.{TransactionOutcome}
 use Rattle.cad_transaction_replies.specs.declared.outcome.TransactionOutcome.TheVariants as own
 
@@ -22,3 +26,9 @@ abbrev pub Tells : TransactionOutcome → Outcome → Type 0
 Tells (own.Stays reply) (stays a) = script.Tells reply a
 Tells (own.Leads receipt new) (leads a v) = IsReceipt receipt a × (world_of new ≡ v)
 Tells _ _ = ⊥
+
+-- the same, where the accounts that aren't known are as they are among these
+abbrev pub TellsOver : List Account → RunOutcome → Outcome → Type 0
+TellsOver base (over.Stays reply) (stays a) = script.Tells reply a
+TellsOver base (over.Leads receipt new) (leads a v) = IsReceipt receipt a × (run_world base new ≡ v)
+TellsOver base _ _ = ⊥

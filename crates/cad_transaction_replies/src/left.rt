@@ -1,27 +1,27 @@
 // What a run left, as a receipt and a World.
-ghost use Rattle.std.specs.Prelude.{◌≡◌, Ok, List, IfOk, map};
+ghost use Rattle.std.specs.Prelude.{◌≡◌, List, IfOk, map};
 ghost use Rattle.serde_json.specs.Data.{Data, array};
 ghost use Rattle.serde_json.specs.Written.{compact_text};
 ghost use Rattle.cad_json.specs.Told.{told};
 ghost use Rattle.cad_runs.specs.Commands.{ran};
 ghost use Rattle.cad_state.specs.Views.{contract_of, state_over};
 ghost use Rattle.cad_transaction_replies.specs.Replies as spec;
-ghost use Rattle.cad_transaction_replies.specs.Views.{Tells, event_items};
+ghost use Rattle.cad_transaction_replies.specs.Views.{TellsOver, event_items};
 ghost use Rattle.cad_transaction_runs.specs.Left as runs;
 ghost use Rattle.cad_values.specs.Shapes.{declarations};
 ghost use Rattle.cad_values.specs.Values.{pure_value};
+ghost use Rattle.cad_world.specs.Begin.{kept_account};
 ghost use Rattle.cad_world.specs.Shapes.{shapes};
 ghost use Rattle.cad_world.specs.State as machine;
 
 use crate::events::events_json;
-use crate::outcome::{Receipt, TransactionOutcome};
+use crate::outcome::{Receipt, RunOutcome};
 use cad_contract_shapes::sorts_of_contracts;
-use cad_script_replies::Unfinished;
-use cad_state::{Contract, RunState, discard_state, discard_values};
+use cad_script_replies::{RunWorld, Unfinished};
+use cad_state::{Accounts, Contract, RunState, discard_state, discard_values};
 use cad_syntax::Text;
-use cad_transaction_runs::{Left, left_accounts};
+use cad_transaction_runs::{Left, discard_left, left_accounts};
 use cad_values::Value;
-use cad_worlds::World;
 use std::alloc::{AllocError, Global};
 
 /// The JSON of events, by what contracts declare.
@@ -33,8 +33,8 @@ fn told_events(alloc: Global, contracts: &[Contract], events: &[Value]) -> Resul
 }
 
 /// What is left, with the JSON of its events.
-fn outcome_of_left(left: Left, events: Text) -> TransactionOutcome
-    ensures { (all : List Data) → events ≡ compact_text (array (event_items all)) → Tells result (spec.leads (ran left.made left.destroyed all) (runs.world_of left)) }
+fn outcome_of_left(left: Left, events: Text) -> RunOutcome
+    ensures { (base : List machine.Account) (all : List Data) → events ≡ compact_text (array (event_items all)) → TellsOver base result (spec.leads (ran left.made left.destroyed all) (runs.left_over base left)) }
 {
     let Left {
         accounts,
@@ -52,21 +52,41 @@ fn outcome_of_left(left: Left, events: Text) -> TransactionOutcome
         destroyed,
         events,
     };
-    let world = World {
+    let world = RunWorld {
         accounts,
         contracts,
         next_identity,
     };
-    TransactionOutcome::Leads(receipt, world)
+    RunOutcome::Leads(receipt, world)
+}
+
+/// Whether a run had all accounts, or left the contracts that there were.
+fn is_settled(left: &Left) -> bool {
+    match &left.accounts {
+        Accounts::All(_) => true,
+        Accounts::Part { count: _, known: _ } => left.added.is_empty(),
+    }
+}
+
+/// What is left, with the JSON of its events. Whole where a contract was added and some accounts may not be known.
+fn settled_left(left: Left, events: Text) -> Result<RunOutcome, Unfinished>
+    ensures { (base : List machine.Account) (all : List Data) → events ≡ compact_text (array (event_items all)) → IfOk result (λ it. TellsOver base it (spec.leads (ran left.made left.destroyed all) (runs.left_over base left))) }
+{
+    if is_settled(&left) {
+        return Ok(outcome_of_left(left, events));
+    }
+    discard_left(left);
+    drop(events);
+    Err(Unfinished::Whole)
 }
 
 /// What a run that ended left, with the JSON of its events.
-fn outcome_of_told(state: RunState, events: Text) -> Result<TransactionOutcome, Unfinished>
+fn outcome_of_told(state: RunState, events: Text) -> Result<RunOutcome, Unfinished>
     requires { events ≡ compact_text (array (event_items (map (told (declarations (shapes (map contract_of state.contracts.items)))) (map pure_value state.events.items)))) }
-    ensures { (accounts : List machine.Account) → IfOk result (λ it. Tells it (spec.settled (machine.ok tt (state_over accounts state)))) }
+    ensures { (base : List machine.Account) → map kept_account base ≡ base → IfOk result (λ it. TellsOver base it (spec.settled (machine.ok tt (state_over base state)))) }
 {
     match left_accounts(state) {
-        Ok(left) => Ok(outcome_of_left(left, events)),
+        Ok(left) => settled_left(left, events),
         Err(_) => {
             drop(events);
             Err(Unfinished::Memory)
@@ -74,12 +94,9 @@ fn outcome_of_told(state: RunState, events: Text) -> Result<TransactionOutcome, 
     }
 }
 
-/// What a run that ended left.
-pub(crate) fn outcome_of_state(
-    alloc: Global,
-    state: RunState,
-) -> Result<TransactionOutcome, Unfinished>
-    ensures { (accounts : List machine.Account) → IfOk result (λ it. Tells it (spec.settled (machine.ok tt (state_over accounts state)))) }
+/// What a run that ended left, over accounts without labels.
+pub(crate) fn outcome_of_state(alloc: Global, state: RunState) -> Result<RunOutcome, Unfinished>
+    ensures { (base : List machine.Account) → map kept_account base ≡ base → IfOk result (λ it. TellsOver base it (spec.settled (machine.ok tt (state_over base state)))) }
 {
     match told_events(alloc, state.contracts.as_slice(), state.events.as_slice()) {
         Ok(events) => outcome_of_told(state, events),

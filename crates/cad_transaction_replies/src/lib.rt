@@ -11,9 +11,9 @@ mod transaction;
 
 pub use events::push_item;
 pub use laws::{one_outcome, outcomes_extend};
-pub use outcome::{Receipt, TransactionOutcome};
+pub use outcome::{Receipt, RunOutcome, TransactionOutcome};
 pub use signers::has_account;
-pub use transaction::transact;
+pub use transaction::transact_over;
 
 // For the crates above alone: what a run of another kind comes to.
-pub use running::outcome_of_run;
+pub use running::{outcome_of_run, whole_outcome};

@@ -1,5 +1,5 @@
 // What transactions come to.
-use cad_script_replies::ScriptReply;
+use cad_script_replies::{RunWorld, ScriptReply};
 use cad_syntax::{Numbers, Text};
 use cad_worlds::World;
 
@@ -14,8 +14,15 @@ pub struct Receipt {
     pub events: Text,
 }
 
-/// What a transaction comes to: a reply, or a receipt and the World that it leaves.
+/// What a run over a whole World comes to: a reply, or a receipt and the World that it leaves.
 pub enum TransactionOutcome {
     Stays(ScriptReply),
     Leads(Receipt, World),
+}
+
+/// What a run comes to over a World of which some accounts may not be known: a reply, or a receipt and the World that it leaves, of
+/// which the same may not be known.
+pub enum RunOutcome {
+    Stays(ScriptReply),
+    Leads(Receipt, RunWorld),
 }

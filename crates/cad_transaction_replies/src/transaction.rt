@@ -3,31 +3,29 @@ ghost use Rattle.std.specs.Prelude.{◌≡◌, ◌≢◌, ◌≤◌, IfOk, Ok, S
 ghost use Rattle.serde_json.specs.View.{view};
 ghost use Rattle.cad_declarations.specs.Views.{transaction_of};
 ghost use Rattle.cad_runs.specs.Commands.{are_signers, failed};
+ghost use Rattle.cad_script_replies.specs.Worlds.{run_world};
 ghost use Rattle.cad_state.specs.Views.{program_of};
 ghost use Rattle.cad_transaction_replies.specs.Replies.{Outcome, Comes, stays};
-ghost use Rattle.cad_transaction_replies.specs.Views.{Tells};
-ghost use Rattle.cad_world.specs.Begin.{IsKept};
-ghost use Rattle.cad_worlds.specs.Standing.{world_of};
+ghost use Rattle.cad_transaction_replies.specs.Views.{TellsOver};
+ghost use Rattle.cad_world.specs.State.{World};
+ghost use Rattle.cad_worlds.specs.Standing.{IsSoundButCode};
 
-use crate::outcome::TransactionOutcome;
+use crate::outcome::RunOutcome;
 use crate::running::outcome_of_row;
 use crate::signers::are_signers;
 use cad_declarations::{Checked, TypedTransaction};
-use cad_discards::discard_checked;
-use cad_script_replies::{FrontEnd, ScriptReply, Unfinished, row_for};
-use cad_state::discard_shared;
+use cad_script_replies::{FrontEnd, RunWorld, ScriptReply, Unfinished, discard_run_world, row_for};
 use cad_syntax::Address;
-use cad_worlds::{World, discard_world};
 use serde_json::Value as Json;
 use std::alloc::Global;
 use std::rc::Rc;
 
 /// A refusal by its number. The World is let go.
-fn refuse(world: World, number: u16) -> Result<TransactionOutcome, Unfinished>
-    ensures { result ≡ Ok (TransactionOutcome.Stays (ScriptReply.Bad number)) }
+fn refuse(world: RunWorld, number: u16) -> Result<RunOutcome, Unfinished>
+    ensures { result ≡ Ok (RunOutcome.Stays (ScriptReply.Bad number)) }
 {
-    discard_world(world);
-    Ok(TransactionOutcome::Stays(ScriptReply::Bad(number)))
+    discard_run_world(world);
+    Ok(RunOutcome::Stays(ScriptReply::Bad(number)))
 }
 
 /// What a transaction comes to, with its signers, on as many arguments as it has parameters: bad 24 where they aren't of their
@@ -37,17 +35,15 @@ fn outcome_of_arguments<E: FrontEnd>(
     end: &E,
     checked: &Rc<Checked>,
     transaction: &TypedTransaction,
-    world: World,
+    world: RunWorld,
     arguments: &[Json],
     signers: &[Address],
     limit: u64,
-) -> Result<TransactionOutcome, Unfinished>
+) -> Result<RunOutcome, Unfinished>
     requires units { limit ≤ 1000000 }
-    requires kept { IsKept (world_of world) }
     requires is { (program_of checked.now.value).bodies.transaction ≡ Some (transaction_of transaction.now) }
-    requires signed { are_signers (world_of world) (transaction_of transaction.now) signers.now ≡ true }
     requires counted { length arguments.now ≡ length transaction.now.parameters.items }
-    ensures { IfOk result (λ it. (o : Outcome) × Comes (E.front end.now) (world_of world) (program_of checked.now.value) (map view arguments.now) signers.now limit o × (o ≢ stays (failed 0)) × Tells it o) }
+    ensures { (w : World) → run_world w.accounts world ≡ w → IsSoundButCode w → are_signers w (transaction_of transaction.now) signers.now ≡ true → IfOk result (λ it. (o : Outcome) × Comes (E.front end.now) w (program_of checked.now.value) (map view arguments.now) signers.now limit o × (o ≢ stays (failed 0)) × TellsOver w.accounts it o) }
 {
     match row_for(
         alloc,
@@ -67,7 +63,7 @@ fn outcome_of_arguments<E: FrontEnd>(
         ),
         Ok(None) => refuse(world, 24),
         Err(_) => {
-            discard_world(world);
+            discard_run_world(world);
             Err(Unfinished::Memory)
         }
     }
@@ -81,15 +77,14 @@ fn outcome_of_transaction<E: FrontEnd>(
     end: &E,
     checked: &Rc<Checked>,
     transaction: &TypedTransaction,
-    world: World,
+    world: RunWorld,
     arguments: &[Json],
     signers: &[Address],
     limit: u64,
-) -> Result<TransactionOutcome, Unfinished>
+) -> Result<RunOutcome, Unfinished>
     requires units { limit ≤ 1000000 }
-    requires kept { IsKept (world_of world) }
     requires is { (program_of checked.now.value).bodies.transaction ≡ Some (transaction_of transaction.now) }
-    ensures { IfOk result (λ it. (o : Outcome) × Comes (E.front end.now) (world_of world) (program_of checked.now.value) (map view arguments.now) signers.now limit o × (o ≢ stays (failed 0)) × Tells it o) }
+    ensures { (w : World) → run_world w.accounts world ≡ w → IsSoundButCode w → IfOk result (λ it. (o : Outcome) × Comes (E.front end.now) w (program_of checked.now.value) (map view arguments.now) signers.now limit o × (o ≢ stays (failed 0)) × TellsOver w.accounts it o) }
 {
     if !are_signers(&world, transaction, signers) {
         return refuse(world, 26);
@@ -109,19 +104,23 @@ fn outcome_of_transaction<E: FrontEnd>(
     )
 }
 
-/// What a program that others may hold comes to as a transaction.
-fn outcome_of_shared<E: FrontEnd>(
+/// What a program that others may hold comes to as a transaction over a World of which some accounts may not be known, with JSON as its
+/// arguments, these signers and so many units, under a front end that is asked of the codes that it adds. Bad 26 where it is no
+/// transaction, where a signer has no account, and where there are more or fewer signers than parameters of `prepare`; 25 where the
+/// arguments are more or fewer than its parameters, 24 where they aren't of their types; else the number of its error, that the units
+/// were too few, or its receipt and the World that it leaves. Unknown where the run asked of a code of which the front end says nothing,
+/// Lacks where it lacked an account, Whole where it added a contract and some accounts may not be known.
+pub fn transact_over<E: FrontEnd>(
     alloc: Global,
     end: &E,
     checked: &Rc<Checked>,
-    world: World,
+    world: RunWorld,
     arguments: &[Json],
     signers: &[Address],
     limit: u64,
-) -> Result<TransactionOutcome, Unfinished>
-    requires units { limit ≤ 1000000 }
-    requires kept { IsKept (world_of world) }
-    ensures { IfOk result (λ it. (o : Outcome) × Comes (E.front end.now) (world_of world) (program_of checked.now.value) (map view arguments.now) signers.now limit o × (o ≢ stays (failed 0)) × Tells it o) }
+) -> Result<RunOutcome, Unfinished>
+    requires { limit ≤ 1000000 }
+    ensures { (w : World) → run_world w.accounts world ≡ w → IsSoundButCode w → IfOk result (λ it. (o : Outcome) × Comes (E.front end.now) w (program_of checked.now.value) (map view arguments.now) signers.now limit o × (o ≢ stays (failed 0)) × TellsOver w.accounts it o) }
 {
     match &checked.bodies.transaction {
         Some(transaction) => {
@@ -137,37 +136,5 @@ fn outcome_of_shared<E: FrontEnd>(
             )
         }
         None => refuse(world, 26),
-    }
-}
-
-/// What a program comes to as a transaction over a World, with JSON as its arguments, these signers and so many units, under a front end
-/// that is asked of the codes that it adds. Bad 26 where it is no transaction, where a signer has no account, and where there are more
-/// or fewer signers than parameters of `prepare`; 25 where the arguments are more or fewer than its parameters, 24 where they aren't of
-/// their types; else the number of its error, that the units were too few, or its receipt and the World that it leaves. Unknown where the
-/// run asked of a code of which the front end says nothing.
-pub fn transact<E: FrontEnd>(
-    alloc: Global,
-    end: &E,
-    checked: Checked,
-    world: World,
-    arguments: &[Json],
-    signers: &[Address],
-    limit: u64,
-) -> Result<TransactionOutcome, Unfinished>
-    requires units { limit ≤ 1000000 }
-    requires kept { IsKept (world_of world) }
-    ensures { IfOk result (λ it. (o : Outcome) × Comes (E.front end.now) (world_of world) (program_of checked) (map view arguments.now) signers.now limit o × (o ≢ stays (failed 0)) × Tells it o) }
-{
-    match Rc::new(alloc, checked) {
-        Ok(shared) => {
-            let outcome = outcome_of_shared(alloc, end, &shared, world, arguments, signers, limit);
-            discard_shared(shared);
-            outcome
-        }
-        Err(refused) => {
-            discard_checked(refused.value);
-            discard_world(world);
-            Err(Unfinished::Memory)
-        }
     }
 }

@@ -1,5 +1,6 @@
 -- `prepare` and `execute`, by their parts.
 use Rattle.std.proofs.Common.{◌≡◌, sym, subst}
+use Rattle.std.specs.Global.{Box}
 use Rattle.std.specs.Prelude.{ℕ, Option, Some, Result, Ok}
 use Rattle.cad_syntax.specs.Types.{basic}
 use Rattle.cad_syntax.specs.declared.types.Basic.TheVariants as b
@@ -9,12 +10,11 @@ use Rattle.cad_evaluation.specs.Bodies.{value_of_flow}
 use Rattle.cad_evaluation.specs.Callees.{Calls, Front}
 use Rattle.cad_evaluation.specs.Ending.{dropped}
 use Rattle.cad_evaluation.specs.Statements.{exec_block}
-use Rattle.cad_calls.specs.Passed.{flow_of}
+use Rattle.cad_calls.specs.Passed.{flow_of, tree_in}
 use Rattle.cad_calls.specs.Passed.{Flow}
 use Rattle.cad_labels.specs.Laws.{AnyOne}
 use Rattle.cad_outcomes.specs.Outcomes.{Gives, no_value}
 use Rattle.cad_outcomes.specs.declared.stop.Stop.{Stop}
-use Rattle.cad_rows.specs.Views.{pure_tree}
 use Rattle.cad_rows.specs.declared.tree.Tree.{Tree}
 use Rattle.cad_runs.specs.Run.{deeper, shallower, entry}
 use Rattle.cad_state.specs.Views.{CarriesOut, FindsAndCarriesOut}
@@ -39,19 +39,19 @@ pub flow_err : (front : Front) (calls : Calls) (n : ℕ) (body : e.BlockTree) (x
     → FailsAnyhow parts.entry_begun x stop → Fails (parts.entry_flow front calls n body) x stop
 flow_err front calls n body x stop h = stops parts.entry_begun (λ _. exec_block front calls n body) x stop (λ w ready. h w)
 
-pub value_ok : (front : Front) (calls : Calls) (n : ℕ) (body : e.BlockTree) (f : Flow) (x y : RunState) (r : Result Tree Stop)
-    → FindsAndCarriesOut flow_of (parts.entry_flow front calls n body) x y (Ok f) → Gives pure_tree (value_of_flow (basic b.Void) (flow_of f)) r
-    → FindsAndCarriesOut pure_tree (parts.entry_value front calls n body) x y r
-value_ok front calls n body f x y r first second = both_given (parts.entry_flow front calls n body) (value_of_flow (basic b.Void)) flow_of pure_tree f x y r first second
+pub value_ok : (front : Front) (calls : Calls) (n : ℕ) (body : e.BlockTree) (f : Flow) (x y : RunState) (r : Result (Box Tree) Stop)
+    → FindsAndCarriesOut flow_of (parts.entry_flow front calls n body) x y (Ok f) → Gives tree_in (value_of_flow (basic b.Void) (flow_of f)) r
+    → FindsAndCarriesOut tree_in (parts.entry_value front calls n body) x y r
+value_ok front calls n body f x y r first second = both_given (parts.entry_flow front calls n body) (value_of_flow (basic b.Void)) flow_of tree_in f x y r first second
 
 pub value_err : (front : Front) (calls : Calls) (n : ℕ) (body : e.BlockTree) (x : RunState) (stop : Stop)
     → Fails (parts.entry_flow front calls n body) x stop → Fails (parts.entry_value front calls n body) x stop
 value_err front calls n body x stop h = stops (parts.entry_flow front calls n body) (value_of_flow (basic b.Void)) x stop h
 
-pub run_ok : (front : Front) (calls : Calls) (n : ℕ) (body : e.BlockTree) (t : Tree) (x y : RunState) (r : Result (Unit {0}) Stop)
-    → FindsAndCarriesOut pure_tree (parts.entry_value front calls n body) x y (Ok t) → Gives no_value (dropped (pure_tree t)) r
+pub run_ok : (front : Front) (calls : Calls) (n : ℕ) (body : e.BlockTree) (t : Box Tree) (x y : RunState) (r : Result (Unit {0}) Stop)
+    → FindsAndCarriesOut tree_in (parts.entry_value front calls n body) x y (Ok t) → Gives no_value (dropped (tree_in t)) r
     → FindsAndCarriesOut no_value (parts.entry_run front calls n body) x y r
-run_ok front calls n body t x y r first second = both_given (parts.entry_value front calls n body) dropped pure_tree no_value t x y r first second
+run_ok front calls n body t x y r first second = both_given (parts.entry_value front calls n body) dropped tree_in no_value t x y r first second
 
 pub run_err : (front : Front) (calls : Calls) (n : ℕ) (body : e.BlockTree) (x : RunState) (stop : Stop)
     → Fails (parts.entry_value front calls n body) x stop → Fails (parts.entry_run front calls n body) x stop

@@ -1,10 +1,7 @@
 -- Stages of a transaction keep labels apart.
 use Rattle.std.specs.Prelude.{ℕ, List}
-use Rattle.cad_syntax.specs.Types.{basic}
 use Rattle.cad_syntax.specs.declared.address.Address.{Address}
-use Rattle.cad_syntax.specs.declared.types.Basic.TheVariants as b
 use Rattle.cad_declarations.specs.Typed as e
-use Rattle.cad_evaluation.specs.Bodies.{all_tested}
 use Rattle.cad_evaluation.specs.Callees.{Calls, Front}
 use Rattle.cad_labels.specs.Laws.{HasNoneInRow, Keeps, AnyOne, CalleesKeep}
 use Rattle.cad_labels.proofs.Forms.{keeps_spend}

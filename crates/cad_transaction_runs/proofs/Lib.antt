@@ -1,6 +1,8 @@
+pub mod AccountTests
 pub mod Entering
 pub mod Keeping
 pub mod Kept
+pub mod KnownAccounts
 pub mod Order
 pub mod Signing
 pub mod Staging

@@ -9,14 +9,17 @@ use Rattle.cad_evaluation.specs.Ending.{ended}
 use Rattle.cad_label_runs.proofs.Run.{begin_transaction_keeps, with_signers_keeps}
 use Rattle.cad_label_runs.proofs.Values.{signers_none}
 use Rattle.cad_labels.specs.Laws.{HasNoneInRow, AnyOne, CalleesKeep}
-use Rattle.cad_outcomes.specs.Outcomes.{no_value}
+use Rattle.cad_outcomes.proofs.Steps.{then}
+use Rattle.cad_outcomes.specs.Outcomes.{Stops, no_value}
 use Rattle.cad_outcomes.specs.declared.stop.Stop.{Stop}
 use Rattle.cad_runs.specs.Run.{entry, signer_row, begin_transaction, with_signers, prepared, end_transaction, run_transaction}
-use Rattle.cad_state.specs.Views.{CarriesOut, FindsAndCarriesOut}
+use Rattle.cad_state.specs.Views.{state_over, IsReady, CarriesOut, FindsAndCarriesOut}
 use Rattle.cad_state.specs.declared.state.RunState.{RunState}
 use Rattle.cad_transaction_runs.proofs.Keeping as keeping
 use Rattle.cad_transaction_runs.specs.Code.Parts as parts
+use Rattle.cad_transaction_runs.specs.OverStorable.{AreStorable, CarriesOutOverStorable, FindsAndCarriesOutOverStorable}
 use Rattle.cad_world.specs.Rows.{Row}
+use Rattle.cad_world.specs.State.{Account}
 use Rattle.cad_world.specs.Storable.{values_last}
 
 -- ---- `prepare`
@@ -105,11 +108,11 @@ pub to_end_err : (front : Front) (calls : Calls) (n : ℕ) (x : e.TransactionBod
 to_end_err front calls n x r signers s stop h = stops (parts.to_post front calls n x r signers) (λ _. end_transaction) s stop h
 
 pub all_ok : (front : Front) (calls : Calls) (n : ℕ) (x : e.TransactionBody) (r : Row) (signers : List Address) (s t u : RunState) (o : Result (Unit {0}) Stop)
-    → FindsAndCarriesOut no_value (parts.to_end front calls n x r signers) s t (Ok tt) → CarriesOut no_value values_last t u o
-    → FindsAndCarriesOut no_value (run_transaction front calls n x r signers) s u o
-all_ok front calls n x r signers s t u o first second =
-    both_any (parts.to_end front calls n x r signers) (λ _. values_last) no_value no_value tt s t u o first second
+    → FindsAndCarriesOut no_value (parts.to_end front calls n x r signers) s t (Ok tt) → CarriesOutOverStorable no_value values_last t u o
+    → FindsAndCarriesOutOverStorable no_value (run_transaction front calls n x r signers) s u o
+all_ok front calls n x r signers s t u o first second w storable ready =
+    then no_value (parts.to_end front calls n x r signers) (λ _. values_last) tt (state_over w s) (state_over w t) (state_over w u) o (first w ready) (second w storable)
 
 pub all_err : (front : Front) (calls : Calls) (n : ℕ) (x : e.TransactionBody) (r : Row) (signers : List Address) (s : RunState) (stop : Stop)
-    → Fails (parts.to_end front calls n x r signers) s stop → Fails (run_transaction front calls n x r signers) s stop
-all_err front calls n x r signers s stop h = stops (parts.to_end front calls n x r signers) (λ _. values_last) s stop h
+    → Fails (parts.to_end front calls n x r signers) s stop → (w : List Account) → AreStorable w → IsReady w s → Stops (run_transaction front calls n x r signers (state_over w s)) stop
+all_err front calls n x r signers s stop h w storable = stops (parts.to_end front calls n x r signers) (λ _. values_last) s stop h w

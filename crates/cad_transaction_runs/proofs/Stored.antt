@@ -1,8 +1,8 @@
 -- Rows that may stand in accounts, place by place, and how high they may be.
-use Rattle.std.proofs.Common.{◌≡◌, refl, sym, ap, ◌∙◌, ℕ, ◌≤◌, ◌^◌, ◌-◌, List, [], ◌∷◌, true, ◌&&◌, min, arith}
+use Rattle.std.proofs.Common.{◌≡◌, refl, sym, ap, ◌∙◌, ℕ, ◌^◌, ◌-◌, List, [], ◌∷◌, ◌&&◌, min, arith}
 use Rattle.std.proofs.Math.Bool.{and-true, and_assoc}
 use Rattle.std.proofs.lemmas.Bool.Decides.{nat_tests}
-use Rattle.std.specs.Prelude.{Bool, nat_le}
+use Rattle.std.specs.Prelude.{nat_le}
 use Rattle.cad_rows.specs.Views.{PlaceView, vacant, taken, before, as_row}
 use Rattle.cad_world.specs.Rows.{Row, Tree}
 use Rattle.cad_world.specs.Storable.{is_storable, is_storable_shape}

@@ -1,2 +1,3 @@
+pub mod AccountTests
 pub mod Parts
 pub mod Sorting

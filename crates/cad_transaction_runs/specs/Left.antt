@@ -1,14 +1,15 @@
 -- What a run leaves, as the World that it is.
-use Rattle.std.specs.Prelude.{map}
-use Rattle.cad_state.specs.Views.{account_of, contract_of}
+use Rattle.std.specs.Prelude.{List, map}
+use Rattle.cad_state.specs.Views.{accounts_over, contract_of}
 use Rattle.cad_transaction_runs.specs.declared.left.Left.{Left}
 use Rattle.cad_world.specs.Begin.{kept_account, kept_contract}
 use Rattle.cad_world.specs.Orders.{contract_before, sorted_in}
-use Rattle.cad_world.specs.State.{State, World}
+use Rattle.cad_world.specs.State.{Account, State, World}
 
-abbrev pub world_of : Left → World
-world_of x = record {
-  accounts = map account_of x.accounts.items;
+-- the accounts that the run doesn't know are as they are among these
+abbrev pub left_over : List Account → Left → World
+left_over base x = record {
+  accounts = accounts_over base x.accounts;
   contracts = map contract_of x.contracts.items;
   next_identity = x.next_identity;
 }

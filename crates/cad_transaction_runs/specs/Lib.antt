@@ -1,3 +1,4 @@
 pub mod Code
 pub mod Left
+pub mod OverStorable
 pub mod Passed

@@ -1,14 +1,13 @@
 // `prepare` and `execute`: they count as calls.
 ghost use Rattle.std.specs.Prelude.{Ok, option_map};
 ghost use Rattle.cad_declarations.specs.Views.{block_of};
-ghost use Rattle.cad_calls.specs.Passed.{flow_of};
+ghost use Rattle.cad_calls.specs.Passed.{flow_of, tree_in};
 ghost use Rattle.cad_outcomes.specs.Outcomes.{no_value};
-ghost use Rattle.cad_rows.specs.Views.{pure_tree};
 ghost use Rattle.cad_runs.specs.Run as spec;
 ghost use Rattle.cad_state.specs.Views.{CarriesOut, FindsAndCarriesOut};
 ghost use Rattle.cad_transaction_runs.specs.Code.Parts as parts;
 
-use cad_calls::{Callees, Flow, exec_block, value_of_flow};
+use cad_calls::{Callees, Flow, exec_block, unboxed, value_of_flow};
 use cad_declarations::TypedBlock;
 use cad_making::let_go;
 use cad_outcomes::Stop;
@@ -67,9 +66,9 @@ fn block_value<C: Callees>(
     turns: u64,
     callees: &C,
     state: &mut RunState,
-) -> Result<Tree, Stop>
+) -> Result<Box<Tree>, Stop>
     requires { C.is_ready callees.now }
-    ensures { FindsAndCarriesOut pure_tree (parts.entry_value (C.front callees.now) (C.calls callees.now) turns (block_of body.now)) state.old state.new result }
+    ensures { FindsAndCarriesOut tree_in (parts.entry_value (C.front callees.now) (C.calls callees.now) turns (block_of body.now)) state.old state.new result }
 {
     match run_block(body, turns, callees, state) {
         Ok(flow) => value_of_flow(*state.making.allocator(), true, flow),
@@ -88,7 +87,7 @@ fn run_body<C: Callees>(
     ensures { FindsAndCarriesOut no_value (parts.entry_run (C.front callees.now) (C.calls callees.now) turns (block_of body.now)) state.old state.new result }
 {
     match block_value(body, turns, callees, state) {
-        Ok(tree) => let_go(tree),
+        Ok(value) => let_go(unboxed(value)),
         Err(stop) => Err(stop),
     }
 }

@@ -1,7 +1,8 @@
 // What a run leaves.
-ghost use Rattle.std.specs.Prelude.{◌≡◌, IfOk, IfSome, List, OnOk, map};
-ghost use Rattle.cad_state.specs.Views.{account_of, contract_of, state_over};
-ghost use Rattle.cad_transaction_runs.specs.Left.{kept_world, world_in, world_of};
+ghost use Rattle.std.specs.Prelude.{◌≡◌, ℕ, IfOk, List, OnOk, map};
+ghost use Rattle.cad_state.specs.Parts.{with_known};
+ghost use Rattle.cad_state.specs.Views.{account_of, accounts_over, contract_of, state_over};
+ghost use Rattle.cad_transaction_runs.specs.Left.{kept_world, left_over, world_in};
 ghost use Rattle.cad_world.specs.Begin.{kept_account, kept_contract, left_world};
 ghost use Rattle.cad_world.specs.State as states;
 
@@ -9,8 +10,8 @@ use crate::sorting::sort_contracts;
 use cad_declarations::Checked;
 use cad_rows::{Place, discard_row, strip_row};
 use cad_state::{
-    Account, Call, Contract, Hints, RunState, discard_accounts, discard_calls, discard_contracts,
-    discard_shared, discard_values,
+    Account, Accounts, Call, Contract, Hints, Known, RunState, discard_calls, discard_contracts,
+    discard_run_accounts, discard_shared, discard_values,
 };
 use cad_syntax::{Numbers, TypeIds};
 use cad_values::Value;
@@ -19,8 +20,8 @@ use std::rc::Rc;
 
 /// What a run leaves. It isn't let go but by `discard_left`.
 pub struct Left {
-    /// By their addresses, from 1 on, without labels.
-    pub accounts: Vec<Account>,
+    /// Those that the run has, without labels.
+    pub accounts: Accounts,
     /// In the order of their addresses and names, without labels.
     pub contracts: Vec<Contract>,
     pub next_identity: u64,
@@ -44,7 +45,7 @@ pub fn discard_left(left: Left) {
         destroyed,
         added,
     } = left;
-    discard_accounts(accounts);
+    discard_run_accounts(accounts);
     discard_contracts(contracts);
     discard_values(events);
     drop(made);
@@ -68,6 +69,33 @@ fn strip_accounts(accounts: &mut Vec<Account>)
     }
 }
 
+/// An account that is known comes to be as it is kept.
+fn strip_one(one: &mut Known)
+    ensures index { one.new.index ≡ one.old.index }
+    ensures account { account_of one.new.account ≡ kept_account (account_of one.old.account) }
+{
+    strip_account(&mut one.account)
+}
+
+/// Accounts that are known come to be as they are kept, and so do all, where the others are.
+fn strip_known(known: &mut Vec<Known>)
+    ensures { (base : List states.Account) (count : ℕ) → map kept_account base ≡ base → with_known base count known.new.items ≡ map kept_account (with_known base count known.old.items) }
+{
+    for i in 0..known.len() {
+        strip_one(&mut known[i]);
+    }
+}
+
+/// The accounts of a run come to be as they are kept, where those that it doesn't know are.
+fn strip_run_accounts(accounts: &mut Accounts)
+    ensures { (base : List states.Account) → map kept_account base ≡ base → accounts_over base accounts.new ≡ map kept_account (accounts_over base accounts.old) }
+{
+    match accounts {
+        Accounts::All(all) => strip_accounts(all),
+        Accounts::Part { count: _, known } => strip_known(known),
+    }
+}
+
 /// A contract comes to be as it is kept: without labels, and no initializer of it runs.
 fn strip_contract(contract: &mut Contract)
     ensures { contract_of contract.new ≡ kept_contract (contract_of contract.old) }
@@ -87,13 +115,13 @@ fn strip_contracts(contracts: &mut Vec<Contract>)
 
 /// What is left comes to be as it is kept. Where memory fails, some contracts are let go.
 fn settle(left: &mut Left) -> Result<(), AllocError>
-    ensures world { OnOk result (world_of left.new ≡ kept_world (world_of left.old)) }
+    ensures world { OnOk result ((base : List states.Account) → map kept_account base ≡ base → left_over base left.new ≡ kept_world (left_over base left.old)) }
     ensures events { left.new.events ≡ left.old.events }
     ensures made { left.new.made ≡ left.old.made }
     ensures destroyed { left.new.destroyed ≡ left.old.destroyed }
     ensures added { left.new.added ≡ left.old.added }
 {
-    strip_accounts(&mut left.accounts);
+    strip_run_accounts(&mut left.accounts);
     strip_contracts(&mut left.contracts);
     sort_contracts(&mut left.contracts)
 }
@@ -106,29 +134,13 @@ fn discard_rest(calls: Vec<Call>, making: Vec<Place>, checked: Rc<Checked>, hint
     drop(hints)
 }
 
-/// What is left where the run has no accounts is let go.
-fn discard_parts(
-    contracts: Vec<Contract>,
-    events: Vec<Value>,
-    made: Numbers,
-    destroyed: Numbers,
-    added: TypeIds,
-) {
-    discard_contracts(contracts);
-    discard_values(events);
-    drop(made);
-    drop(destroyed);
-    drop(added)
-}
-
-/// A state is taken apart; nothing where it has no accounts.
-#[tactic(auto, unfolding(cad_state::specs::Views::accounts_with))]
-fn parts_of(state: RunState) -> Option<Left>
-    ensures world { IfSome result (λ left. (accounts : List states.Account) → world_of left ≡ world_in (state_over accounts state)) }
-    ensures events { IfSome result (λ left. left.events ≡ state.events) }
-    ensures made { IfSome result (λ left. left.made ≡ state.made) }
-    ensures destroyed { IfSome result (λ left. left.destroyed ≡ state.destroyed) }
-    ensures added { IfSome result (λ left. left.added ≡ state.added) }
+/// A state is taken apart.
+fn parts_of(state: RunState) -> Left
+    ensures world { (base : List states.Account) → left_over base result ≡ world_in (state_over base state) }
+    ensures events { result.events ≡ state.events }
+    ensures made { result.made ≡ state.made }
+    ensures destroyed { result.destroyed ≡ state.destroyed }
+    ensures added { result.added ≡ state.added }
 {
     let RunState {
         calls,
@@ -146,29 +158,24 @@ fn parts_of(state: RunState) -> Option<Left>
         depth: _,
         hints,
         asked,
+        wanted: _,
     } = state;
     drop(asked);
     discard_rest(calls, making, checked, hints);
-    match accounts {
-        Some(accounts) => Some(Left {
-            accounts,
-            contracts,
-            next_identity,
-            events,
-            made,
-            destroyed,
-            added,
-        }),
-        None => {
-            discard_parts(contracts, events, made, destroyed, added);
-            None
-        }
+    Left {
+        accounts,
+        contracts,
+        next_identity,
+        events,
+        made,
+        destroyed,
+        added,
     }
 }
 
 /// What is left, as it is kept. Where memory fails, it is let go.
 fn settled(left: Left) -> Result<Left, AllocError>
-    ensures world { IfOk result (λ kept. world_of kept ≡ kept_world (world_of left)) }
+    ensures world { IfOk result (λ kept. (base : List states.Account) → map kept_account base ≡ base → left_over base kept ≡ kept_world (left_over base left)) }
     ensures events { IfOk result (λ kept. kept.events ≡ left.events) }
     ensures made { IfOk result (λ kept. kept.made ≡ left.made) }
     ensures destroyed { IfOk result (λ kept. kept.destroyed ≡ left.destroyed) }
@@ -184,17 +191,14 @@ fn settled(left: Left) -> Result<Left, AllocError>
     }
 }
 
-/// What a run leaves: accounts and contracts without labels, contracts in their order, and what is told of it. An error where memory
-/// runs out, and where the run has no accounts.
+/// What a run leaves: accounts and contracts without labels, contracts in their order, and what is told of it. The accounts that the run
+/// doesn't know are as they are, which has to be without labels too.
 pub fn left_accounts(state: RunState) -> Result<Left, AllocError>
-    ensures world { IfOk result (λ left. (accounts : List states.Account) → world_of left ≡ left_world (state_over accounts state)) }
+    ensures world { IfOk result (λ left. (base : List states.Account) → map kept_account base ≡ base → left_over base left ≡ left_world (state_over base state)) }
     ensures events { IfOk result (λ left. left.events ≡ state.events) }
     ensures made { IfOk result (λ left. left.made ≡ state.made) }
     ensures destroyed { IfOk result (λ left. left.destroyed ≡ state.destroyed) }
     ensures added { IfOk result (λ left. left.added ≡ state.added) }
 {
-    match parts_of(state) {
-        Some(left) => settled(left),
-        None => Err(AllocError),
-    }
+    settled(parts_of(state))
 }

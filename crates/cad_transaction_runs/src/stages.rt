@@ -3,13 +3,14 @@ ghost use Rattle.std.specs.Prelude.{◌≡◌, ◌+◌, OnOk, length};
 ghost use Rattle.cad_declarations.specs.Views.{transaction_of};
 ghost use Rattle.cad_evaluation.specs.Ending.{ended};
 ghost use Rattle.cad_evaluation.specs.Evaluation.{calls_to};
-ghost use Rattle.cad_calls.specs.Passed.{callee_of};
+ghost use Rattle.cad_calls.specs.Passed.{callee_of, tree_in};
 ghost use Rattle.cad_labels.specs.Laws.{HasNoneInRow};
 ghost use Rattle.cad_outcomes.specs.Outcomes.{no_value};
-ghost use Rattle.cad_rows.specs.Views.{pure_row, pure_tree};
+ghost use Rattle.cad_rows.specs.Views.{pure_row};
 ghost use Rattle.cad_runs.specs.Run as spec;
 ghost use Rattle.cad_state.specs.Views.{CarriesOut, FindsAndCarriesOut, frame_of};
 ghost use Rattle.cad_transaction_runs.specs.Code.Parts as parts;
+ghost use Rattle.cad_transaction_runs.specs.OverStorable.{FindsAndCarriesOutOverStorable};
 ghost use Rattle.cad_world.specs.Rows.{empty_places, join};
 
 use crate::entries::run_entry;
@@ -251,7 +252,7 @@ fn run_stages<C: Callees>(
     state: &mut RunState,
 ) -> Result<(), Stop>
     requires { C.is_ready callees.now }
-    ensures { HasNoneInRow (pure_row arguments.items) → FindsAndCarriesOut no_value (spec.run_transaction (C.front callees.now) (C.calls callees.now) turns (transaction_of transaction.now) (pure_row arguments.items) signers.now) state.old state.new result }
+    ensures { HasNoneInRow (pure_row arguments.items) → FindsAndCarriesOutOverStorable no_value (spec.run_transaction (C.front callees.now) (C.calls callees.now) turns (transaction_of transaction.now) (pure_row arguments.items) signers.now) state.old state.new result }
 {
     match run_to_end(transaction, arguments, signers, turns, callees, state) {
         Ok(()) => judge_stored(state),
@@ -266,8 +267,8 @@ fn call<E: FrontEnd>(
     state: &mut RunState,
     callee: Callee<'_>,
     arguments: Vec<Place>,
-) -> Result<Tree, Stop>
-    ensures { FindsAndCarriesOut pure_tree (calls_to (E.front end.now) fuel (callee_of callee.entry) (pure_row arguments.items)) state.old state.new result }
+) -> Result<Box<Tree>, Stop>
+    ensures { FindsAndCarriesOut tree_in (calls_to (E.front end.now) fuel (callee_of callee.entry) (pure_row arguments.items)) state.old state.new result }
 {
     call_with(fuel, end, state, callee, arguments)
 }
@@ -275,7 +276,7 @@ fn call<E: FrontEnd>(
 /// A transaction runs on its arguments: `prepare` over the signers, which end with it, `pre`, the values of `before`, `execute` and
 /// `post`; then what stands in accounts is judged. Errors are those of its bodies, 108 where a condition doesn't hold, 133 where
 /// a value in an account can't be stored, and 123 where one is too high. No memory of arguments of which a node has a label, and
-/// where the run has no accounts.
+/// where an account is needed that the run doesn't have.
 pub fn run_transaction<E: FrontEnd>(
     fuel: u64,
     end: &E,
@@ -284,7 +285,7 @@ pub fn run_transaction<E: FrontEnd>(
     signers: &[Address],
     state: &mut RunState,
 ) -> Result<(), Stop>
-    ensures { FindsAndCarriesOut no_value (spec.run_transaction (E.front end.now) (calls_to (E.front end.now) fuel) fuel (transaction_of transaction.now) (pure_row arguments.items) signers.now) state.old state.new result }
+    ensures { FindsAndCarriesOutOverStorable no_value (spec.run_transaction (E.front end.now) (calls_to (E.front end.now) fuel) fuel (transaction_of transaction.now) (pure_row arguments.items) signers.now) state.old state.new result }
 {
     if is_unnamed(arguments.as_slice()) {
         let level = Level {

@@ -1,18 +1,21 @@
 // What stands in accounts and contracts when a command ends.
-ghost use Rattle.std.specs.Prelude.{◌≡◌, ◌&&◌, ◌∷◌, [], map};
+ghost use Rattle.std.specs.Prelude.{◌≡◌, ◌&&◌, ◌∷◌, [], List, true, map};
 ghost use Rattle.std.specs.List.{list_all};
-ghost use Rattle.cad_outcomes.specs.Outcomes.{Does, no_value};
+ghost use Rattle.cad_outcomes.specs.Outcomes.{no_value};
 ghost use Rattle.cad_rows.specs.Views.{as_row, pure_place, pure_row, pure_shape, pure_tree};
-ghost use Rattle.cad_state.specs.Views.{CarriesOut, account_of, contract_of};
+ghost use Rattle.cad_state.specs.Views.{accounts_over, contract_of};
+ghost use Rattle.cad_state.specs.Ways.{account_in};
+ghost use Rattle.cad_transaction_runs.specs.Code.AccountTests.{passes};
+ghost use Rattle.cad_transaction_runs.specs.OverStorable.{AreStorable, CarriesOutOverStorable};
 ghost use Rattle.cad_values.specs.Forms as forms;
 ghost use Rattle.cad_values.specs.Values.{pure_value};
-ghost use Rattle.cad_world.specs.State.{State};
+ghost use Rattle.cad_world.specs.State as states;
 ghost use Rattle.cad_world.specs.Storable as spec;
 
 use crate::values::is_storable_value;
 use cad_outcomes::{RunError, Stop};
 use cad_rows::{Place, Shape, Tree, row_height};
-use cad_state::{Account, Contract, RunState};
+use cad_state::{Contract, RunState};
 use cad_values::Value;
 
 /// Whether keys may stand in accounts.
@@ -81,12 +84,22 @@ fn is_low_row(row: &[Place]) -> bool
     row_height(row) <= 256
 }
 
-/// Whether every value in accounts can be stored.
-fn are_accounts_storable(accounts: &[Account]) -> bool
-    ensures { result ≡ list_all (λ a. spec.is_storable a.stored) (map account_of accounts.now) }
+/// Whether every value in the account of an index can be stored, if the run has it.
+fn is_account_storable(state: &RunState, i: usize) -> bool
+    ensures { result ≡ passes spec.is_storable (account_in state.now.accounts i) }
 {
-    for account in accounts {
-        if !is_storable_row(account.stored.as_slice()) {
+    match state.account_of_index(i) {
+        Some(account) => is_storable_row(account.stored.as_slice()),
+        None => true,
+    }
+}
+
+/// Whether every value in accounts can be stored, where those can that stand in accounts which the run doesn't have.
+fn are_accounts_storable(state: &RunState) -> bool
+    ensures { (accounts : List states.Account) → AreStorable accounts → result ≡ list_all (λ a. spec.is_storable a.stored) (accounts_over accounts state.now.accounts) }
+{
+    for n in 0..state.account_count() {
+        if !is_account_storable(state, state.account_index(n)) {
             return false;
         }
     }
@@ -105,12 +118,22 @@ fn are_contracts_storable(contracts: &[Contract]) -> bool
     true
 }
 
-/// Whether no value in accounts is too high.
-fn are_accounts_low(accounts: &[Account]) -> bool
-    ensures { result ≡ list_all (λ a. spec.is_low a.stored) (map account_of accounts.now) }
+/// Whether no value in the account of an index is too high, if the run has it.
+fn is_account_low(state: &RunState, i: usize) -> bool
+    ensures { result ≡ passes spec.is_low (account_in state.now.accounts i) }
 {
-    for account in accounts {
-        if !is_low_row(account.stored.as_slice()) {
+    match state.account_of_index(i) {
+        Some(account) => is_low_row(account.stored.as_slice()),
+        None => true,
+    }
+}
+
+/// Whether no value in accounts is too high, where none is in accounts which the run doesn't have.
+fn are_accounts_low(state: &RunState) -> bool
+    ensures { (accounts : List states.Account) → AreStorable accounts → result ≡ list_all (λ a. spec.is_low a.stored) (accounts_over accounts state.now.accounts) }
+{
+    for n in 0..state.account_count() {
+        if !is_account_low(state, state.account_index(n)) {
             return false;
         }
     }
@@ -130,40 +153,31 @@ fn are_contracts_low(contracts: &[Contract]) -> bool
 }
 
 /// Whether all that stands in accounts and contracts can be stored.
-fn are_storable(accounts: &[Account], contracts: &[Contract]) -> bool
-    ensures { result ≡ spec.all_in_accounts spec.is_storable (map account_of accounts.now) (map contract_of contracts.now) }
+fn are_storable(state: &RunState) -> bool
+    ensures { (accounts : List states.Account) → AreStorable accounts → result ≡ spec.all_in_accounts spec.is_storable (accounts_over accounts state.now.accounts) (map contract_of state.now.contracts.items) }
 {
-    are_accounts_storable(accounts) && are_contracts_storable(contracts)
+    let contracts = state.contracts.as_slice();
+    are_accounts_storable(state) && are_contracts_storable(contracts)
 }
 
 /// Whether nothing that stands in accounts and contracts is too high.
-fn are_low(accounts: &[Account], contracts: &[Contract]) -> bool
-    ensures { result ≡ spec.all_in_accounts spec.is_low (map account_of accounts.now) (map contract_of contracts.now) }
+fn are_low(state: &RunState) -> bool
+    ensures { (accounts : List states.Account) → AreStorable accounts → result ≡ spec.all_in_accounts spec.is_low (accounts_over accounts state.now.accounts) (map contract_of state.now.contracts.items) }
 {
-    are_accounts_low(accounts) && are_contracts_low(contracts)
+    let contracts = state.contracts.as_slice();
+    are_accounts_low(state) && are_contracts_low(contracts)
 }
 
-/// Accounts and contracts are judged: 133, then 123.
-fn judge(accounts: &[Account], contracts: &[Contract]) -> Result<(), Stop>
-    ensures { (s : State) → s.accounts ≡ map account_of accounts.now → s.contracts ≡ map contract_of contracts.now → Does no_value spec.values_last s s result }
+/// What stands in accounts and contracts is judged: 133 where a value can't be stored, and then 123 where one is too high. Accounts
+/// that the run doesn't have pass.
+pub fn judge_stored(state: &RunState) -> Result<(), Stop>
+    ensures { CarriesOutOverStorable no_value spec.values_last state.now state.now result }
 {
-    if !are_storable(accounts, contracts) {
+    if !are_storable(state) {
         return Err(Stop::Failed(RunError::NotStorable));
     }
-    if !are_low(accounts, contracts) {
+    if !are_low(state) {
         return Err(Stop::Failed(RunError::TooLarge));
     }
     Ok(())
-}
-
-/// What stands in accounts and contracts is judged: 133 where a value can't be stored, and then 123 where one is too high. No memory
-/// where the run has no accounts.
-pub fn judge_stored(state: &RunState) -> Result<(), Stop>
-    ensures { CarriesOut no_value spec.values_last state.now state.now result }
-{
-    let contracts = state.contracts.as_slice();
-    match &state.accounts {
-        Some(accounts) => judge(accounts.as_slice(), contracts),
-        None => Err(Stop::Memory),
-    }
 }

@@ -7,3 +7,6 @@ pub mod ReadBack
 pub mod AllOf
 pub mod Pairs
 pub mod Kept
+pub mod Occurrences
+pub mod KnownAccounts
+pub mod PartLaws

@@ -6,7 +6,7 @@ use Rattle.std.specs.List.{AllByRecursion, list_any, list_all, flat_map}
 use Rattle.std.specs.Ordering.{nat_cmp, is_eq}
 use Rattle.std.specs.declared.cmp.Ordering.TheVariants.{Equal, Greater}
 use Rattle.std.proofs.lemmas.Bool.{false≢true, cases_lt, lt-ltb, le-ltb, ltb-true, ne_eqb, eq-eqb, and_parts, and_from}
-use Rattle.std.proofs.lemmas.List.{take_more, drop_more}
+use Rattle.std.proofs.lemmas.List.{take_all, take_more, drop_more}
 use Rattle.std.proofs.lemmas.List.Elements.{recursion_from_All, All-from_recursion}
 use Rattle.std.proofs.lemmas.List.Folds.{list_any-append}
 use Rattle.cad_state.specs.Views.{account_of, contract_of}
@@ -85,6 +85,15 @@ one_seen known n ys new = (
 
 -- ---- the loop
 
+pub none_held : (seen : BTreeSet ℕ) → seen.keys ≡ [] → HoldsNumbers seen []
+none_held seen empty q = ap (λ (ks : List ℕ). list_any (λ k. is_eq (nat_cmp q k)) ks) empty
+
+pub held_more : (old now : BTreeSet ℕ) (xs : List ℕ) (i : ℕ) (added : Bool) → HoldsNumbers old (take i xs) → i < length xs → AddsNumber old now (get_or xs i 0) added → HoldsNumbers now (take (i + 1) xs)
+held_more old now xs i added holds lt told = subst (HoldsNumbers now) (sym (take_more xs i 0 lt)) (told (take i xs) holds).1
+
+pub all_held : (seen : BTreeSet ℕ) (xs : List ℕ) (i : ℕ) → HoldsNumbers seen (take i xs) → length xs ≤ i → HoldsNumbers seen xs
+all_held seen xs i holds end = subst (HoldsNumbers seen) (take_all i xs end) holds
+
 -- the numbers before a place were added, and all differ if those from there on are fresh
 pub record Seen (seen : BTreeSet ℕ) (xs : List ℕ) (i : ℕ) : Type 0 where
   pub holds : HoldsNumbers seen (take i xs)
@@ -95,7 +104,7 @@ none_known [] = tt
 none_known (x ∷ xs) = (refl, none_known xs)
 
 pub none_seen : (seen : BTreeSet ℕ) (xs : List ℕ) → seen.keys ≡ [] → Seen seen xs 0
-none_seen seen xs empty = record { holds = λ q. ap (λ (ks : List ℕ). list_any (λ k. is_eq (nat_cmp q k)) ks) empty; left = ((λ h. h.1), (λ d. (none_known xs, d))) }
+none_seen seen xs empty = record { holds = none_held seen empty; left = ((λ h. h.1), (λ d. (none_known xs, d))) }
 
 is_new : (a b : Bool) → a ≡ not b → a ≡ true → b ≡ false
 is_new a true e h = absurd (false≢true (sym e ∙ h))
@@ -113,7 +122,7 @@ seen_more old now xs i added so lt told fresh =
     let less = drop_more xs i 0 lt in
     let one = one_seen (take i xs) n (drop (i + 1) xs) (is_new added (has_number (take i xs) n) a.0 fresh) in
     record {
-      holds = subst (HoldsNumbers now) more a.1;
+      holds = held_more old now xs i added so.holds lt told;
       left = subst (λ (known : List ℕ). Fresh known (drop (i + 1) xs) ↔ Distinct xs) more (
         (λ h. so.left.0 (subst (Fresh (take i xs)) (sym less) (one.1 h))),
         (λ d. one.0 (subst (Fresh (take i xs)) less (so.left.1 d))),
@@ -151,7 +160,7 @@ stored_are : (all : List Account) → flat_map (λ (a : s.Account). identities a
 stored_are [] = refl
 stored_are (a ∷ all) = ap (λ (ns : List ℕ). stored_identities a ++ ns) (stored_are all)
 
-held_are : (all : List Contract) → flat_map (λ (c : s.Contract). identities c.value) (map contract_of all) ≡ flat_map contract_identities all
+pub held_are : (all : List Contract) → flat_map (λ (c : s.Contract). identities c.value) (map contract_of all) ≡ flat_map contract_identities all
 held_are [] = refl
 held_are (c ∷ all) = ap (λ (ns : List ℕ). contract_identities c ++ ns) (held_are all)
 

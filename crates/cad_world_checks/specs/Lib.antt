@@ -1,3 +1,5 @@
 pub mod Checks
 pub mod Identities
 pub mod OfValues
+pub mod Parts
+pub mod Code

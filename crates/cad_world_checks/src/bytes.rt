@@ -149,7 +149,7 @@ fn controllers_have_bytes(alloc: Global, controllers: &[Controller]) -> Result<b
 // ---- all
 
 /// Whether all that an account has has bytes of its own.
-fn account_has_bytes(alloc: Global, account: &Account) -> Result<bool, AllocError>
+pub(crate) fn account_has_bytes(alloc: Global, account: &Account) -> Result<bool, AllocError>
     ensures { IfOk result (λ b. IsTrue b ↔ AccountHasBytes (account_of account.now)) }
 {
     let places = account.stored.as_slice();
@@ -203,7 +203,10 @@ fn contract_has_bytes(alloc: Global, contract: &Contract) -> Result<bool, AllocE
 }
 
 /// Whether those of all contracts have.
-fn contracts_have_bytes(alloc: Global, contracts: &[Contract]) -> Result<bool, AllocError>
+pub(crate) fn contracts_have_bytes(
+    alloc: Global,
+    contracts: &[Contract],
+) -> Result<bool, AllocError>
     ensures { IfOk result (λ b. IsTrue b ↔ AllByRecursion ContractHasBytes (map contract_of contracts.now)) }
 {
     for contract in contracts {

@@ -112,7 +112,7 @@ fn add_stored(found: &mut Numbers, accounts: &[Account]) -> Result<(), AllocErro
 }
 
 /// Appends the identities in the values of contracts.
-fn add_contracts(found: &mut Numbers, contracts: &[Contract]) -> Result<(), AllocError>
+pub(crate) fn add_contracts(found: &mut Numbers, contracts: &[Contract]) -> Result<(), AllocError>
     ensures { OnOk result (found.new ≡ found.old ++ flat_map spec.contract_identities contracts.now) }
 {
     for contract in contracts {
@@ -143,7 +143,7 @@ pub fn live_identities(alloc: Global, world: &World) -> Result<Numbers, AllocErr
 // ---- no two are the same
 
 /// Adds a number to those seen before. Tells whether it is new.
-fn add_number(seen: &mut BTreeSet<u64>, number: u64) -> Result<bool, AllocError>
+pub(crate) fn add_number(seen: &mut BTreeSet<u64>, number: u64) -> Result<bool, AllocError>
     ensures { IfOk result (λ added. spec.AddsNumber seen.old seen.new number added) }
 {
     match seen.insert(number) {
@@ -173,7 +173,7 @@ fn are_given(next: u64, numbers: &[u64]) -> bool
 }
 
 /// Whether numbers are identities of one resource each.
-fn are_own_numbers(alloc: Global, next: u64, numbers: &[u64]) -> Result<bool, AllocError>
+pub(crate) fn are_own_numbers(alloc: Global, next: u64, numbers: &[u64]) -> Result<bool, AllocError>
     ensures { IfOk result (λ b. IsTrue b ↔ spec.AreOwn next numbers.now) }
 {
     if !are_given(next, numbers) {

@@ -305,7 +305,7 @@ fn is_sound_controlled(shapes: &DeclaredShapes, next: u64, controllers: &[Contro
 // ---- all
 
 /// Whether an account is sound.
-fn is_sound_account(
+pub(crate) fn is_sound_account(
     alloc: Global,
     shapes: &DeclaredShapes,
     account: &Account,
@@ -349,14 +349,14 @@ fn are_sound_accounts(
 }
 
 /// Whether there may be so many accounts.
-fn are_few(count: usize) -> bool
+pub(crate) fn are_few(count: usize) -> bool
     ensures { IsTrue result ↔ (count ≤ most_accounts) }
 {
     count <= MOST_ACCOUNTS
 }
 
 /// Whether this identity can be the next one over so many accounts: over none it is the first.
-fn can_be_next(count: usize, identity: u64) -> bool
+pub(crate) fn can_be_next(count: usize, identity: u64) -> bool
     ensures { IsTrue result ↔ checks.IsFirst count identity }
 {
     if count != 0 {

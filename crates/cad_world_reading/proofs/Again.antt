@@ -34,7 +34,7 @@ use Rattle.cad_worlds.specs.Standing.{AreOneText}
 use Rattle.cad_world_reading.specs.Told.{number_in, name_in, value_in, type_in, lent_by, lent_in, contract_at, head_in, next_in, code_in, fields_in, stored_in, published_in, controller_in, controlled_in, item_in, made, all_made}
 
 -- a step that gives something, and what is done with it
-then_is : {A B : Type 0} {o : Option A} {a : A} {r : Option B} → o ≡ Some a → (f : A → Option B) → f a ≡ r → (o >>= f) ≡ r
+pub then_is : {A B : Type 0} {o : Option A} {a : A} {r : Option B} → o ≡ Some a → (f : A → Option B) → f a ≡ r → (o >>= f) ≡ r
 then_is {A} e f h = ap (λ (x : Option A). x >>= f) e ∙ h
 
 -- ---- what all of the bytes are
@@ -147,7 +147,7 @@ controlled_again n c a b target tag has =
     (then_is (number_all c.number b) (λ number. controller_in number bytes >>= λ x. Some (controlled n x))
     (then_is (controller_again c target tag has) (λ x. Some (controlled n x)) refl))
 
-again : (x : Item) → IsTold x → item_in (told x).key (told x).bytes ≡ Some x
+pub again : (x : Item) → IsTold x → item_in (told x).key (told x).bytes ≡ Some x
 again (head count identity) t = head_again count identity t.0 t.1
 again (next n number) t = next_again n number t.0 t.1
 again (code id bytes) t = code_again id bytes t.0 t.1

@@ -66,9 +66,7 @@ joined_end ss left vs now all none so_far =
 abbrev world_with : List Account → List Contract → ℕ → s.World
 world_with accounts contracts identity = record { accounts = map account_of accounts; contracts = map contract_of contracts; next_identity = identity }
 
--- of slices of what registers made
-pub world_joined : (accounts : List Account) (contracts : List Contract) (given ss : List Source) (programs : List (Rc Checked Global)) (shown vs : List Value) (identity : ℕ) → given ≡ ss → shown ≡ vs → map contract_of contracts ≡ left_from given programs shown
+-- of what registers made
+pub world_joined : (accounts : List Account) (contracts : List Contract) (ss : List Source) (programs : List (Rc Checked Global)) (vs : List Value) (identity : ℕ) → map contract_of contracts ≡ left_from ss programs vs
     → world_with accounts contracts identity ≡ world_from (record { accounts = map account_of accounts; sources = map source_of ss; values = map value_row vs; next_identity = identity }) (map program_in programs)
-world_joined accounts contracts given ss programs shown vs identity same shown_is e =
-    let these : map contract_of contracts ≡ left_from ss programs vs = e ∙ (λ j. left_from (same j) programs (shown_is j)) in
-    λ j. record { accounts = map account_of accounts; contracts = these j; next_identity = identity }
+world_joined accounts contracts ss programs vs identity e = λ j. record { accounts = map account_of accounts; contracts = e j; next_identity = identity }

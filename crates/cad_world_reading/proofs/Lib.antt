@@ -6,3 +6,7 @@ pub mod ReadBack
 pub mod Joined
 pub mod Loaded
 pub mod OneWorld
+pub mod PartSteps
+pub mod WantedAccounts
+pub mod PartMade
+pub mod PartKnown

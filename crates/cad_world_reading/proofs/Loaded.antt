@@ -12,6 +12,8 @@ use Rattle.cad_loading.specs.Laws.{OneLoading}
 use Rattle.cad_loading.specs.Views as views
 use Rattle.cad_loading.specs.declared.loading.Source as held
 use Rattle.cad_loads.specs.Loads.{Loaded, Loads, Source, loaded_by, loaded_of, source_of}
+use Rattle.cad_state.specs.Views.{account_of, contract_of}
+use Rattle.cad_state.specs.declared.state.Contract as kept
 use Rattle.cad_world.specs.Rows.{Row}
 use Rattle.cad_world.specs.State.{Contract, Program, World}
 use Rattle.cad_worlds.proofs.OneWorld.{world_again}
@@ -59,7 +61,33 @@ known one ss ps v same count loads deployed =
     let e : loaded_by ss ps ≡ map loaded_of v.contracts = one (loaded_by ss ps) (map loaded_of v.contracts) loads deployed (sources_again ss ps count ∙ same ∙ sym (own_sources v.contracts)) in
     sym (programs_again ss ps count) ∙ ap (map loaded_program) e ∙ own_programs v.contracts
 
+-- ---- the contracts of a World
+
+-- the codes as they were handed to the loading, and the programs that it gave
+module _ (sources given : List held.Source) (same : given ≡ sources) (answer : Option (Vec (Rc Checked Global) Global)) (loading : Loading (map views.source_of given) (option_map views.programs_of answer)) (programs : Vec (Rc Checked Global) Global) (e : answer ≡ Some programs) where
+  loads_all : Loading (map views.source_of sources) (Some (views.programs_of programs))
+  loads_all = subst (λ (ss : List held.Source). Loading (map views.source_of ss) (Some (views.programs_of programs))) same (subst (Loading (map views.source_of given)) (ap (option_map views.programs_of) e) loading)
+
+  pub as_many_programs : length programs.items ≡ length sources
+  as_many_programs = sym (length-map programs.items program_in) ∙ loads_all.0 ∙ length-map sources views.source_of
+
+  -- by its codes and values
+  contracts_are : (rows : List Row) (v : World) → OneLoading → map views.source_of sources ≡ (draft_of v).sources → rows ≡ (draft_of v).values → IsSound v → contracts_from (map views.source_of sources) (views.programs_of programs) rows ≡ v.contracts
+  contracts_are rows v one codes values sound =
+      let programs_are = known one (map views.source_of sources) (views.programs_of programs) v codes loads_all.0 loads_all.1 sound.1 in
+      (λ i. contracts_from (codes i) (programs_are i) (values i)) ∙ ap (λ (u : World). u.contracts) (world_again v sound.0)
+
+  pub contracts_known : {E : Type 0} (rows : List Row) (r : Result (Vec kept.Contract Global) E) → OneLoading → IfOk r (λ cs. map contract_of cs.items ≡ contracts_from (map views.source_of sources) (views.programs_of programs) rows)
+      → (v : World) → map views.source_of sources ≡ (draft_of v).sources → rows ≡ (draft_of v).values → IsSound v → IfOk r (λ cs. map contract_of cs.items ≡ v.contracts)
+  contracts_known rows (Ok cs) one h v codes values sound = h ∙ contracts_are rows v one codes values sound
+  contracts_known rows (Err x) one h v codes values sound = tt
+
 -- ---- what registers made
+
+-- the World of which they made this
+pub world_known : (made : Parts) (contracts : List kept.Contract) (v : World) → parts_of made ≡ draft_of v → map contract_of contracts ≡ v.contracts
+    → record { accounts = map account_of made.accounts.items; contracts = map contract_of contracts; next_identity = made.next_identity } ≡ v
+world_known made contracts v is are = λ i. record { accounts = (is i).accounts; contracts = are i; next_identity = (is i).next_identity }
 
 -- a World has as many values as codes
 pub as_many : (made : Parts) (v : World) → parts_of made ≡ draft_of v → length made.values.items ≡ length made.sources.items
@@ -79,9 +107,6 @@ module _ (made : Parts) (given : List held.Source) (same : given ≡ made.source
   module _ (programs : Vec (Rc Checked Global) Global) (e : answer ≡ Some programs) where
     loads : Loading (parts_of made).sources (Some (views.programs_of programs))
     loads = known_loading (Some (views.programs_of programs)) (ap (option_map views.programs_of) e)
-
-    pub counted : length programs.items ≡ length made.sources.items
-    counted = sym (length-map programs.items program_in) ∙ loads.0 ∙ length-map made.sources.items views.source_of
 
     -- what is found of these programs was deployed
     pub found : {E : Type 0} (rows : List row.Row) (r : Result (Option own.World) E) → length made.values.items ≡ length made.sources.items
@@ -107,8 +132,3 @@ module _ (made : Parts) (given : List held.Source) (same : given ≡ made.source
     only rows r v one is sound st kept =
         let all = all_known v one is sound in
         subst (λ (w : World). IfOk r (λ o. option_map world_of o ≡ Some w)) all (kept (subst (Stands rows) (sym all) st))
-
-    -- and made again
-    pub again : {E : Type 0} (r : Result own.World E) (v : World) → OneLoading → parts_of made ≡ draft_of v → IsSound v
-        → IfOk r (λ w. world_of w ≡ world_from (parts_of made) (views.programs_of programs)) → IfOk r (λ w. world_of w ≡ v)
-    again r v one is sound h = subst (λ (u : World). IfOk r (λ w. world_of w ≡ u)) (all_known v one is sound) h

@@ -86,6 +86,14 @@ item_in (kind ∷ place) bytes = of_kind kind place bytes
 abbrev pub made : Option Item → Draft → Option Draft
 made o d = option_map (λ x. put x d) o
 
+-- registers one behind another
+abbrev pub one_by_one : {D : Type 0} → (List ℕ → List ℕ → D → Option D) → List Register → D → Option D
+one_by_one step [] d = Some d
+one_by_one step (r ∷ rs) d = step r.key r.bytes d >>= λ e. one_by_one step rs e
+
+-- by the key and the bytes of one
+abbrev pub make_one : List ℕ → List ℕ → Draft → Option Draft
+make_one key bytes d = made (item_in key bytes) d
+
 abbrev pub all_made : List Register → Draft → Option Draft
-all_made [] d = Some d
-all_made (r ∷ rs) d = made (item_in r.key r.bytes) d >>= λ e. all_made rs e
+all_made = one_by_one make_one

@@ -3,18 +3,17 @@ ghost use Rattle.std.specs.Prelude.{◌≡◌, ◌++◌, ◌∷◌, [], IfOk, On
 ghost use Rattle.cad_loading.specs.Views.{programs_of, source_of};
 ghost use Rattle.cad_rows.specs.Views.{pure_row};
 ghost use Rattle.cad_state.specs.Views.{contract_of};
+ghost use Rattle.cad_world.specs.State as s;
 ghost use Rattle.cad_world_reading.specs.Meaning as spec;
 ghost use Rattle.cad_world_reading.specs.Meaning.{parts_of, value_row};
 ghost use Rattle.cad_worlds.specs.Items as items;
-ghost use Rattle.cad_worlds.specs.Standing.{world_of};
+ghost use Rattle.cad_worlds.specs.Standing.{IsSound, world_of};
 
-use crate::parts::{Parts, discard_sources};
+use crate::parts::{Parts, discard_contract_parts};
 use cad_declarations::Checked;
-use cad_loading::Source;
+use cad_loading::{Programs, Source, load_kept, one_loading};
 use cad_rows::{Place, add_last, discard_row};
-use cad_state::{
-    Contract, discard_accounts, discard_contract, discard_contracts, discard_shared, discard_values,
-};
+use cad_state::{Contract, discard_accounts, discard_contract, discard_contracts, discard_shared};
 use cad_value_trees::tree_from_value;
 use cad_values::Value;
 use cad_worlds::World;
@@ -147,6 +146,49 @@ fn contracts_from(
     Ok(contracts)
 }
 
+/// Contracts of their codes, their programs and their values, in order; the codes and the values are let go.
+fn join_contracts(
+    alloc: Global,
+    sources: Vec<Source>,
+    programs: Vec<Rc<Checked>>,
+    values: Vec<Value>,
+) -> Result<Vec<Contract>, AllocError>
+    requires programs { length programs.items ≡ length sources.items }
+    requires values { length values.items ≡ length sources.items }
+    ensures { IfOk result (λ cs. map contract_of cs.items ≡ items.contracts_from (map source_of sources.items) (programs_of programs) (map value_row values.items)) }
+{
+    let joined = contracts_from(alloc, sources.as_slice(), programs, values.as_slice());
+    discard_contract_parts(sources, values);
+    joined
+}
+
+/// The contracts of a World, by their codes and their values: their programs are found (`load_kept`). AllocError also where there are none.
+pub(crate) fn load_contracts(
+    alloc: Global,
+    known: &mut Programs,
+    sources: Vec<Source>,
+    values: Vec<Value>,
+) -> Result<Vec<Contract>, AllocError>
+    ensures { (v : s.World) → map source_of sources.items ≡ (items.draft_of v).sources → map value_row values.items ≡ (items.draft_of v).values → IsSound v → IfOk result (λ cs. map contract_of cs.items ≡ v.contracts) }
+{
+    one_loading();
+    if values.len() != sources.len() {
+        discard_contract_parts(sources, values);
+        return Err(AllocError);
+    }
+    match load_kept(alloc, known, sources.as_slice()) {
+        Ok(Some(programs)) => join_contracts(alloc, sources, programs, values),
+        Ok(None) => {
+            discard_contract_parts(sources, values);
+            Err(AllocError)
+        }
+        Err(error) => {
+            discard_contract_parts(sources, values);
+            Err(error)
+        }
+    }
+}
+
 /// The World of what registers made and of the programs of its contracts.
 pub(crate) fn world_from(
     alloc: Global,
@@ -163,10 +205,7 @@ pub(crate) fn world_from(
         values,
         next_identity,
     } = parts;
-    let joined = contracts_from(alloc, sources.as_slice(), programs, values.as_slice());
-    discard_sources(sources);
-    discard_values(values);
-    match joined {
+    match join_contracts(alloc, sources, programs, values) {
         Ok(contracts) => Ok(World {
             accounts,
             contracts,

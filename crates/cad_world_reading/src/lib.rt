@@ -6,9 +6,13 @@ mod contracts;
 mod fields;
 mod laws;
 mod making;
+mod part;
+mod part_draft;
 mod parts;
 mod reading;
 mod saying;
+mod selection;
 
 pub use laws::one_world;
+pub use part::known_part;
 pub use reading::{known_world, read_world};

@@ -53,7 +53,7 @@ fn discard_controller(controller: Controller) {
 }
 
 /// Lets what an account doesn't get go.
-fn discard_change(change: Change) {
+pub(crate) fn discard_change(change: Change) {
     match change {
         Change::Stored { name, value } => {
             drop(name);
@@ -120,7 +120,11 @@ fn control(account: &mut Account, controller: Controller) -> Result<(), AllocErr
 }
 
 /// Gives an account what it has more.
-fn change_account(alloc: Global, account: &mut Account, change: Change) -> Result<(), AllocError>
+pub(crate) fn change_account(
+    alloc: Global,
+    account: &mut Account,
+    change: Change,
+) -> Result<(), AllocError>
     ensures { OnOk result (account_of account.new ≡ changed_by change (account_of account.old)) }
 {
     match change {
@@ -133,7 +137,7 @@ fn change_account(alloc: Global, account: &mut Account, change: Change) -> Resul
 // ---- all accounts
 
 /// An account in which nothing is.
-fn begun_account(alloc: Global, number: u64) -> Account
+pub(crate) fn begun_account(alloc: Global, number: u64) -> Account
     ensures { account_of result ≡ items.begun_account number }
 {
     Account {
@@ -198,7 +202,7 @@ fn change_at(
 
 /// Adds the code of a contract.
 #[tactic(auto, using(crate::proofs::Found::sources_more))]
-fn push_source(
+pub(crate) fn push_source(
     alloc: Global,
     id: TypeId,
     code: Bytes,
@@ -213,7 +217,7 @@ fn push_source(
 
 /// Adds the value of a contract.
 #[tactic(auto, using(crate::proofs::Found::values_more))]
-fn push_value(value: Value, values: &mut Vec<Value>) -> Result<(), AllocError>
+pub(crate) fn push_value(value: Value, values: &mut Vec<Value>) -> Result<(), AllocError>
     ensures { OnOk result (map value_row values.new.items ≡ map value_row values.old.items ++ value_row value ∷ []) }
 {
     match values.push(value) {

@@ -13,9 +13,10 @@ pub(crate) struct Parts {
     pub next_identity: u64,
 }
 
-/// Lets the codes of contracts go.
-pub(crate) fn discard_sources(sources: Vec<Source>) {
-    drop(sources)
+/// Lets the codes and the values of contracts go.
+pub(crate) fn discard_contract_parts(sources: Vec<Source>, values: Vec<Value>) {
+    drop(sources);
+    discard_values(values)
 }
 
 /// Lets it go.
@@ -27,6 +28,5 @@ pub(crate) fn discard_parts(parts: Parts) {
         next_identity: _,
     } = parts;
     discard_accounts(accounts);
-    discard_sources(sources);
-    discard_values(values)
+    discard_contract_parts(sources, values)
 }

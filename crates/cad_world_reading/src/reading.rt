@@ -9,13 +9,14 @@ ghost use Rattle.cad_worlds.specs.Items as items;
 ghost use Rattle.cad_worlds.specs.Standing.{IsSound, StandsFor, world_of};
 
 use crate::comparing::stand_for;
-use crate::contracts::world_from;
+use crate::contracts::{load_contracts, world_from};
 use crate::making::make;
 use crate::parts::{Parts, discard_parts};
 use cad_accounts::Row;
 use cad_codec::DecodeError;
 use cad_declarations::Checked;
 use cad_loading::{Programs, load_kept, one_loading};
+use cad_state::discard_accounts;
 use cad_worlds::{World, discard_world};
 use std::alloc::{AllocError, Global};
 use std::rc::Rc;
@@ -120,19 +121,20 @@ pub fn read_world(
 fn made_of(alloc: Global, known: &mut Programs, parts: Parts) -> Result<World, AllocError>
     ensures { (v : s.World) → parts_of parts ≡ items.draft_of v → IsSound v → IfOk result (λ w. world_of w ≡ v) }
 {
-    one_loading();
-    if !are_as_many(&parts) {
-        discard_parts(parts);
-        return Err(AllocError);
-    }
-    match load_kept(alloc, known, parts.sources.as_slice()) {
-        Ok(Some(programs)) => world_from(alloc, parts, programs),
-        Ok(None) => {
-            discard_parts(parts);
-            Err(AllocError)
-        }
+    let Parts {
+        accounts,
+        sources,
+        values,
+        next_identity,
+    } = parts;
+    match load_contracts(alloc, known, sources, values) {
+        Ok(contracts) => Ok(World {
+            accounts,
+            contracts,
+            next_identity,
+        }),
         Err(error) => {
-            discard_parts(parts);
+            discard_accounts(accounts);
             Err(error)
         }
     }

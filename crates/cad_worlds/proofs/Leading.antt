@@ -1,5 +1,5 @@
 -- What is merged of two lists of rows leads from the one to the other.
-use Rattle.std.proofs.Common.{◌≡◌, ◌≢◌, ℕ, suc, ◌<◌, ◌≤◌, true, false, List, [], ◌∷◌, ◌++◌, Some, None, map, length, drop, get_or, refl, sym, ap, subst, ◌∙◌, append_assoc, append-nil, inl, inr}
+use Rattle.std.proofs.Common.{◌≡◌, ◌≢◌, ℕ, true, false, List, [], ◌∷◌, ◌++◌, Some, None, map, refl, sym, ap, subst, ◌∙◌, append_assoc, append-nil, inl, inr}
 use Rattle.std.specs.List.{AllByRecursion}
 use Rattle.std.specs.Ordering.{nat_cmp, is_lt}
 use Rattle.std.specs.Cmp.Lexicographic.{slice_cmp}
@@ -18,7 +18,6 @@ use Rattle.cad_accounts.proofs.Maps.{changed_twice, changed_kept, changed_else, 
 use Rattle.cad_accounts.proofs.OneSize.{at_first}
 use Rattle.cad_accounts.proofs.Order.{tail_rises, behind_all, first_before, join}
 use Rattle.cad_accounts.proofs.RowLaws.{none_behind}
-use Rattle.cad_worlds.proofs.Lists.{none_past, from_item}
 use Rattle.cad_worlds.specs.Merging.{removal, in_front, from, behind, own, merged}
 
 -- ---- one step
@@ -163,38 +162,7 @@ merged_leads os rs a b =
       differ = All-from_recursion (λ e. at os e.key.0 ≢ e.value) (merged os rs) m.differ;
     }
 
--- ---- the loops
-
--- past a row that stands before the key
-passed : (key : List ℕ) (rows : List Row) (i : ℕ) (r : Row) → i < length rows → r ≡ get_or rows i r → before r.key.0 key ≡ true → in_front key (drop i rows) ≡ r ∷ in_front key (drop (suc i) rows)
-passed key rows i r inside is e = ap (in_front key) (from_item rows i r inside is) ∙ rw e refl
-
-pub left_passed : (key : List ℕ) (rows : List Row) (i : ℕ) (r : Row) → i < length rows → r ≡ get_or rows i r → before r.key.0 key ≡ true → from key (drop i rows) ≡ from key (drop (suc i) rows)
-left_passed key rows i r inside is e = ap (from key) (from_item rows i r inside is) ∙ rw e refl
-
--- at one that doesn't
-stopped : (key : List ℕ) (rows : List Row) (i : ℕ) (r : Row) → i < length rows → r ≡ get_or rows i r → before r.key.0 key ≡ false → in_front key (drop i rows) ≡ []
-stopped key rows i r inside is e = ap (in_front key) (from_item rows i r inside is) ∙ rw e refl
-
-pub left_stopped : (key : List ℕ) (rows : List Row) (i : ℕ) (r : Row) → i < length rows → r ≡ get_or rows i r → before r.key.0 key ≡ false → from key (drop i rows) ≡ drop i rows
-left_stopped key rows i r inside is e = ap (from key) (from_item rows i r inside is) ∙ rw e (sym (from_item rows i r inside is))
-
-pub walk_turn : (key : List ℕ) (rows : List Row) (i : ℕ) (r : Row) (now new all : List Entry) → i < length rows → r ≡ get_or rows i r → before r.key.0 key ≡ true
-    → now ++ map removal (in_front key (drop i rows)) ≡ all → new ≡ now ++ removal r ∷ [] → new ++ map removal (in_front key (drop (suc i) rows)) ≡ all
-walk_turn key rows i r now new all inside is e so_far grown =
-    ap (λ z. z ++ map removal (in_front key (drop (suc i) rows))) grown
-    ∙ append_assoc now (removal r ∷ []) (map removal (in_front key (drop (suc i) rows)))
-    ∙ ap (λ (z : List Row). now ++ map removal z) (sym (passed key rows i r inside is e))
-    ∙ so_far
-
-pub walk_stop : (key : List ℕ) (rows : List Row) (i : ℕ) (r : Row) (now all : List Entry) → i < length rows → r ≡ get_or rows i r → before r.key.0 key ≡ false → now ++ map removal (in_front key (drop i rows)) ≡ all → now ≡ all
-walk_stop key rows i r now all inside is e so_far = sym (append-nil now) ∙ ap (λ (z : List Row). now ++ map removal z) (sym (stopped key rows i r inside is e)) ∙ so_far
-
-pub walk_end : (key : List ℕ) (rows : List Row) (i : ℕ) (now all : List Entry) → length rows ≤ i → now ++ map removal (in_front key (drop i rows)) ≡ all → now ≡ all
-walk_end key rows i now all outside so_far = sym (append-nil now) ∙ ap (λ (z : List Row). now ++ map removal (in_front key z)) (sym (none_past rows i outside)) ∙ so_far
-
-pub left_none : (key : List ℕ) (rows : List Row) (i : ℕ) → length rows ≤ i → from key (drop i rows) ≡ from key rows → [] ≡ from key rows
-left_none key rows i outside so_far = ap (from key) (sym (none_past rows i outside)) ∙ so_far
+-- ---- the loop
 
 -- one row more
 pub merge_turn : (all : List Row → List Entry) (left next yielded : List Row) (row : Row) (now new : List Entry) → ((rest : List Row) → now ++ merged left rest ≡ all (yielded ++ rest)) → next ≡ behind row.key.0 (from row.key.0 left)

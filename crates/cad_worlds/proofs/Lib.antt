@@ -1,6 +1,8 @@
 pub mod Lists
 pub mod Sections
 pub mod Leading
+pub mod Choosing
+pub mod KnownPlaces
 pub mod Numbers
 pub mod Parts
 pub mod Known
@@ -10,3 +12,4 @@ pub mod OneItem
 pub mod Items
 pub mod Making
 pub mod OneWorld
+pub mod PartLaws

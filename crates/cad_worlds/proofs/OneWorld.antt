@@ -43,7 +43,7 @@ at_rows (r ∷ rows) key = ap (cond (same_key key r.key.0) (Some r.value)) (at_r
 at_registers : (xs : List Register) (key : List ℕ) → at (map row_of xs) key ≡ bytes_under xs key
 at_registers xs key = at_rows (map row_of xs) key ∙ ap (λ (ys : List Register). bytes_under ys key) (registers_again xs)
 
-rise_as_rows : (xs : List Register) → are_rising (map row_of xs) ≡ rise register_key xs
+pub rise_as_rows : (xs : List Register) → are_rising (map row_of xs) ≡ rise register_key xs
 rise_as_rows [] = refl
 rise_as_rows (x ∷ []) = refl
 rise_as_rows (x ∷ y ∷ xs) = ap (λ b. before x.key y.key && b) (rise_as_rows (y ∷ xs))

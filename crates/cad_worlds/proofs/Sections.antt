@@ -14,6 +14,7 @@ use Rattle.cad_state.specs.Views.{account_of, contract_of, controller_of, public
 use Rattle.cad_state.specs.declared.state.Account.{Account}
 use Rattle.cad_state.specs.declared.state.Contract.{Contract}
 use Rattle.cad_state.specs.declared.state.Controller.{Controller}
+use Rattle.cad_state.specs.declared.state.Known.{Known}
 use Rattle.cad_state.specs.declared.state.Publication.{Publication}
 use Rattle.cad_syntax.specs.declared.text.Name.{Name}
 use Rattle.cad_syntax.specs.declared.type_id.TypeId.{TypeId}
@@ -22,8 +23,11 @@ use Rattle.cad_world.specs.Rows as r
 use Rattle.cad_world.specs.Trees.{value_of}
 use Rattle.cad_world.specs.State as s
 use Rattle.cad_worlds.proofs.Lists.{none_past, from_item}
+use Rattle.cad_worlds.specs.Code.KnownRegisters.{known_section, part_registers}
 use Rattle.cad_worlds.specs.Sections.{head, place_registers, names_left, published_of, controlled_of, code_of, fields_register, fields_of, place_fields}
 use Rattle.cad_worlds.specs.Standing.{coding, register_of}
+use Rattle.cad_worlds.specs.declared.part.WorldPart.{WorldPart}
+use Rattle.cad_worlds.specs.declared.writing.Section.TheVariants as section
 
 -- ---- any list
 
@@ -152,14 +156,27 @@ contents_end id ps i now all outside so_far =
 pub joined : (a b c d e f g : List Register) → (((((a ++ b) ++ c) ++ d) ++ e) ++ f) ++ g ≡ a ++ (b ++ (c ++ (d ++ (e ++ (f ++ g)))))
 joined a b c d e f g = simp append_assoc
 
--- what is appended for each kind, of these accounts and contracts
-pub record AreWritten (accounts : List Account) (contracts : List Contract) (r0 r1 r2 r3 r4 r5 r6 : List Register) : Type 0 where
-  pub next : r1 ≡ r0 ++ of_accounts next_register 1 (map account_of accounts)
-  pub codes : r2 ≡ r1 ++ map code_of contracts
-  pub values : r3 ≡ r2 ++ flat_map fields_of contracts
-  pub stored : r4 ≡ r3 ++ of_accounts (stored_registers coding) 1 (map account_of accounts)
-  pub published : r5 ≡ r4 ++ of_accounts (published_registers coding) 1 (map account_of accounts)
-  pub controlled : r6 ≡ r5 ++ of_accounts (controller_registers coding) 1 (map account_of accounts)
+-- what is appended for each kind
+pub record AreAppended (r0 r1 r2 r3 r4 r5 r6 a b c d e f : List Register) : Type 0 where
+  pub next : r1 ≡ r0 ++ a
+  pub codes : r2 ≡ r1 ++ b
+  pub values : r3 ≡ r2 ++ c
+  pub stored : r4 ≡ r3 ++ d
+  pub published : r5 ≡ r4 ++ e
+  pub controlled : r6 ≡ r5 ++ f
+
+pub all_appended : (r0 r1 r2 r3 r4 r5 r6 a b c d e f : List Register) → AreAppended r0 r1 r2 r3 r4 r5 r6 a b c d e f → r6 ≡ r0 ++ (a ++ (b ++ (c ++ (d ++ (e ++ f)))))
+all_appended r0 r1 r2 r3 r4 r5 r6 a b c d e f w =
+    let e2 : r2 ≡ (r0 ++ a) ++ b = w.codes ∙ ap (λ (z : List Register). z ++ b) w.next in
+    let e4 : r4 ≡ (((r0 ++ a) ++ b) ++ c) ++ d = w.stored ∙ ap (λ (z : List Register). z ++ d) (w.values ∙ ap (λ (z : List Register). z ++ c) e2) in
+    w.controlled ∙ ap (λ (z : List Register). z ++ f) (w.published ∙ ap (λ (z : List Register). z ++ e) e4)
+    ∙ joined r0 a b c d e f
+
+-- of these accounts and contracts
+abbrev pub AreWritten : List Account → List Contract → (r0 r1 r2 r3 r4 r5 r6 : List Register) → Type 0
+AreWritten accounts contracts r0 r1 r2 r3 r4 r5 r6 =
+    let all = map account_of accounts in
+    AreAppended r0 r1 r2 r3 r4 r5 r6 (of_accounts next_register 1 all) (map code_of contracts) (flat_map fields_of contracts) (of_accounts (stored_registers coding) 1 all) (of_accounts (published_registers coding) 1 all) (of_accounts (controller_registers coding) 1 all)
 
 -- the registers of a World, one kind behind another
 pub all_kinds : (accounts kept : List Account) (contracts held : List Contract) (count identity : ℕ) (r0 r1 r2 r3 r4 r5 r6 : List Register) → accounts ≡ kept → contracts ≡ held → count ≡ length accounts → r0 ≡ head count identity
@@ -168,15 +185,28 @@ pub all_kinds : (accounts kept : List Account) (contracts held : List Contract) 
 all_kinds accounts kept contracts held count identity r0 r1 r2 r3 r4 r5 r6 same there counted e0 w =
     let all = map account_of accounts in
     let a = of_accounts next_register 1 all in
-    let b = map code_of contracts in
-    let c = flat_map fields_of contracts in
     let d = of_accounts (stored_registers coding) 1 all in
     let e = of_accounts (published_registers coding) 1 all in
     let f = of_accounts (controller_registers coding) 1 all in
-    let e2 : r2 ≡ (head count identity ++ a) ++ b = w.codes ∙ ap (λ (z : List Register). z ++ b) (w.next ∙ ap (λ (z : List Register). z ++ a) e0) in
-    let e4 : r4 ≡ (((head count identity ++ a) ++ b) ++ c) ++ d = w.stored ∙ ap (λ (z : List Register). z ++ d) (w.values ∙ ap (λ (z : List Register). z ++ c) e2) in
-    w.controlled ∙ ap (λ (z : List Register). z ++ f) (w.published ∙ ap (λ (z : List Register). z ++ e) e4)
-    ∙ joined (head count identity) a b c d e f
-    ∙ ap (λ (n : ℕ). head n identity ++ (a ++ (b ++ (c ++ (d ++ (e ++ f)))))) (counted ∙ sym (length-map accounts account_of))
+    all_appended r0 r1 r2 r3 r4 r5 r6 a (map code_of contracts) (flat_map fields_of contracts) d e f w
+    ∙ ap (λ (z : List Register). z ++ (a ++ (map code_of contracts ++ (flat_map fields_of contracts ++ (d ++ (e ++ f)))))) (e0 ∙ ap (λ (n : ℕ). head n identity) (counted ∙ sym (length-map accounts account_of)))
     ∙ (λ i. head (length all) identity ++ (a ++ (all_codes contracts i ++ (all_values contracts i ++ (d ++ (e ++ f))))))
     ∙ (λ i. registers coding (record { accounts = map account_of (same i); contracts = map contract_of (there i); next_identity = identity }))
+
+-- ---- of what is known of a World
+
+-- those of known accounts and of contracts
+abbrev pub KnownAppended : List Known → List Contract → (r0 r1 r2 r3 r4 r5 r6 : List Register) → Type 0
+KnownAppended known contracts r0 r1 r2 r3 r4 r5 r6 =
+    AreAppended r0 r1 r2 r3 r4 r5 r6 (flat_map (known_section section.Next) known) (map code_of contracts) (flat_map fields_of contracts) (flat_map (known_section section.Stored) known) (flat_map (known_section section.Published) known) (flat_map (known_section section.Controllers) known)
+
+pub part_kinds : (x : WorldPart) (known : List Known) (contracts : List Contract) (r0 r1 r2 r3 r4 r5 r6 : List Register) → known ≡ x.known.items → contracts ≡ x.contracts.items → r0 ≡ head x.count x.next_identity
+    → KnownAppended known contracts r0 r1 r2 r3 r4 r5 r6 → r6 ≡ part_registers x
+part_kinds x known contracts r0 r1 r2 r3 r4 r5 r6 same there e0 w =
+    let a = flat_map (known_section section.Next) in
+    let d = flat_map (known_section section.Stored) in
+    let e = flat_map (known_section section.Published) in
+    let f = flat_map (known_section section.Controllers) in
+    all_appended r0 r1 r2 r3 r4 r5 r6 (a known) (map code_of contracts) (flat_map fields_of contracts) (d known) (e known) (f known) w
+    ∙ (λ i. e0 i ++ (a (same i) ++ (map code_of (there i) ++ (flat_map fields_of (there i) ++ (d (same i) ++ (e (same i) ++ f (same i)))))))
+    ∙ (λ i. head x.count x.next_identity ++ (a x.known.items ++ (all_codes x.contracts.items i ++ (all_values x.contracts.items i ++ (d x.known.items ++ (e x.known.items ++ f x.known.items))))))

@@ -3,3 +3,5 @@ pub mod Sections
 pub mod Merging
 pub mod Laws
 pub mod Items
+pub mod Parts
+pub mod Code

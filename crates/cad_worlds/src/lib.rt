@@ -2,12 +2,17 @@
 #![tactic(auto)]
 
 mod kept;
+mod keys;
+mod known_changes;
 mod laws;
 mod merging;
+mod part;
 mod rows;
 mod writing;
 
 pub use kept::{World, discard_world};
+pub use known_changes::part_changes;
 pub use laws::{one_world, registers_rise, rows_are_registers};
 pub use merging::changes;
+pub use part::{WorldPart, discard_part};
 pub use writing::registers_of;

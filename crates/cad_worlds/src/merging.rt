@@ -1,11 +1,13 @@
 // The entries that lead from registers to others.
-ghost use Rattle.std.specs.Prelude.{◌≡◌, ◌++◌, ◌∷◌, [], true, List, map, IfOk, OnOk};
+ghost use Rattle.std.specs.Prelude.{◌≡◌, ◌++◌, ◌∷◌, [], true, List, map, IfOk, OnOk, option_map};
 ghost use Rattle.cad_accounts.specs.KeyOrder as order;
 ghost use Rattle.cad_accounts.specs.Registers.{Leads, at, are_rising};
 ghost use Rattle.cad_accounts.specs.declared.row.Row as r;
 ghost use Rattle.cad_worlds.specs.Merging as spec;
 
+use crate::keys::is_of_part;
 use cad_accounts::Row;
+use cad_state::Known;
 use cad_syntax::Items;
 use cad_wire::{Entries, Entry, Key};
 use std::alloc::{AllocError, Global};
@@ -28,32 +30,53 @@ fn push_removal(alloc: Global, row: &Row, changes: &mut Entries) -> Result<(), A
     })
 }
 
-/// Adds that all rows are removed.
-fn remove_all(alloc: Global, rows: &[Row], changes: &mut Entries) -> Result<(), AllocError>
-    ensures { OnOk result (changes.new ≡ changes.old ++ map spec.removal rows.now) }
+/// Whether a row is compared: each, or those of a part of a World of which these accounts are known.
+fn is_compared(known: Option<&[Known]>, row: &Row) -> bool
+    ensures { result ≡ spec.is_compared (option_map (λ k. k.now) known.entry) row.now.key.0 }
+{
+    match known {
+        None => true,
+        Some(known) => is_of_part(known, row.key.0.as_slice()),
+    }
+}
+
+/// Adds that all rows are removed that are compared.
+fn remove_all(
+    alloc: Global,
+    known: Option<&[Known]>,
+    rows: &[Row],
+    changes: &mut Entries,
+) -> Result<(), AllocError>
+    ensures { OnOk result (changes.new ≡ changes.old ++ map spec.removal (spec.chosen (spec.is_compared (option_map (λ k. k.now) known.entry)) rows.now)) }
 {
     for row in rows {
-        push_removal(alloc, row, changes)?;
+        if is_compared(known, row) {
+            push_removal(alloc, row, changes)?;
+        }
     }
     Ok(())
 }
 
-/// Adds that the first rows are removed, whose keys stand before this one. The rows from there on are handed back.
+/// Adds that the first rows are removed that are compared and whose keys stand before this one. The rows from the next one on are
+/// handed back.
 fn remove_before<'r>(
     alloc: Global,
+    known: Option<&[Known]>,
     rows: &'r [Row],
     key: &[u8],
     changes: &mut Entries,
 ) -> Result<&'r [Row], AllocError>
-    ensures left { IfOk result (λ left. left.now ≡ spec.from key.now rows.now) }
-    ensures changes { OnOk result (changes.new ≡ changes.old ++ map spec.removal (spec.in_front key.now rows.now)) }
+    ensures left { IfOk result (λ left. left.now ≡ spec.left_from (spec.is_compared (option_map (λ k. k.now) known.entry)) key.now rows.now) }
+    ensures changes { OnOk result (changes.new ≡ changes.old ++ map spec.removal (spec.in_front key.now (spec.chosen (spec.is_compared (option_map (λ k. k.now) known.entry)) rows.now))) }
 {
     for i in 0..rows.len() {
         let row = &rows[i];
-        if !is_before(row, key) {
-            return Ok(&rows[i..]);
+        if is_compared(known, row) {
+            if !is_before(row, key) {
+                return Ok(&rows[i..]);
+            }
+            push_removal(alloc, row, changes)?;
         }
-        push_removal(alloc, row, changes)?;
     }
     Ok(&[])
 }
@@ -105,43 +128,50 @@ fn push_row(there: &[Row], row: Row, changes: &mut Entries) -> Result<(), AllocE
 /// handed back.
 fn take_row<'r>(
     alloc: Global,
+    known: Option<&[Known]>,
     rows: &'r [Row],
     row: Row,
     changes: &mut Entries,
 ) -> Result<&'r [Row], AllocError>
-    ensures left { IfOk result (λ left. left.now ≡ spec.behind row.key.0 (spec.from row.key.0 rows.now)) }
-    ensures changes { OnOk result (changes.new ≡ changes.old ++ (map spec.removal (spec.in_front row.key.0 rows.now) ++ spec.own (spec.from row.key.0 rows.now) row)) }
+    ensures left { IfOk result (λ left. left.now ≡ spec.behind row.key.0 (spec.left_from (spec.is_compared (option_map (λ k. k.now) known.entry)) row.key.0 rows.now)) }
+    ensures changes { OnOk result (changes.new ≡ changes.old ++ (map spec.removal (spec.in_front row.key.0 (spec.chosen (spec.is_compared (option_map (λ k. k.now) known.entry)) rows.now)) ++ spec.own (spec.left_from (spec.is_compared (option_map (λ k. k.now) known.entry)) row.key.0 rows.now) row)) }
 {
-    let there = remove_before(alloc, rows, row.key.0.as_slice(), changes)?;
+    let there = remove_before(alloc, known, rows, row.key.0.as_slice(), changes)?;
     let left = behind(there, row.key.0.as_slice());
     push_row(there, row, changes)?;
     Ok(left)
 }
 
-/// Adds what leads from the one rows to the others, but for the removal of those behind the last of these, which are handed
-/// back.
+/// Adds what leads from the one rows, where they are compared, to the others, but for the removal of those behind the last of
+/// these, which are handed back.
 fn take_rows<'r>(
     alloc: Global,
+    known: Option<&[Known]>,
     old: &'r [Row],
     new: Vec<Row>,
     changes: &mut Entries,
 ) -> Result<&'r [Row], AllocError>
-    ensures { IfOk result (λ left. (rest : List r.Row) → changes.new ++ spec.merged left.now rest ≡ changes.old ++ spec.merged old.now (new.items ++ rest)) }
+    ensures { IfOk result (λ left. (rest : List r.Row) → changes.new ++ spec.merged (spec.chosen (spec.is_compared (option_map (λ k. k.now) known.entry)) left.now) rest ≡ changes.old ++ spec.merged (spec.chosen (spec.is_compared (option_map (λ k. k.now) known.entry)) old.now) (new.items ++ rest)) }
 {
     let mut left = old;
     for row in new {
-        left = take_row(alloc, left, row, changes)?;
+        left = take_row(alloc, known, left, row, changes)?;
     }
     Ok(left)
 }
 
-/// What leads from the one rows to the others, by going once over both.
-fn merge(alloc: Global, old: &[Row], new: Vec<Row>) -> Result<Entries, AllocError>
-    ensures { IfOk result (λ changes. changes ≡ spec.merged old.now new.items) }
+/// What leads from the one rows, where they are compared, to the others, by going once over both.
+pub(crate) fn merge(
+    alloc: Global,
+    known: Option<&[Known]>,
+    old: &[Row],
+    new: Vec<Row>,
+) -> Result<Entries, AllocError>
+    ensures { IfOk result (λ changes. changes ≡ spec.merged (spec.chosen (spec.is_compared (option_map (λ k. k.now) known.entry)) old.now) new.items) }
 {
     let mut changes = Items::new(alloc);
-    let left = take_rows(alloc, old, new, &mut changes)?;
-    remove_all(alloc, left, &mut changes)?;
+    let left = take_rows(alloc, known, old, new, &mut changes)?;
+    remove_all(alloc, known, left, &mut changes)?;
     Ok(changes)
 }
 
@@ -151,6 +181,6 @@ pub fn changes(alloc: Global, old: &[Row], new: Vec<Row>) -> Result<Entries, All
     requires new { are_rising new.items ≡ true }
     ensures { IfOk result (λ changes. Leads (at old.now) (at new.items) changes) }
 {
-    let entries = merge(alloc, old, new)?;
+    let entries = merge(alloc, None, old, new)?;
     Ok(entries)
 }

@@ -24,13 +24,13 @@ use cad_values::{Cap, Value, has_no_reference};
 use cad_wire::{Key, Writer};
 use std::alloc::{AllocError, Global};
 
-const HEAD: u8 = 0;
+pub(crate) const HEAD: u8 = 0;
 
 const NEXT: u8 = 1;
 
-const CODE: u8 = 2;
+pub(crate) const CODE: u8 = 2;
 
-const FIELDS: u8 = 3;
+pub(crate) const FIELDS: u8 = 3;
 
 const STORED: u8 = 4;
 

@@ -201,7 +201,7 @@ fn push_controlled(
 }
 
 /// Appends the registers of an account, of one kind.
-fn push_account(
+pub(crate) fn push_account(
     alloc: Global,
     section: Section,
     address: u64,
@@ -246,7 +246,11 @@ fn push_code(alloc: Global, contract: &Contract, rows: &mut Vec<Row>) -> Result<
 }
 
 /// Appends the registers of the codes of contracts.
-fn push_codes(alloc: Global, contracts: &[Contract], rows: &mut Vec<Row>) -> Result<(), AllocError>
+pub(crate) fn push_codes(
+    alloc: Global,
+    contracts: &[Contract],
+    rows: &mut Vec<Row>,
+) -> Result<(), AllocError>
     ensures { OnOk result (map register_of rows.new.items ≡ map register_of rows.old.items ++ map sections.code_of contracts.now) }
 {
     for contract in contracts {
@@ -297,7 +301,11 @@ fn push_value(alloc: Global, contract: &Contract, rows: &mut Vec<Row>) -> Result
 }
 
 /// Appends the registers of the values of contracts.
-fn push_values(alloc: Global, contracts: &[Contract], rows: &mut Vec<Row>) -> Result<(), AllocError>
+pub(crate) fn push_values(
+    alloc: Global,
+    contracts: &[Contract],
+    rows: &mut Vec<Row>,
+) -> Result<(), AllocError>
     ensures { OnOk result (map register_of rows.new.items ≡ map register_of rows.old.items ++ flat_map sections.fields_of contracts.now) }
 {
     for contract in contracts {
@@ -309,12 +317,12 @@ fn push_values(alloc: Global, contracts: &[Contract], rows: &mut Vec<Row>) -> Re
 // ---- of a World
 
 /// The register of how many accounts there are, where there is one.
-fn head_rows(alloc: Global, count: usize, identity: u64) -> Result<Vec<Row>, AllocError>
+pub(crate) fn head_rows(alloc: Global, count: u64, identity: u64) -> Result<Vec<Row>, AllocError>
     ensures { IfOk result (λ rows. map register_of rows.items ≡ sections.head count identity) }
 {
     let mut rows = Vec::new(alloc);
     if count != 0 {
-        let row = head_row(alloc, count as u64, identity)?;
+        let row = head_row(alloc, count, identity)?;
         push_row(row, &mut rows)?;
     }
     Ok(rows)
@@ -327,7 +335,7 @@ pub fn registers_of(alloc: Global, world: &World) -> Result<Vec<Row>, AllocError
 {
     let accounts = world.accounts.as_slice();
     let contracts = world.contracts.as_slice();
-    let mut rows = head_rows(alloc, accounts.len(), world.next_identity)?;
+    let mut rows = head_rows(alloc, accounts.len() as u64, world.next_identity)?;
     push_section(alloc, Section::Next, accounts, &mut rows)?;
     push_codes(alloc, contracts, &mut rows)?;
     push_values(alloc, contracts, &mut rows)?;

@@ -1,5 +1,9 @@
 -- Parts of statements, each of which a function carries out.
-use Rattle.std.specs.Prelude.{ℕ, Bool, true, ◌||◌, List, Option, Some, None, Result}
+use Rattle.std.specs.Prelude.{◌≡◌, ℕ, ◌+◌, Bool, true, ◌||◌, List, ◌∷◌, Option, Some, None, Result, MatchOption}
+use Rattle.std.specs.Vec.Iter.{into_iter_items, into_iter_len}
+use Rattle.std.specs.declared.alloc.Global.{Global}
+use Rattle.std.specs.declared.boxed.Box.{Box}
+use Rattle.std.specs.declared.vec.IntoIter.{IntoIter}
 use Rattle.cad_syntax.specs.Types.{PureType}
 use Rattle.cad_syntax.specs.declared.type_id.TypeId.{TypeId}
 use Rattle.cad_declarations.specs.Typed as e
@@ -13,16 +17,21 @@ use Rattle.cad_evaluation.specs.Operators.{same}
 use Rattle.cad_evaluation.specs.Standing as standing
 use Rattle.cad_evaluation.specs.Statements.{emits, exec_block}
 use Rattle.cad_evaluation.specs.Terms.{eval, eval_place}
+use Rattle.cad_evaluation.specs.Texts.{int_tree}
 pub use Rattle.cad_execution.specs.Values.{come, truth}
 use Rattle.cad_execution.specs.Views.{flow_of}
 use Rattle.cad_execution.specs.declared.flow.Flow as code
 use Rattle.cad_labels.specs.Laws.{HasNone}
+use Rattle.cad_outcomes.specs.Outcomes.{Gives}
 use Rattle.cad_outcomes.specs.declared.stop.Stop.{Stop}
-use Rattle.cad_rows.specs.Views.{PlaceView, vacant, taken, as_row}
+use Rattle.cad_rows.specs.Views.{PlaceView, vacant, taken, as_row, pure_place}
+use Rattle.cad_rows.specs.declared.tree.Place as held_place
+use Rattle.cad_rows.specs.declared.tree.Tree as held
 use Rattle.cad_state.specs.Views.{FindsAndCarriesOut}
 use Rattle.cad_state.specs.declared.state.RunState.{RunState}
 use Rattle.cad_expressions.specs.Passed.{content_or_none}
 use Rattle.cad_expressions.specs.Passed.{cast_place}
+use Rattle.cad_expressions.specs.Views.{tree_in}
 use Rattle.cad_world.specs.Locations.{Location, variable}
 use Rattle.cad_world.specs.Rows.{Row, Tree}
 use Rattle.cad_world.specs.State.{Action, ◌>>=◌, ◌>>◌, give, stuck, with_some, tick}
@@ -181,8 +190,12 @@ run_turn front calls n body = tick >> exec_block front calls n body
 
 -- ---- `for`
 
-abbrev pub run_counted : Front → Calls → ℕ → e.VariableEntry → Tree → e.VariableEntry → Tree → e.BlockTree → Action Flow
-run_counted front calls n index count x t body = fill (variable index.number) count >> with_variable x t (exec_block front calls n body)
+-- the count of the turns comes to its variable
+abbrev pub fill_counter : ℕ → ℕ → Action (Unit {0})
+fill_counter number i = with_some (int_tree i) (fill (variable number))
+
+abbrev pub run_counted : Front → Calls → ℕ → e.VariableEntry → ℕ → e.VariableEntry → Tree → e.BlockTree → Action Flow
+run_counted front calls n index i x t body = fill_counter index.number i >> with_variable x t (exec_block front calls n body)
 
 abbrev pub run_indexed : Front → Calls → ℕ → Option e.VariableEntry → ℕ → e.VariableEntry → Tree → e.BlockTree → Action Flow
 run_indexed front calls n index i x t body = with_index index i (with_variable x t (exec_block front calls n body))
@@ -190,10 +203,19 @@ run_indexed front calls n index i x t body = with_index index i (with_variable x
 abbrev pub run_element : Front → Calls → ℕ → Option e.VariableEntry → ℕ → e.VariableEntry → Tree → e.BlockTree → Action Flow
 run_element front calls n index i x t body = tick >> with_index index i (with_variable x t (exec_block front calls n body))
 
+-- the element that stands in a place
+abbrev pub element_in : PlaceView → Action Tree
+element_in vacant = stuck
+element_in (taken l t) = give t
+
 -- the turn of a place, which holds an element
 abbrev pub run_place : Front → Calls → ℕ → Option e.VariableEntry → ℕ → e.VariableEntry → e.BlockTree → PlaceView → Action Flow
-run_place front calls n index i x body vacant = stuck
-run_place front calls n index i x body (taken l t) = run_element front calls n index i x t body
+run_place front calls n index i x body p = element_in p >>= (λ t. run_element front calls n index i x t body)
+
+-- the next place was taken, and its element came to the heap
+abbrev pub TakesElement : Option (Result (Box held.Tree Global) Stop) → IntoIter held_place.Place Global → IntoIter held_place.Place Global → Type 0
+TakesElement r s t = MatchOption r ((into_iter_len s ≡ 0) × (into_iter_len t ≡ 0))
+    (λ element. (p : held_place.Place) × (into_iter_items s ≡ p ∷ into_iter_items t) × (into_iter_len t + 1 ≡ into_iter_len s) × Gives tree_in (element_in (pure_place p)) element)
 
 abbrev pub PlaceHasNone : PlaceView → Type 0
 PlaceHasNone vacant = Unit {0}

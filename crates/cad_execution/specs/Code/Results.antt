@@ -1,8 +1,11 @@
 -- What is made of what a call came to.
-use Rattle.std.specs.Prelude.{Option, Some, None, Result, Ok, Err}
+use Rattle.std.specs.Prelude.{◌≡◌, Option, Some, None, Result, Ok, Err}
+use Rattle.std.specs.declared.alloc.Global.{Global}
+use Rattle.std.specs.declared.boxed.Box.{Box}
 use Rattle.cad_execution.specs.declared.flow.Flow.{Flow}
 use Rattle.cad_execution.specs.declared.flow.Flow.TheVariants.{Next, Returned, Broken, Continued}
 use Rattle.cad_outcomes.specs.declared.stop.Stop.{Stop}
+use Rattle.cad_outcomes.specs.declared.stop.Stop.TheVariants.{Memory}
 use Rattle.cad_rows.specs.declared.tree.Tree.{Tree}
 
 -- the next statement runs behind what gave its value
@@ -11,15 +14,15 @@ next_of (Ok u) = Ok Next
 next_of (Err stop) = Err stop
 
 -- the function returns what was given
-abbrev pub returned_of : Result Tree Stop → Result Flow Stop
-returned_of (Ok tree) = Ok (Returned tree)
+abbrev pub returned_of : Result (Box Tree Global) Stop → Result Flow Stop
+returned_of (Ok value) = Ok (Returned value)
 returned_of (Err stop) = Err stop
 
 -- `break` leaves a switch
 abbrev pub left_flow : Flow → Flow
 left_flow Broken = Next
 left_flow Next = Next
-left_flow (Returned tree) = Returned tree
+left_flow (Returned value) = Returned value
 left_flow Continued = Continued
 
 abbrev pub left_of : Result Flow Stop → Result Flow Stop
@@ -29,7 +32,7 @@ left_of (Err stop) = Err stop
 -- what a statement comes to, where that ends its block
 abbrev pub statement_end : Result Flow Stop → Option (Result Flow Stop)
 statement_end (Ok Next) = None
-statement_end (Ok (Returned tree)) = Some (Ok (Returned tree))
+statement_end (Ok (Returned value)) = Some (Ok (Returned value))
 statement_end (Ok Broken) = Some (Ok Broken)
 statement_end (Ok Continued) = Some (Ok Continued)
 statement_end (Err stop) = Some (Err stop)
@@ -37,7 +40,7 @@ statement_end (Err stop) = Some (Err stop)
 -- what a turn comes to, where that ends its loop
 abbrev pub turn_end : Result Flow Stop → Option (Result Flow Stop)
 turn_end (Ok Next) = None
-turn_end (Ok (Returned tree)) = Some (Ok (Returned tree))
+turn_end (Ok (Returned value)) = Some (Ok (Returned value))
 turn_end (Ok Broken) = Some (Ok Next)
 turn_end (Ok Continued) = None
 turn_end (Err stop) = Some (Err stop)
@@ -52,3 +55,11 @@ case_end (Err stop) = Some (Err stop)
 abbrev pub case_ran : Result Flow Stop → Result (Option Flow) Stop
 case_ran (Ok flow) = Ok (Some flow)
 case_ran (Err stop) = Err stop
+
+-- an optional of a value, which comes to the heap
+abbrev pub BoxesContent : Result (Option Tree) Stop → Result (Option (Box Tree Global)) Stop → Type 0
+BoxesContent (Ok (Some tree)) (Ok (Some b)) = b.value ≡ tree
+BoxesContent (Ok (Some tree)) (Ok None) = ⊥
+BoxesContent (Ok (Some tree)) (Err stop) = stop ≡ Memory
+BoxesContent (Ok None) result = result ≡ Ok None
+BoxesContent (Err why) result = result ≡ Err why

@@ -1,19 +1,18 @@
 -- Steps of evaluation as the code takes them: forms by names that stay folded, and what goes on from the value of a part.
 use Rattle.std.specs.Prelude.{◌≡◌, ℕ, Bool, true, false, List, [], ◌∷◌, ◌++◌, Option, Some, None, Result, Ok, Err}
+use Rattle.std.specs.declared.alloc.Global.{Global}
+use Rattle.std.specs.declared.boxed.Box.{Box}
 use Rattle.cad_syntax.specs.Types.{PureType, pure_type}
 use Rattle.cad_syntax.specs.declared.types.CadType.{CadType}
 use Rattle.cad_syntax.specs.declared.text.Name.{Name}
 use Rattle.cad_syntax.specs.declared.type_id.TypeId.{TypeId}
-use Rattle.cad_syntax.specs.declared.types.Authorization.{Authorization}
 use Rattle.cad_types.specs.declared.builtin.Builtin.{Builtin}
 use Rattle.cad_grammar.specs.declared.expression.BinaryOperator.{BinaryOperator}
-use Rattle.cad_grammar.specs.declared.expression.UnaryOperator.{UnaryOperator}
-use Rattle.cad_grammar.specs.declared.expression.CastKind.{CastKind}
 use Rattle.cad_declarations.specs.Typed as e
 use Rattle.cad_world.specs.Rows.{Row, stop, join, add_last, Tree}
-use Rattle.cad_world.specs.State.{Action, ◌>>=◌, ◌>>◌, give, done, guard, choose, tick, by_truth, with_some}
+use Rattle.cad_world.specs.State.{Action, ◌>>=◌, ◌>>◌, give, done, guard, choose, tick, with_some}
 use Rattle.cad_world.specs.Locations.{variable}
-use Rattle.cad_world.specs.Receivers.{Receiver, Spot, look_at}
+use Rattle.cad_world.specs.Receivers.{Receiver, look_at}
 use Rattle.cad_world.specs.Transfers.{rounded, transferred}
 use Rattle.cad_evaluation.specs.Builtins.{member, may_use}
 use Rattle.cad_evaluation.specs.Builtins as built_in
@@ -26,13 +25,14 @@ use Rattle.cad_evaluation.specs.Making.{construct, create, draw_identity, finish
 use Rattle.cad_evaluation.specs.Numbers.{truth_of, bool_tree}
 use Rattle.cad_evaluation.specs.Operators.{binary}
 use Rattle.cad_evaluation.specs.Reading.{composite_id, copied, read_index}
-use Rattle.cad_evaluation.specs.Standing.{Standing, led_by, base_of, field_of, element_of, value_at, receiver_from, content_at, onward}
+use Rattle.cad_evaluation.specs.Standing.{Standing, led_by, base_of, field_of, element_of, value_at, receiver_from, receiver_of_chain, content_at, onward}
 use Rattle.cad_evaluation.specs.Terms.{eval, eval_place, eval_use, eval_terms, eval_arguments, eval_entries, combined, chained}
 use Rattle.cad_evaluation.specs.Uses.{Pair, coalesced, invoked, nil_told, tick_if_called, truth_only, wrapped_if}
 use Rattle.cad_labels.specs.Laws.{Keeps}
 use Rattle.cad_declarations.specs.Typed.{FunctionBody}
 use Rattle.cad_outcomes.specs.declared.stop.Stop.{Stop}
 use Rattle.cad_outcomes.specs.declared.stop.Stop.TheVariants.{Memory}
+use Rattle.cad_rows.specs.declared.tree.Tree as code
 use Rattle.cad_state.specs.Views.{FindsAndCarriesOut}
 use Rattle.cad_state.specs.declared.state.RunState.{RunState}
 
@@ -47,6 +47,13 @@ pub record GoesOn {A B C D : Type 0} (P : A → Type 0) (view : B → A) (out : 
 abbrev pub CopiesTo : {A B : Type 0} → (B → A) → A → Result B Stop → Type 0
 CopiesTo view a (Ok b) = view b ≡ a
 CopiesTo view a (Err why) = why ≡ Memory
+
+-- a value that was found, on the heap
+abbrev pub Boxes : Result code.Tree Stop → Result (Box code.Tree Global) Stop → Type 0
+Boxes (Ok t) (Ok b) = b.value ≡ t
+Boxes (Ok t) (Err why) = why ≡ Memory
+Boxes (Err why) (Ok b) = ⊥
+Boxes (Err why) (Err same) = same ≡ why
 
 -- copies of two types
 abbrev pub AreTypes : PureType → PureType → Result (CadType × CadType) Stop → Type 0
@@ -80,6 +87,13 @@ copied_from place = value_at place >>= copied
 
 unfoldable pub nil_told_of : Bool → Standing → Action Tree
 nil_told_of negated place = value_at place >>= nil_told negated
+
+-- what stands in a place, as what a member is used on; and where an optional on the way may be nil
+abbrev pub received : Front → Calls → e.PlaceTree → Action Receiver
+received front calls p = placed front calls p false >>= receiver_from
+
+abbrev pub received_in_chain : Front → Calls → e.PlaceTree → Action (Option Receiver)
+received_in_chain front calls p = placed front calls p false >>= receiver_of_chain
 
 unfoldable pub led : Tree → Action Standing
 led t = give (led_by t)

@@ -5,7 +5,7 @@ use Rattle.cad_calls.proofs.conditions.test.Goals as goal
 
 pub returns-in-Ok : goal.returns-in-Ok
 returns-in-Ok g c at =
-    test_ok (g.C.Callees.front c.args.callees.now) (g.C.Callees.calls c.args.callees.now) at (term_of c.args.tested.now) (option_map term_of c.args.message.now) c.in-Ok.tree c.args.state.now c.test_value.new.state c.judge.new.state c.judge.result (g.met.C.Callees.keeps c.args.callees.now) c.in-Ok.ensures c.judge.ensures
+    test_ok (g.C.Callees.front c.args.callees.now) (g.C.Callees.calls c.args.callees.now) at (term_of c.args.tested.now) (option_map term_of c.args.message.now) c.in-Ok.value c.args.state.now c.test_value.new.state c.judge.new.state c.judge.result (g.met.C.Callees.keeps c.args.callees.now) c.in-Ok.ensures c.judge.ensures
 
 pub returns-in-Err : goal.returns-in-Err
 returns-in-Err g c at =

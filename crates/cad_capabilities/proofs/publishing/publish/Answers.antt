@@ -7,9 +7,9 @@ use Rattle.cad_world.specs.State.{guard}
 use Rattle.cad_capabilities.specs.Code.{published_argument}
 use Rattle.cad_capabilities.proofs.publishing.publish.Goals as goal
 
-pub returns-in-Ok-true : goal.returns-in-Ok-true
-returns-in-Ok-true c =
+pub returns-then-is_account : goal.returns-then-is_account
+returns-then-is_account c =
     let rest = published_argument (pure_row c.args.row.now) c.args.address in
     carries_same pure_tree (there c.args.address rest) rest c.args.state.now c.publish_argument.new.state c.publish_argument.result
-    (λ w. ap (λ (is : Bool). guard is rest (state_over w c.args.state.now)) (c.in-Ok-true.ensures w ∙ c.in-Ok-true.field-0-test))
+    (λ w. ap (λ (is : Bool). guard is rest (state_over w c.args.state.now)) (c.is_account.ensures w ∙ c.if-is_account.true))
     c.publish_argument.ensures

@@ -9,9 +9,9 @@ use Rattle.cad_evaluation.specs.Arguments.{with_identifier}
 use Rattle.cad_syntax.specs.declared.address.Domain.TheVariants as domain
 use Rattle.cad_capabilities.proofs.publishing.unpublish.Goals as goal
 
-pub returns-in-Ok-true : goal.returns-in-Ok-true
-returns-in-Ok-true c =
+pub returns-then-is_account : goal.returns-then-is_account
+returns-then-is_account c =
     let rest = with_identifier domain.Public 0 (pure_row c.args.row.now) (unpublished_under c.args.address) in
     carries_same pure_tree (there c.args.address rest) rest c.args.state.now c.unpublish_argument.new.state c.unpublish_argument.result
-    (λ w. ap (λ (is : Bool). guard is rest (state_over w c.args.state.now)) (c.in-Ok-true.ensures w ∙ c.in-Ok-true.field-0-test))
+    (λ w. ap (λ (is : Bool). guard is rest (state_over w c.args.state.now)) (c.is_account.ensures w ∙ c.if-is_account.true))
     c.unpublish_argument.ensures

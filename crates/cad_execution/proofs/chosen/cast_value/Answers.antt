@@ -5,7 +5,7 @@ use Rattle.cad_execution.proofs.chosen.cast_value.Goals as goal
 
 pub returns-in-Ok : goal.returns-in-Ok
 returns-in-Ok g c =
-    cast_value_ok (g.C.Callees.front c.args.callees.now) (g.C.Callees.calls c.args.callees.now) (place_of c.args.place.now) (pure_type c.args.target.now) c.in-Ok.found c.args.state.now c.first_place.new.state c.cast_place.new.state c.cast_place.result (g.met.C.Callees.keeps c.args.callees.now) c.in-Ok.ensures c.cast_place.ensures
+    cast_value_ok (g.C.Callees.front c.args.callees.now) (g.C.Callees.calls c.args.callees.now) (place_of c.args.place.now) (pure_type c.args.target.now) c.in-Ok.found c.args.state.now c.first_place.new.state c.cast_standing.new.state c.cast_standing.result (g.met.C.Callees.keeps c.args.callees.now) c.in-Ok.ensures c.cast_standing.ensures
 
 pub returns-in-Err : goal.returns-in-Err
 returns-in-Err g c =

@@ -1,11 +1,12 @@
-use Rattle.cad_execution.proofs.ChoiceLaws.{content_err, content_ok}
+use Rattle.cad_execution.proofs.Contents.{content_carried}
+use Rattle.cad_execution.specs.Code.Parts as parts
+use Rattle.cad_expressions.specs.Views.{tree_in}
 use Rattle.cad_rows.specs.Views.{pure_tree}
+use Rattle.cad_state.specs.Views.{CarriesOut}
+use Rattle.std.proofs.Common.{subst}
+use Rattle.std.specs.Prelude.{option_map}
 use Rattle.cad_execution.proofs.chosen.content_of.Goals as goal
 
-pub returns-in-Ok : goal.returns-in-Ok
-returns-in-Ok c =
-    content_ok c.args.moved (pure_tree c.args.tree) c.in-Ok.found c.args.state.now c.or_nil.new.state c.or_nil.result c.in-Ok.ensures c.or_nil.ensures
-
-pub returns-in-Err : goal.returns-in-Err
-returns-in-Err c =
-    content_err c.args.moved (pure_tree c.args.tree) c.args.state.now c.in-Err.stop c.in-Err.ensures
+pub returns : goal.returns
+returns c =
+    content_carried (parts.content_of c.args.moved (tree_in c.args.value)) c.args.state.now c.open_or_nil.new.state c.open_or_nil.result c.boxed_content.result c.boxed_content.ensures (subst (λ t. CarriesOut (option_map pure_tree) (parts.content_of c.args.moved (pure_tree t)) c.args.state.now c.open_or_nil.new.state c.open_or_nil.result) c.unboxed.ensures c.open_or_nil.ensures)

@@ -5,7 +5,7 @@ use Rattle.cad_execution.proofs.chosen.elements_of.Goals as goal
 
 pub returns-in-Ok : goal.returns-in-Ok
 returns-in-Ok g c =
-    elements_ok (g.C.Callees.front c.args.callees.now) (g.C.Callees.calls c.args.callees.now) (term_of c.args.array.now.value) (pure_type c.args.array.now.target) c.in-Ok.tree c.args.state.now c.first_come.new.state c.elements.result c.in-Ok.ensures c.elements.ensures
+    elements_ok (g.C.Callees.front c.args.callees.now) (g.C.Callees.calls c.args.callees.now) (term_of c.args.array.now.value) (pure_type c.args.array.now.target) c.in-Ok.tree c.args.state.now c.first_come.new.state c.elements_in.result c.in-Ok.ensures c.elements_in.ensures
 
 pub returns-in-Err : goal.returns-in-Err
 returns-in-Err g c =

@@ -1,6 +1,10 @@
 use Rattle.cad_declarations.specs.Views.{term_of}
-use Rattle.cad_execution.proofs.ChoiceLaws.{holds_err, holds_ok}
+use Rattle.cad_execution.proofs.ChoiceLaws.{holds_err, holds_ok, holds_told}
 use Rattle.cad_execution.proofs.chosen.holds.Goals as goal
+
+pub returns-in-Some : goal.returns-in-Some
+returns-in-Some g c =
+    holds_told (g.C.Callees.front c.args.callees.now) (g.C.Callees.calls c.args.callees.now) (term_of c.args.test.now) c.args.state.now c.in-Some.told (c.in-Some.ensures (g.C.Callees.front c.args.callees.now) (g.C.Callees.calls c.args.callees.now))
 
 pub returns-in-Ok : goal.returns-in-Ok
 returns-in-Ok g c =

@@ -5,7 +5,7 @@ use Rattle.cad_execution.proofs.leaves.first_come.Goals as goal
 
 pub returns-in-Ok : goal.returns-in-Ok
 returns-in-Ok g c =
-    first_come_ok (g.C.Callees.front c.args.callees.now) (g.C.Callees.calls c.args.callees.now) (term_of c.args.value.now) (pure_type c.args.target.now) c.in-Ok.tree c.args.state.now c.first_value.new.state c.transfer.new.self c.transfer.result c.in-Ok.ensures c.transfer.ensures
+    first_come_ok (g.C.Callees.front c.args.callees.now) (g.C.Callees.calls c.args.callees.now) (term_of c.args.value.now) (pure_type c.args.target.now) c.in-Ok.tree c.args.state.now c.first_value.new.state c.transfer.new.state c.transfer.result c.in-Ok.ensures c.transfer.ensures
 
 pub returns-in-Err : goal.returns-in-Err
 returns-in-Err g c =

@@ -6,7 +6,7 @@ use Rattle.cad_execution.proofs.plain.exchange_into.Goals as goal
 
 pub returns-in-Ok : goal.returns-in-Ok
 returns-in-Ok g c =
-    exchange_into_ok (g.C.Callees.front c.args.callees.now) (g.C.Callees.calls c.args.callees.now) (location_of c.args.location.now) (variable_of c.args.variable.now) (term_of c.args.value.now) (pure_type c.args.target.now) c.in-Ok.old c.args.state.now c.exchange_value.new.state c.fill_variable.new.self c.fill_variable.result c.next.result c.in-Ok.ensures c.fill_variable.ensures c.next.ensures
+    exchange_into_ok (g.C.Callees.front c.args.callees.now) (g.C.Callees.calls c.args.callees.now) (location_of c.args.location.now) (variable_of c.args.variable.now) (term_of c.args.value.now) (pure_type c.args.target.now) c.in-Ok.old c.args.state.now c.exchange_value.new.state c.fill_variable.new.state c.fill_variable.result c.next.result c.in-Ok.ensures c.fill_variable.ensures c.next.ensures
 
 pub returns-in-Err : goal.returns-in-Err
 returns-in-Err g c =

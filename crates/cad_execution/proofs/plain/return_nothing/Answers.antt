@@ -3,7 +3,7 @@ use Rattle.cad_execution.proofs.plain.return_nothing.Goals as goal
 
 pub returns-in-Ok : goal.returns-in-Ok
 returns-in-Ok c =
-    return_ok c.args.state.now c.tick.new.self c.void_tree.result c.void_tree.ensures c.in-Ok.ensures
+    return_ok c.args.state.now c.tick.new.self c.void_tree.result c.give_back.result c.void_tree.ensures c.give_back.ensures c.in-Ok.ensures
 
 pub returns-in-Err : goal.returns-in-Err
 returns-in-Err c =

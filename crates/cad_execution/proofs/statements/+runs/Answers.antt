@@ -2,20 +2,25 @@ use Rattle.cad_declarations.specs.Typed.{arguments_of, block, cases_of, statemen
 use Rattle.cad_declarations.specs.Views.{argument_of, block_of, case_of, place_of, return_of, statement_of, term_of, variable_of}
 use Rattle.cad_evaluation.specs.Statements.{exec}
 use Rattle.cad_execution.proofs.Choosing.{case_block, case_err, cases_done, cases_end, cases_go, cast_err, cast_none, cast_some, chosen_run, chosen_stop, else_ok, if_err, if_ok, let_err, let_none, let_some, switch_err, switch_none, switch_some, while_ok, while_stop}
-use Rattle.cad_execution.proofs.Elements.{all_turned, counted_err, counted_ok, counter_err, counter_ok, element_err, element_none, element_some, first_none, for_err, for_ok, next_turn, no_turn, others_none, run_ended}
+use Rattle.cad_execution.proofs.Elements.{all_turned, counted_err, counted_ok, counter_err, counter_ok, element_err, element_none, element_some, first_none, for_err, for_ok, next_turn, no_turn, others_none, place_err, place_ok, run_ended}
 use Rattle.cad_execution.proofs.FlowLaws.{all_done, all_ends, all_goes, block_err, block_ok, over_err, over_ok, turn_err, turn_ok, turns_left, while_done, while_ends, while_err, while_goes, while_over, with_err, with_ok}
 use Rattle.cad_execution.proofs.PlainLaws.{at_fails, at_form}
 use Rattle.cad_execution.proofs.Steps.{Fails}
-use Rattle.cad_execution.proofs.Trees.{assign_at, block_at, break_at, case_at, continue_at, declare_at, emit_at, exchange_at, expression_at, for_at, force_assign_at, if_at, if_cast_at, if_let_at, place_at, return_at, swap_at, switch_at, while_at}
+use Rattle.cad_execution.proofs.Trees.{assign_at, block_at, break_at, case_at, continue_at, declare_at, emit_at, exchange_at, expression_at, for_at, force_assign_at, if_at, if_cast_at, if_let_at, return_at, swap_at, switch_at, while_at}
 use Rattle.cad_execution.specs.Views.{flow_of}
+use Rattle.cad_expressions.specs.Views.{tree_in}
 use Rattle.cad_labels.specs.Laws.{HasNoneInRow}
+use Rattle.cad_outcomes.specs.Outcomes.{Gives}
+use Rattle.cad_outcomes.specs.declared.stop.Stop.{Stop}
 use Rattle.cad_outcomes.specs.declared.stop.Stop.TheVariants.{Limit}
 use Rattle.cad_rows.specs.Views.{as_row, pure_place, pure_tree}
+use Rattle.cad_rows.specs.declared.tree.Tree.{Tree}
 use Rattle.cad_state.specs.Views.{FindsAndCarriesOut}
 use Rattle.cad_syntax.specs.Types.{pure_type}
 use Rattle.std.proofs.Common.{[], ap, arith, drop, map, rules, subst, sym, ◌+◌, ◌-◌, ◌∙◌, ◌∷◌, ◌≡◌}
 use Rattle.std.proofs.lemmas.List.{drop_all, nil_from_length}
-use Rattle.std.specs.Prelude.{Err, None, Ok, option_map, suc}
+use Rattle.std.specs.Global.{Box}
+use Rattle.std.specs.Prelude.{Err, None, Ok, Result, option_map, suc}
 use Rattle.std.specs.Vec.Iter.{into_iter_items}
 use Rattle.cad_declarations.specs.Typed as e
 use Rattle.cad_execution.specs.Code.Parts as parts
@@ -128,19 +133,19 @@ exec_block-returns-in-Err g t c =
 
 pub run_over-returns-in-Ok : goal.run_over-returns-in-Ok
 run_over-returns-in-Ok g t c =
-    λ none. over_ok (g.C.Callees.front c.args.callees.now) (g.C.Callees.calls c.args.callees.now) c.args.turns (variable_of c.args.variable.now) (pure_tree c.args.value) (block_of c.args.body.now) c.args.state.now c.fill_variable.new.self c.exec_block.new.state c.exec_block.result none c.in-Ok.ensures c.exec_block.ensures
+    λ none. over_ok (g.C.Callees.front c.args.callees.now) (g.C.Callees.calls c.args.callees.now) c.args.turns (variable_of c.args.variable.now) (tree_in c.args.value) (block_of c.args.body.now) c.args.state.now c.fill_variable.new.state c.exec_block.new.state c.exec_block.result none c.in-Ok.ensures c.exec_block.ensures
 
 pub run_over-returns-in-Err : goal.run_over-returns-in-Err
 run_over-returns-in-Err g t c =
-    λ none. over_err (g.C.Callees.front c.args.callees.now) (g.C.Callees.calls c.args.callees.now) c.args.turns (variable_of c.args.variable.now) (pure_tree c.args.value) (block_of c.args.body.now) c.args.state.now c.in-Err.stop c.in-Err.ensures
+    λ none. over_err (g.C.Callees.front c.args.callees.now) (g.C.Callees.calls c.args.callees.now) c.args.turns (variable_of c.args.variable.now) (tree_in c.args.value) (block_of c.args.body.now) c.args.state.now c.in-Err.stop c.in-Err.ensures
 
 pub with_variable-returns-in-Ok : goal.with_variable-returns-in-Ok
 with_variable-returns-in-Ok g t c =
-    λ none. with_ok (g.C.Callees.front c.args.callees.now) (g.C.Callees.calls c.args.callees.now) c.args.turns (variable_of c.args.variable.now) (pure_tree c.args.value) (block_of c.args.body.now) c.in-Ok.flow c.args.state.now c.run_over.new.state c.close.new.state c.close.result (c.in-Ok.ensures none) c.close.ensures
+    λ none. with_ok (g.C.Callees.front c.args.callees.now) (g.C.Callees.calls c.args.callees.now) c.args.turns (variable_of c.args.variable.now) (tree_in c.args.value) (block_of c.args.body.now) c.in-Ok.flow c.args.state.now c.run_over.new.state c.close.new.state c.close.result (c.in-Ok.ensures none) c.close.ensures
 
 pub with_variable-returns-in-Err : goal.with_variable-returns-in-Err
 with_variable-returns-in-Err g t c =
-    λ none. with_err (g.C.Callees.front c.args.callees.now) (g.C.Callees.calls c.args.callees.now) c.args.turns (variable_of c.args.variable.now) (pure_tree c.args.value) (block_of c.args.body.now) c.args.state.now c.in-Err.stop (c.in-Err.ensures none)
+    λ none. with_err (g.C.Callees.front c.args.callees.now) (g.C.Callees.calls c.args.callees.now) c.args.turns (variable_of c.args.variable.now) (tree_in c.args.value) (block_of c.args.body.now) c.args.state.now c.in-Err.stop (c.in-Err.ensures none)
 
 pub run_turn-returns-in-Ok : goal.run_turn-returns-in-Ok
 run_turn-returns-in-Ok g t c =
@@ -164,7 +169,7 @@ exec_case-returns-in-Err g t c =
 
 pub exec_chosen-returns-in-Ok : goal.exec_chosen-returns-in-Ok
 exec_chosen-returns-in-Ok g t c =
-    chosen_run (g.C.Callees.front c.args.callees.now) (g.C.Callees.calls c.args.callees.now) c.args.turns c.is_nil.result (term_of c.args.value.now) (cases_of (map case_of c.args.cases.now)) c.in-Ok.tree c.args.state.now c.first_value.new.state c.exec_cases-ran.new.state c.exec_cases-ran.result (g.met.C.Callees.keeps c.args.callees.now) c.is_nil.ensures c.in-Ok.ensures c.exec_cases-ran.ensures
+    chosen_run (g.C.Callees.front c.args.callees.now) (g.C.Callees.calls c.args.callees.now) c.args.turns c.is_nil.result (term_of c.args.value.now) (cases_of (map case_of c.args.cases.now)) c.in-Ok.tree c.args.state.now c.first_value.new.state c.exec_cases-ran.new.state c.exec_cases-ran.result (g.met.C.Callees.keeps c.args.callees.now) c.is_nil.ensures c.in-Ok.ensures (subst (λ t. FindsAndCarriesOut (option_map flow_of) (parts.exec_cases (g.C.Callees.front c.args.callees.now) (g.C.Callees.calls c.args.callees.now) c.args.turns c.is_nil.result (pure_tree t) (cases_of (map case_of c.args.cases.now))) c.first_value.new.state c.exec_cases-ran.new.state c.exec_cases-ran.result) c.deref.ensures c.exec_cases-ran.ensures)
 
 pub exec_chosen-returns-in-Err : goal.exec_chosen-returns-in-Err
 exec_chosen-returns-in-Err g t c =
@@ -220,65 +225,69 @@ repeat-returns g t c =
 
 pub run_counted-returns-in-Ok : goal.run_counted-returns-in-Ok
 run_counted-returns-in-Ok g t c =
-    λ hc hv. counted_ok (g.C.Callees.front c.args.callees.now) (g.C.Callees.calls c.args.callees.now) c.args.turns (variable_of c.args.index.now) (pure_tree c.args.count) (variable_of c.args.variable.now) (pure_tree c.args.value) (block_of c.args.body.now) c.args.state.now c.fill_variable.new.self c.with_variable.new.state c.with_variable.result hc c.in-Ok.ensures (c.with_variable.ensures hv)
+    λ none. counted_ok (g.C.Callees.front c.args.callees.now) (g.C.Callees.calls c.args.callees.now) c.args.turns (variable_of c.args.index.now) c.args.i (variable_of c.args.variable.now) (tree_in c.args.value) (block_of c.args.body.now) c.args.state.now c.fill_counter.new.state c.with_variable.new.state c.with_variable.result c.in-Ok.ensures (c.with_variable.ensures none)
 
 pub run_counted-returns-in-Err : goal.run_counted-returns-in-Err
 run_counted-returns-in-Err g t c =
-    λ hc hv. counted_err (g.C.Callees.front c.args.callees.now) (g.C.Callees.calls c.args.callees.now) c.args.turns (variable_of c.args.index.now) (pure_tree c.args.count) (variable_of c.args.variable.now) (pure_tree c.args.value) (block_of c.args.body.now) c.args.state.now c.in-Err.stop c.in-Err.ensures
+    λ none. counted_err (g.C.Callees.front c.args.callees.now) (g.C.Callees.calls c.args.callees.now) c.args.turns (variable_of c.args.index.now) c.args.i (variable_of c.args.variable.now) (tree_in c.args.value) (block_of c.args.body.now) c.args.state.now c.in-Err.stop c.in-Err.ensures
 
 pub with_counter-returns-in-Ok : goal.with_counter-returns-in-Ok
 with_counter-returns-in-Ok g t c =
-    λ none. counter_ok (g.C.Callees.front c.args.callees.now) (g.C.Callees.calls c.args.callees.now) c.args.turns (variable_of c.args.index.now) c.args.i c.count_tree-count.result (variable_of c.args.variable.now) (pure_tree c.args.value) (block_of c.args.body.now) c.in-Ok.flow c.args.state.now c.run_counted.new.state c.close.new.state c.close.result c.count_tree-count.ensures (λ h. c.in-Ok.ensures h none) c.close.ensures
+    λ none. counter_ok (g.C.Callees.front c.args.callees.now) (g.C.Callees.calls c.args.callees.now) c.args.turns (variable_of c.args.index.now) c.args.i (variable_of c.args.variable.now) (tree_in c.args.value) (block_of c.args.body.now) c.in-Ok.flow c.args.state.now c.run_counted.new.state c.close.new.state c.close.result (c.in-Ok.ensures none) c.close.ensures
 
 pub with_counter-returns-in-Err : goal.with_counter-returns-in-Err
 with_counter-returns-in-Err g t c =
-    λ none. counter_err (g.C.Callees.front c.args.callees.now) (g.C.Callees.calls c.args.callees.now) c.args.turns (variable_of c.args.index.now) c.args.i c.count_tree-count.result (variable_of c.args.variable.now) (pure_tree c.args.value) (block_of c.args.body.now) c.args.state.now c.in-Err.stop c.count_tree-count.ensures (λ h. c.in-Err.ensures h none)
+    λ none. counter_err (g.C.Callees.front c.args.callees.now) (g.C.Callees.calls c.args.callees.now) c.args.turns (variable_of c.args.index.now) c.args.i (variable_of c.args.variable.now) (tree_in c.args.value) (block_of c.args.body.now) c.args.state.now c.in-Err.stop (c.in-Err.ensures none)
 
 pub run_element-returns-in-Some : goal.run_element-returns-in-Some
 run_element-returns-in-Some g t c =
-    λ none. element_some (g.C.Callees.front c.args.callees.now) (g.C.Callees.calls c.args.callees.now) c.args.turns c.args.index.now c.in-Some.counter c.args.i (variable_of c.args.variable.now) (pure_tree c.args.value) (block_of c.args.body.now) c.args.state.now c.tick.new.self c.with_counter.new.state c.with_counter.result c.in-Some.is c.in-Ok.ensures (c.with_counter.ensures none)
+    λ none. element_some (g.C.Callees.front c.args.callees.now) (g.C.Callees.calls c.args.callees.now) c.args.turns c.args.index.now c.in-Some.counter c.args.i (variable_of c.args.variable.now) (tree_in c.args.value) (block_of c.args.body.now) c.args.state.now c.tick.new.self c.with_counter.new.state c.with_counter.result c.in-Some.is c.in-Ok.ensures (c.with_counter.ensures none)
 
 pub run_element-returns-in-None : goal.run_element-returns-in-None
 run_element-returns-in-None g t c =
-    λ none. element_none (g.C.Callees.front c.args.callees.now) (g.C.Callees.calls c.args.callees.now) c.args.turns c.args.index.now c.args.i (variable_of c.args.variable.now) (pure_tree c.args.value) (block_of c.args.body.now) c.args.state.now c.tick.new.self c.with_variable.new.state c.with_variable.result c.in-None.is c.in-Ok.ensures (c.with_variable.ensures none)
+    λ none. element_none (g.C.Callees.front c.args.callees.now) (g.C.Callees.calls c.args.callees.now) c.args.turns c.args.index.now c.args.i (variable_of c.args.variable.now) (tree_in c.args.value) (block_of c.args.body.now) c.args.state.now c.tick.new.self c.with_variable.new.state c.with_variable.result c.in-None.is c.in-Ok.ensures (c.with_variable.ensures none)
 
 pub run_element-returns-in-Err : goal.run_element-returns-in-Err
 run_element-returns-in-Err g t c =
-    λ none. element_err (g.C.Callees.front c.args.callees.now) (g.C.Callees.calls c.args.callees.now) c.args.turns (option_map variable_of c.args.index.now) c.args.i (variable_of c.args.variable.now) (pure_tree c.args.value) (block_of c.args.body.now) c.args.state.now c.in-Err.stop c.in-Err.ensures
+    λ none. element_err (g.C.Callees.front c.args.callees.now) (g.C.Callees.calls c.args.callees.now) c.args.turns (option_map variable_of c.args.index.now) c.args.i (variable_of c.args.variable.now) (tree_in c.args.value) (block_of c.args.body.now) c.args.state.now c.in-Err.stop c.in-Err.ensures
 
 pub run_next-returns-in-Some : goal.run_next-returns-in-Some
 run_next-returns-in-Some g t c =
-    λ whole start places none before. no_turn whole (parts.elements_left (g.C.Callees.front c.args.callees.now) (g.C.Callees.calls c.args.callees.now) c.args.turns (option_map variable_of c.args.index.now) (variable_of c.args.variable.now) (block_of c.args.body.now) c.args.i ((pure_place c.args.place) ∷ places)) (parts.elements_left (g.C.Callees.front c.args.callees.now) (g.C.Callees.calls c.args.callees.now) c.args.turns (option_map variable_of c.args.index.now) (variable_of c.args.variable.now) (block_of c.args.body.now) (suc c.args.i) places) start c.args.state.now c.args.ended c.in-Some.ran c.in-Some.is before
+    λ whole start place places given none before. no_turn whole (parts.elements_left (g.C.Callees.front c.args.callees.now) (g.C.Callees.calls c.args.callees.now) c.args.turns (option_map variable_of c.args.index.now) (variable_of c.args.variable.now) (block_of c.args.body.now) c.args.i (place ∷ places)) (parts.elements_left (g.C.Callees.front c.args.callees.now) (g.C.Callees.calls c.args.callees.now) c.args.turns (option_map variable_of c.args.index.now) (variable_of c.args.variable.now) (block_of c.args.body.now) (suc c.args.i) places) start c.args.state.now c.args.ended c.in-Some.ran c.in-Some.is before
 
 pub run_next-returns-in-None : goal.run_next-returns-in-None
 run_next-returns-in-None g t c =
-    λ whole start places none before. next_turn (g.C.Callees.front c.args.callees.now) (g.C.Callees.calls c.args.callees.now) c.args.turns (option_map variable_of c.args.index.now) c.args.i (variable_of c.args.variable.now) (block_of c.args.body.now) (pure_place c.args.place) places whole start c.args.state.now c.run_place.new.state c.args.ended c.run_place.result c.turn_end.result (g.met.C.Callees.keeps c.args.callees.now) none c.in-None.is (c.run_place.ensures none) c.turn_end.ensures before
+    λ whole start place places given none before. next_turn (g.C.Callees.front c.args.callees.now) (g.C.Callees.calls c.args.callees.now) c.args.turns (option_map variable_of c.args.index.now) c.args.i (variable_of c.args.variable.now) (block_of c.args.body.now) place places whole start c.args.state.now c.run_place.new.state c.args.ended c.run_place.result c.turn_end.result (g.met.C.Callees.keeps c.args.callees.now) none c.in-None.is (c.run_place.ensures place given none) c.turn_end.ensures before
 
-pub run_place-returns-in-Full : goal.run_place-returns-in-Full
-run_place-returns-in-Full g t c =
-    λ none. subst (λ p. FindsAndCarriesOut flow_of (parts.run_place (g.C.Callees.front c.args.callees.now) (g.C.Callees.calls c.args.callees.now) c.args.turns (option_map variable_of c.args.index.now) c.args.i (variable_of c.args.variable.now) (block_of c.args.body.now) p) c.args.state.now c.run_element.new.state c.run_element.result) (sym (place_at c.args.place c.in-Full.labels c.in-Full.tree c.in-Full.is)) (c.run_element.ensures (subst (λ p. parts.PlaceHasNone p) (place_at c.args.place c.in-Full.labels c.in-Full.tree c.in-Full.is) none))
+pub run_place-returns-in-Ok : goal.run_place-returns-in-Ok
+run_place-returns-in-Ok g t c =
+    λ place given none. place_ok (g.C.Callees.front c.args.callees.now) (g.C.Callees.calls c.args.callees.now) c.args.turns (option_map variable_of c.args.index.now) c.args.i (variable_of c.args.variable.now) (block_of c.args.body.now) place c.in-Ok.value c.args.state.now c.run_element.new.state c.run_element.result (subst (λ (k : Result (Box Tree) Stop). Gives tree_in (parts.element_in place) k) c.in-Ok.is given) none c.run_element.ensures
 
-pub run_elements-loop-place-preserved : goal.run_elements-loop-place-preserved
-run_elements-loop-place-preserved g t c = (
-  omega (arith, c.loop-place.invariant.0, c.in-Some.ensures.len),
+pub run_place-returns-in-Err : goal.run_place-returns-in-Err
+run_place-returns-in-Err g t c =
+    λ place given none. place_err (g.C.Callees.front c.args.callees.now) (g.C.Callees.calls c.args.callees.now) c.args.turns (option_map variable_of c.args.index.now) c.args.i (variable_of c.args.variable.now) (block_of c.args.body.now) place c.args.state.now c.in-Err.stop (subst (λ (k : Result (Box Tree) Stop). Gives tree_in (parts.element_in place) k) c.in-Err.is given)
+
+pub run_elements-loop-element-preserved : goal.run_elements-loop-element-preserved
+run_elements-loop-element-preserved g t c = (
+  omega (arith, c.loop-element.invariant.0, c.in-Some.ensures.2),
   λ none.
-      let known = c.loop-place.invariant.1 none in
-      let all = subst (λ ps. HasNoneInRow (as_row ps)) (ap (map pure_place) c.in-Some.ensures.items) known.0 in
-      let number : suc c.loop-place.i ≡ c.loop-place.i + 1 = omega arith in (
-        others_none (pure_place c.in-Some.place) (map pure_place (into_iter_items c.next.new.self)) all,
-        subst (λ k. parts.HasRun (parts.elements_left (g.C.Callees.front c.args.callees.now) (g.C.Callees.calls c.args.callees.now) c.args.turns (option_map variable_of c.args.index.now) (variable_of c.args.variable.now) (block_of c.args.body.now) 0 (map pure_place c.args.row.items)) c.args.state.now (parts.elements_left (g.C.Callees.front c.args.callees.now) (g.C.Callees.calls c.args.callees.now) c.args.turns (option_map variable_of c.args.index.now) (variable_of c.args.variable.now) (block_of c.args.body.now) k (map pure_place (into_iter_items c.next.new.self))) c.run_next-ended.new.state c.run_next-ended.result) number
-            (c.run_next-ended.ensures (parts.elements_left (g.C.Callees.front c.args.callees.now) (g.C.Callees.calls c.args.callees.now) c.args.turns (option_map variable_of c.args.index.now) (variable_of c.args.variable.now) (block_of c.args.body.now) 0 (map pure_place c.args.row.items)) c.args.state.now (map pure_place (into_iter_items c.next.new.self)) (first_none (pure_place c.in-Some.place) (map pure_place (into_iter_items c.next.new.self)) all)
-            (subst (λ ps. parts.HasRun (parts.elements_left (g.C.Callees.front c.args.callees.now) (g.C.Callees.calls c.args.callees.now) c.args.turns (option_map variable_of c.args.index.now) (variable_of c.args.variable.now) (block_of c.args.body.now) 0 (map pure_place c.args.row.items)) c.args.state.now (parts.elements_left (g.C.Callees.front c.args.callees.now) (g.C.Callees.calls c.args.callees.now) c.args.turns (option_map variable_of c.args.index.now) (variable_of c.args.variable.now) (block_of c.args.body.now) c.loop-place.i ps) c.loop-place.state c.loop-place.ended) (ap (map pure_place) c.in-Some.ensures.items) known.1)),
+      let known = c.loop-element.invariant.1 none in
+      let all = subst (λ ps. HasNoneInRow (as_row ps)) (ap (map pure_place) c.in-Some.ensures.1) known.0 in
+      let number : suc c.loop-element.i ≡ c.loop-element.i + 1 = omega arith in (
+        others_none (pure_place c.in-Some.ensures.0) (map pure_place (into_iter_items c.next_element.new.left)) all,
+        subst (λ k. parts.HasRun (parts.elements_left (g.C.Callees.front c.args.callees.now) (g.C.Callees.calls c.args.callees.now) c.args.turns (option_map variable_of c.args.index.now) (variable_of c.args.variable.now) (block_of c.args.body.now) 0 (map pure_place c.args.row.items)) c.args.state.now (parts.elements_left (g.C.Callees.front c.args.callees.now) (g.C.Callees.calls c.args.callees.now) c.args.turns (option_map variable_of c.args.index.now) (variable_of c.args.variable.now) (block_of c.args.body.now) k (map pure_place (into_iter_items c.next_element.new.left))) c.run_next-ended.new.state c.run_next-ended.result) number
+            (c.run_next-ended.ensures (parts.elements_left (g.C.Callees.front c.args.callees.now) (g.C.Callees.calls c.args.callees.now) c.args.turns (option_map variable_of c.args.index.now) (variable_of c.args.variable.now) (block_of c.args.body.now) 0 (map pure_place c.args.row.items)) c.args.state.now (pure_place c.in-Some.ensures.0) (map pure_place (into_iter_items c.next_element.new.left)) c.in-Some.ensures.3 (first_none (pure_place c.in-Some.ensures.0) (map pure_place (into_iter_items c.next_element.new.left)) all)
+            (subst (λ ps. parts.HasRun (parts.elements_left (g.C.Callees.front c.args.callees.now) (g.C.Callees.calls c.args.callees.now) c.args.turns (option_map variable_of c.args.index.now) (variable_of c.args.variable.now) (block_of c.args.body.now) 0 (map pure_place c.args.row.items)) c.args.state.now (parts.elements_left (g.C.Callees.front c.args.callees.now) (g.C.Callees.calls c.args.callees.now) c.args.turns (option_map variable_of c.args.index.now) (variable_of c.args.variable.now) (block_of c.args.body.now) c.loop-element.i ps) c.loop-element.state c.loop-element.ended) (ap (map pure_place) c.in-Some.ensures.1) known.1)),
       ),
 )
 
 pub run_elements-returns-in-None : goal.run_elements-returns-in-None
 run_elements-returns-in-None g t c =
-    λ none. all_turned (g.C.Callees.front c.args.callees.now) (g.C.Callees.calls c.args.callees.now) c.args.turns (option_map variable_of c.args.index.now) c.loop-place.i (variable_of c.args.variable.now) (block_of c.args.body.now) (map pure_place (into_iter_items c.loop-place.left)) (parts.elements_left (g.C.Callees.front c.args.callees.now) (g.C.Callees.calls c.args.callees.now) c.args.turns (option_map variable_of c.args.index.now) (variable_of c.args.variable.now) (block_of c.args.body.now) 0 (map pure_place c.args.row.items)) c.args.state.now c.loop-place.state c.loop-place.ended c.in-None.is (ap (map pure_place) (nil_from_length (into_iter_items c.loop-place.left) (sym c.loop-place.left.rest.ok.0 ∙ c.in_default.ensures.cases.0))) (c.loop-place.invariant.1 none).1
+    λ none. all_turned (g.C.Callees.front c.args.callees.now) (g.C.Callees.calls c.args.callees.now) c.args.turns (option_map variable_of c.args.index.now) c.loop-element.i (variable_of c.args.variable.now) (block_of c.args.body.now) (map pure_place (into_iter_items c.loop-element.left)) (parts.elements_left (g.C.Callees.front c.args.callees.now) (g.C.Callees.calls c.args.callees.now) c.args.turns (option_map variable_of c.args.index.now) (variable_of c.args.variable.now) (block_of c.args.body.now) 0 (map pure_place c.args.row.items)) c.args.state.now c.loop-element.state c.loop-element.ended c.in-None.is (ap (map pure_place) (nil_from_length (into_iter_items c.loop-element.left) (sym c.loop-element.left.rest.ok.0 ∙ c.in_default.ensures.0))) (c.loop-element.invariant.1 none).1
 
 pub run_elements-returns-in-Some-ended : goal.run_elements-returns-in-Some-ended
 run_elements-returns-in-Some-ended g t c =
-    λ none. run_ended (parts.elements_left (g.C.Callees.front c.args.callees.now) (g.C.Callees.calls c.args.callees.now) c.args.turns (option_map variable_of c.args.index.now) (variable_of c.args.variable.now) (block_of c.args.body.now) 0 (map pure_place c.args.row.items)) (parts.elements_left (g.C.Callees.front c.args.callees.now) (g.C.Callees.calls c.args.callees.now) c.args.turns (option_map variable_of c.args.index.now) (variable_of c.args.variable.now) (block_of c.args.body.now) c.loop-place.i (map pure_place (into_iter_items c.loop-place.left))) c.args.state.now c.loop-place.state c.loop-place.ended c.in-Some-ended.ran c.in-Some-ended.is (c.loop-place.invariant.1 none).1
+    λ none. run_ended (parts.elements_left (g.C.Callees.front c.args.callees.now) (g.C.Callees.calls c.args.callees.now) c.args.turns (option_map variable_of c.args.index.now) (variable_of c.args.variable.now) (block_of c.args.body.now) 0 (map pure_place c.args.row.items)) (parts.elements_left (g.C.Callees.front c.args.callees.now) (g.C.Callees.calls c.args.callees.now) c.args.turns (option_map variable_of c.args.index.now) (variable_of c.args.variable.now) (block_of c.args.body.now) c.loop-element.i (map pure_place (into_iter_items c.loop-element.left))) c.args.state.now c.loop-element.state c.loop-element.ended c.in-Some-ended.ran c.in-Some-ended.is (c.loop-element.invariant.1 none).1
 
 pub exec_for-returns-in-Ok : goal.exec_for-returns-in-Ok
 exec_for-returns-in-Ok g t c =

@@ -37,11 +37,11 @@ invariant-repeat-loop g l =
     → FindsAndCarriesOut flow_of (turns_left (g.C.Callees.front l.callees) (g.C.Callees.calls l.callees) l.turns (term_of l.test) (block_of l.body) (l.turns - l.counter)) l.state z r
     → FindsAndCarriesOut flow_of (turns_left (g.C.Callees.front l.callees) (g.C.Callees.calls l.callees) l.turns (term_of l.test) (block_of l.body) l.turns) l.fn.state z r
 
-abbrev pub invariant-run_elements-loop-place : goal.invariant-run_elements-loop-place
-invariant-run_elements-loop-place g l =
+abbrev pub invariant-run_elements-loop-element : goal.invariant-run_elements-loop-element
+invariant-run_elements-loop-element g l =
     (l.i + into_iter_len l.left ≡ vec_len l.fn.row) × (HasNoneInRow (pure_row l.fn.row.items) → HasNoneInRow (as_row (map pure_place (into_iter_items l.left)))
     × parts.HasRun (parts.elements_left (g.C.Callees.front l.callees) (g.C.Callees.calls l.callees) l.turns (option_map variable_of l.index) (variable_of l.variable) (block_of l.body) 0 (map pure_place l.fn.row.items)) l.fn.state
     (parts.elements_left (g.C.Callees.front l.callees) (g.C.Callees.calls l.callees) l.turns (option_map variable_of l.index) (variable_of l.variable) (block_of l.body) l.i (map pure_place (into_iter_items l.left))) l.state l.ended)
 
-abbrev pub decreases-run_elements-loop-place : goal.decreases-run_elements-loop-place
-decreases-run_elements-loop-place g l = into_iter_len l.left
+abbrev pub decreases-run_elements-loop-element : goal.decreases-run_elements-loop-element
+decreases-run_elements-loop-element g l = into_iter_len l.left

@@ -1,6 +1,4 @@
-use Rattle.std.proofs.Common.{map, Ok, Err, refl}
 use Rattle.cad_outcomes.specs.Outcomes.{no_value}
-use Rattle.cad_rows.specs.Views.{pure_tree, pure_row}
 use Rattle.cad_expressions.proofs.Going.{any_on, any_stopped}
 use Rattle.cad_expressions.specs.Code.Steps.{identity_drawn}
 use Rattle.cad_world.specs.State.{tick}

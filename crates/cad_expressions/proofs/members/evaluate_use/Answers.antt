@@ -4,7 +4,7 @@ use Rattle.cad_receivers.specs.Views.{receiver_of}
 use Rattle.cad_expressions.proofs.members.evaluate_use.Goals as goal
 
 pub returns-in-Field : goal.returns-in-Field
-returns-in-Field g c = get_arm (g.E.Evaluator.front c.args.evaluator.now) (g.E.Evaluator.calls c.args.evaluator.now) c.args.member.now _ _ (receiver_of c.args.receiver.now) c.args.state.now c.get.new.state c.get.result c.in-Field.is c.get.ensures
+returns-in-Field g c = get_arm (g.E.Evaluator.front c.args.evaluator.now) (g.E.Evaluator.calls c.args.evaluator.now) c.args.member.now _ _ (receiver_of c.args.receiver.now) c.args.state.now c.get_boxed.new.state c.get_boxed.result c.in-Field.is c.get_boxed.ensures
 
 pub returns-in-Method : goal.returns-in-Method
 returns-in-Method g c = method_arm (g.E.Evaluator.front c.args.evaluator.now) (g.E.Evaluator.calls c.args.evaluator.now) (receiver_of c.args.receiver.now) _ _ _ _ _ _ c.args.state.now c.method_use.new.state c.method_use.result c.in-Method.is c.as_slice.ensures.value (c.method_use.ensures _ _)

@@ -1,4 +1,4 @@
-use Rattle.cad_expressions.proofs.Going.{goes_on, goes_given, goes_stopped}
+use Rattle.cad_expressions.proofs.Going.{goes_on, goes_stopped}
 use Rattle.cad_expressions.specs.Code.Steps.{chosen}
 use Rattle.std.proofs.Common.{◌∙◌, ap, Ok}
 use Rattle.cad_expressions.proofs.operands.choose_branch.Goals as goal

@@ -1,10 +1,8 @@
 use Rattle.cad_expressions.proofs.Going.{goes_on, goes_given, goes_stopped}
-use Rattle.cad_expressions.specs.Code.Steps.{conjoined, disjoined, evaluated}
-use Rattle.std.proofs.Common.{sym, ◌∙◌, ap, Ok}
+use Rattle.cad_expressions.specs.Code.Steps.{conjoined, evaluated}
+use Rattle.std.proofs.Common.{◌∙◌, ap, Ok}
 use Rattle.cad_declarations.specs.Views.{term_of}
 use Rattle.cad_expressions.proofs.Forms.{evaluated_keeps}
-use Rattle.cad_state.specs.Views.{state_over}
-use Rattle.cad_world.specs.State.{ok}
 use Rattle.cad_expressions.proofs.operands.conjoin.Goals as goal
 
 pub returns-in-Ok-true : goal.returns-in-Ok-true
@@ -13,7 +11,7 @@ returns-in-Ok-true g c = goes_on _ _ _ _ _ _ _ _ _ (c.in-Ok-true.is ∙ ap Ok c.
 
 pub returns-in-Ok-false : goal.returns-in-Ok-false
 unfolding conjoined
-returns-in-Ok-false g c = goes_on _ _ _ _ _ _ _ _ _ (c.in-Ok-false.is ∙ ap Ok c.in-Ok-false.field-0-test) (λ w ready. ap (λ t. ok t (state_over w c.args.state.now)) (sym c.bool_tree.ensures))
+returns-in-Ok-false g c = goes_given _ _ _ _ _ _ _ _ (c.in-Ok-false.is ∙ ap Ok c.in-Ok-false.field-0-test) c.boxed_truth.ensures
 
 pub returns-in-Err : goal.returns-in-Err
 returns-in-Err g c = goes_stopped _ _ _ _ _ _ _ _ c.in-Err.is

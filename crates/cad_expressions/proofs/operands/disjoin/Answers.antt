@@ -1,15 +1,13 @@
 use Rattle.cad_expressions.proofs.Going.{goes_on, goes_given, goes_stopped}
-use Rattle.cad_expressions.specs.Code.Steps.{conjoined, disjoined, evaluated}
-use Rattle.std.proofs.Common.{sym, ◌∙◌, ap, Ok}
+use Rattle.cad_expressions.specs.Code.Steps.{disjoined, evaluated}
+use Rattle.std.proofs.Common.{◌∙◌, ap, Ok}
 use Rattle.cad_declarations.specs.Views.{term_of}
 use Rattle.cad_expressions.proofs.Forms.{evaluated_keeps}
-use Rattle.cad_state.specs.Views.{state_over}
-use Rattle.cad_world.specs.State.{ok}
 use Rattle.cad_expressions.proofs.operands.disjoin.Goals as goal
 
 pub returns-in-Ok-true : goal.returns-in-Ok-true
 unfolding disjoined
-returns-in-Ok-true g c = goes_on _ _ _ _ _ _ _ _ _ (c.in-Ok-true.is ∙ ap Ok c.in-Ok-true.field-0-test) (λ w ready. ap (λ t. ok t (state_over w c.args.state.now)) (sym c.bool_tree.ensures))
+returns-in-Ok-true g c = goes_given _ _ _ _ _ _ _ _ (c.in-Ok-true.is ∙ ap Ok c.in-Ok-true.field-0-test) c.boxed_truth.ensures
 
 pub returns-in-Ok-false : goal.returns-in-Ok-false
 unfolding disjoined

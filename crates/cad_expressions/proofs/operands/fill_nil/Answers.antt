@@ -1,4 +1,4 @@
-use Rattle.cad_expressions.proofs.Going.{goes_on, goes_given, goes_stopped}
+use Rattle.cad_expressions.proofs.Going.{goes_on, goes_stopped}
 use Rattle.cad_expressions.specs.Code.Steps.{evaluated, filled_by}
 use Rattle.std.proofs.Common.{refl, ap, Ok, ◌∙◌}
 use Rattle.cad_declarations.specs.Views.{term_of}

@@ -1,11 +1,9 @@
 use Rattle.cad_expressions.proofs.Going.{goes_on, goes_given, goes_stopped}
 use Rattle.cad_expressions.specs.Code.Steps.{chained_use, used, wrapped_by}
-use Rattle.std.proofs.Common.{sym, ◌∙◌, ap, Ok}
+use Rattle.std.proofs.Common.{◌∙◌, ap, Ok}
 use Rattle.cad_declarations.specs.Views.{use_of}
 use Rattle.cad_receivers.specs.Views.{receiver_of}
 use Rattle.cad_expressions.proofs.Forms.{used_keeps}
-use Rattle.cad_state.specs.Views.{state_over}
-use Rattle.cad_world.specs.State.{ok}
 use Rattle.cad_expressions.proofs.operands.use_in_chain.Goals as goal
 
 pub returns-in-Ok-Some : goal.returns-in-Ok-Some
@@ -14,7 +12,7 @@ returns-in-Ok-Some g c = goes_on _ _ _ _ _ _ _ _ _ (c.in-Ok-Some.is ∙ ap Ok c.
 
 pub returns-in-Ok-None : goal.returns-in-Ok-None
 unfolding chained_use
-returns-in-Ok-None g c = goes_on _ _ _ _ _ _ _ _ _ (c.in-Ok-None.is ∙ ap Ok c.in-Ok-None.field-0-is) (λ w ready. ap (λ t. ok t (state_over w c.args.state.now)) (sym c.nil_tree.ensures))
+returns-in-Ok-None g c = goes_given _ _ _ _ _ _ _ _ (c.in-Ok-None.is ∙ ap Ok c.in-Ok-None.field-0-is) c.boxed_nil.ensures
 
 pub returns-in-Err : goal.returns-in-Err
 returns-in-Err g c = goes_stopped _ _ _ _ _ _ _ _ c.in-Err.is

@@ -1,4 +1,4 @@
-use Rattle.cad_expressions.proofs.Going.{goes_on, goes_given, goes_stopped}
+use Rattle.cad_expressions.proofs.Going.{goes_on, goes_stopped}
 use Rattle.cad_expressions.specs.Code.Steps.{evaluated, element_in}
 use Rattle.cad_declarations.specs.Views.{term_of}
 use Rattle.cad_expressions.proofs.Forms.{evaluated_keeps}

@@ -1,7 +1,7 @@
 use Rattle.std.proofs.Common.{map, refl, ap}
 use Rattle.cad_rows.specs.Views.{pure_row}
 use Rattle.cad_declarations.specs.Typed as e
-use Rattle.cad_declarations.specs.Views.{argument_of, term_of}
+use Rattle.cad_declarations.specs.Views.{term_of}
 use Rattle.cad_syntax.specs.Types.{pure_type}
 use Rattle.cad_expressions.specs.Code.Steps.{elements}
 use Rattle.cad_expressions.specs.Views.{items_row}

@@ -1,12 +1,11 @@
 use Rattle.std.proofs.Common.{map, drop, Result}
-use Rattle.cad_declarations.specs.Typed.{arguments_of, terms_of}
-use Rattle.cad_declarations.specs.Views.{argument_of, term_of}
+use Rattle.cad_declarations.specs.Typed.{arguments_of}
+use Rattle.cad_declarations.specs.Views.{argument_of}
 use Rattle.cad_expressions.specs.Code.Steps.{behind, arguments}
 use Rattle.cad_outcomes.specs.declared.stop.Stop.{Stop}
 use Rattle.cad_rows.specs.Views.{pure_row}
 use Rattle.cad_state.specs.Views.{FindsAndCarriesOut}
 use Rattle.cad_state.specs.declared.state.RunState.{RunState}
-use Rattle.cad_syntax.specs.Types.{pure_type}
 use Rattle.cad_world.specs.Rows.{Row}
 use Rattle.cad_expressions.proofs.rows.push_arguments.Given as goal
 

@@ -1,8 +1,10 @@
-use Rattle.cad_expressions.proofs.Going.{goes_on, goes_stopped}
+use Rattle.std.proofs.Common.{refl}
+use Rattle.cad_expressions.proofs.Boxing.{boxed_on}
+use Rattle.cad_expressions.proofs.Going.{goes_stopped}
 use Rattle.cad_expressions.proofs.stands.borrow_at.Goals as goal
 
 pub returns-in-Ok : goal.returns-in-Ok
-returns-in-Ok c = goes_on _ _ _ _ _ _ _ _ _ c.in-Ok.is c.borrow.ensures
+returns-in-Ok c = boxed_on _ _ _ _ _ _ _ _ c.borrow.result c.boxed.result c.in-Ok.is refl c.boxed.ensures c.borrow.ensures
 
 pub returns-in-Err : goal.returns-in-Err
 returns-in-Err c = goes_stopped _ _ _ _ _ _ _ _ c.in-Err.is

@@ -1,8 +1,7 @@
-use Rattle.std.proofs.Common.{map, Ok, Err}
+use Rattle.std.proofs.Common.{Ok, Err}
 use Rattle.cad_world.specs.State.{tick}
 use Rattle.cad_labels.proofs.Forms.{keeps_spend}
 use Rattle.cad_outcomes.specs.Outcomes.{no_value}
-use Rattle.cad_rows.specs.Views.{pure_tree, pure_row}
 use Rattle.cad_state.proofs.Finding.{find_any, find_stopped, find_then}
 use Rattle.cad_labels.specs.Laws.{AnyOne}
 use Rattle.cad_expressions.specs.Code.Steps.{aimed_again}

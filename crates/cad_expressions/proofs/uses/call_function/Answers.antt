@@ -1,21 +1,23 @@
-use Rattle.std.proofs.Common.{map, Ok, Err}
+use Rattle.std.proofs.Common.{Ok, Err}
 use Rattle.cad_world.specs.State.{tick}
 use Rattle.cad_labels.proofs.Forms.{keeps_spend}
 use Rattle.cad_outcomes.specs.Outcomes.{no_value}
-use Rattle.cad_rows.specs.Views.{pure_tree, pure_row}
+use Rattle.cad_rows.specs.Views.{pure_row}
 use Rattle.cad_state.proofs.Finding.{find_any, find_stopped, find_then}
 use Rattle.cad_labels.specs.Laws.{AnyOne}
 use Rattle.cad_expressions.specs.Code.Steps.{called}
 use Rattle.cad_evaluation.specs.Callees.{function}
 use Rattle.cad_rows.specs.declared.tree.Tree.{Tree}
+use Rattle.cad_expressions.specs.Views.{tree_in}
+use Rattle.std.specs.Global.{Box}
 use Rattle.cad_expressions.proofs.uses.call_function.Goals as goal
 
 pub returns-in-Ok : goal.returns-in-Ok
 unfolding called
-returns-in-Ok g c = find_then AnyOne tick (keeps_spend 1) no_value pure_tree (λ _. g.E.Evaluator.calls c.args.evaluator.now (function c.args.name.now) (pure_row c.args.row.items)) tt c.args.state.now c.tick.new.self c.call.new.state c.call.result
+returns-in-Ok g c = find_then AnyOne tick (keeps_spend 1) no_value tree_in (λ _. g.E.Evaluator.calls c.args.evaluator.now (function c.args.name.now) (pure_row c.args.row.items)) tt c.args.state.now c.tick.new.self c.call.new.state c.call.result
     (find_any no_value tick c.args.state.now c.tick.new.self (Ok tt) c.in-Ok.ensures) (λ h. c.call.ensures)
 
 pub returns-in-Err : goal.returns-in-Err
 unfolding called
-returns-in-Err g c = find_stopped {D = Tree} no_value pure_tree tick (λ _. g.E.Evaluator.calls c.args.evaluator.now (function c.args.name.now) (pure_row c.args.row.items)) c.args.state.now c.tick.new.self c.tick.new.self c.in-Err.stop
+returns-in-Err g c = find_stopped {D = Box Tree} no_value tree_in tick (λ _. g.E.Evaluator.calls c.args.evaluator.now (function c.args.name.now) (pure_row c.args.row.items)) c.args.state.now c.tick.new.self c.tick.new.self c.in-Err.stop
     (find_any {B = Unit {0}} no_value tick c.args.state.now c.tick.new.self (Err c.in-Err.stop) c.in-Err.ensures)

@@ -1,8 +1,11 @@
-use Rattle.cad_expressions.proofs.Going.{goes_any, goes_stopped}
+use Rattle.std.proofs.Common.{ap}
+use Rattle.cad_rows.specs.Views.{pure_tree}
+use Rattle.cad_expressions.proofs.Boxing.{boxed_any}
+use Rattle.cad_expressions.proofs.Going.{goes_stopped}
 use Rattle.cad_expressions.proofs.values.hand_over.Goals as goal
 
 pub returns-in-Ok : goal.returns-in-Ok
-returns-in-Ok c = goes_any _ _ _ _ _ _ _ _ _ c.in-Ok.is c.transfer.ensures
+returns-in-Ok c = boxed_any _ _ _ _ _ _ _ _ c.transfer.result c.boxed.result c.in-Ok.is (ap pure_tree c.unboxed.ensures) c.boxed.ensures c.transfer.ensures
 
 pub returns-in-Err : goal.returns-in-Err
 returns-in-Err c = goes_stopped _ _ _ _ _ _ _ _ c.in-Err.is

@@ -8,6 +8,6 @@ use Rattle.cad_world.specs.State.{ok}
 use Rattle.cad_members.proofs.homes.owner_of.Goals as goal
 
 pub returns-in-Ok : goal.returns-in-Ok
-returns-in-Ok c = λ w.
-    ap (λ (o : Option Address). ok (optional_tree (option_map any_account o)) (state_over w c.args.state.now)) (sym (c.in-Ok.ensures w))
+returns-in-Ok c = λ w ready.
+    ap (λ (o : Option Address). ok (optional_tree (option_map any_account o)) (state_over w c.args.state.now)) (sym (c.in-Ok.ensures w ready))
     ∙ ap (λ (t : Tree). ok t (state_over w c.args.state.now)) (sym c.optional_account.ensures)

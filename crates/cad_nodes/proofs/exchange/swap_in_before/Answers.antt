@@ -1,4 +1,4 @@
-use Rattle.std.proofs.Common.{ap, arith, reverse, option_map}
+use Rattle.std.proofs.Common.{refl, ap, arith, reverse, option_map}
 use Rattle.std.proofs.lemmas.Option.{slice_get_read, slice_get_past}
 use Rattle.cad_rows.specs.Exchanges.{exchanged}
 use Rattle.cad_rows.specs.Views.{pure_row, pure_shape}
@@ -19,7 +19,7 @@ returns-then-i-len c =
     (λ w. ap (λ fs. record (state_over w x) { frames = reverse fs })
     (frames_written (in_before g) x.calls.items i old (record old { before = c.swap_node.new.row }) (omega (arith, c.len.ensures, c.if-i-len.true, x.calls.ok.0)) c.index_mut.ensures.value
     (ap (λ r. record (frame_of old) { before = r }) c.swap_node.ensures.row)))
-    c.swap_node.ensures.shape c.swap_node.ensures.parts
+    c.swap_node.ensures.shape c.swap_node.ensures.parts refl
 
 pub returns-else-i-len : goal.returns-else-i-len
 returns-else-i-len c =

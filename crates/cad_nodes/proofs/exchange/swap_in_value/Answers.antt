@@ -1,4 +1,4 @@
-use Rattle.std.proofs.Common.{ap, arith, option_map}
+use Rattle.std.proofs.Common.{refl, ap, arith, option_map}
 use Rattle.std.proofs.lemmas.Option.{slice_get_read, slice_get_past}
 use Rattle.cad_rows.specs.Exchanges.{exchanged}
 use Rattle.cad_rows.specs.Views.{pure_row, pure_shape}
@@ -19,7 +19,7 @@ returns-then-i-len c =
     (λ w. ap (λ all. record (state_over w x) { contracts = all })
     (values_written (in_value g) x.contracts.items i old (record old { value = c.swap_node.new.row }) (omega (arith, c.len.ensures, c.if-i-len.true, x.contracts.ok.0)) c.index_mut.ensures.value
     (ap (λ r. record (contract_of old) { value = r }) c.swap_node.ensures.row)))
-    c.swap_node.ensures.shape c.swap_node.ensures.parts
+    c.swap_node.ensures.shape c.swap_node.ensures.parts refl
 
 pub returns-else-i-len : goal.returns-else-i-len
 returns-else-i-len c =

@@ -3,7 +3,6 @@ use Rattle.serde_json.specs.Data.{Data}
 use Rattle.serde_json.specs.View.{view}
 use Rattle.cad_runs.specs.Commands.{Reply, failed, bad}
 use Rattle.cad_state.specs.Views.{program_of}
-use Rattle.cad_worlds.specs.Standing.{world_of}
 use Rattle.cad_script_replies.specs.Replies.{Answers, miscounted}
 use Rattle.cad_script_replies.specs.Views.{Tells}
 use Rattle.cad_script_replies.proofs.Told.{counts_differ, refused_with}
@@ -11,7 +10,7 @@ use Rattle.cad_script_replies.proofs.script.answer_main.Goals as goal
 
 pub returns-then-arguments-len : goal.returns-then-arguments-len
 returns-then-arguments-len g c =
-    λ is. refused_with (λ it. (reply : Reply Data) × Answers (g.E.FrontEnd.front c.args.end.now) (world_of c.args.world) (program_of c.args.checked.now.value) (map view c.args.arguments.now) c.args.limit reply × (reply ≢ failed 0) × Tells it reply) c.refuse.result _ c.refuse.ensures
+    λ w over kept is. refused_with (λ it. (reply : Reply Data) × Answers (g.E.FrontEnd.front c.args.end.now) w (program_of c.args.checked.now.value) (map view c.args.arguments.now) c.args.limit reply × (reply ≢ failed 0) × Tells it reply) c.refuse.result _ c.refuse.ensures
     (bad 25, miscounted is (counts_differ c.args.arguments.now c.args.main.now.parameters.items (λ e. omega (arith, e, c.args.main.now.parameters.ok.0, c.len.ensures))), λ e. cc e, refl)
 
 pub answer_arguments-requires-clause-counted : goal.answer_arguments-requires-clause-counted

@@ -1,11 +1,16 @@
+use Rattle.std.proofs.Common.{subst}
 use Rattle.cad_evaluation.specs.Evaluation.{calls_to}
-use Rattle.cad_rows.specs.Views.{pure_row}
+use Rattle.cad_outcomes.specs.Outcomes.{Gives}
+use Rattle.cad_rows.specs.Views.{pure_row, pure_tree}
+use Rattle.cad_runs.specs.Run.{told}
 use Rattle.cad_scripts.proofs.Runs.{script_ran, script_stopped}
+use Rattle.cad_values.specs.Values.{pure_value}
 use Rattle.cad_scripts.proofs.script.run_main.Goals as goal
 
 pub returns-in-Ok : goal.returns-in-Ok
 returns-in-Ok g c is =
-    script_ran (calls_to (g.E.FrontEnd.front c.args.end.now) c.args.fuel) c.args.name.now (pure_row c.args.arguments.items) c.in-Ok.tree c.args.state.now c.call_function.new.state c.told.result is c.in-Ok.ensures c.told.ensures
+    script_ran (calls_to (g.E.FrontEnd.front c.args.end.now) c.args.fuel) c.args.name.now (pure_row c.args.arguments.items) c.in-Ok.value c.args.state.now c.call_function.new.state c.told.result is c.in-Ok.ensures
+    (subst (λ t. Gives pure_value (told (pure_tree t)) c.told.result) c.unboxed.ensures c.told.ensures)
 
 pub returns-in-Err : goal.returns-in-Err
 returns-in-Err g c is =

@@ -1,4 +1,4 @@
-use Rattle.std.proofs.Common.{sym, ◌∙◌, refl, arith, ap, ◌++◌, take}
+use Rattle.std.proofs.Common.{sym, ◌∙◌, refl, arith, ap, ◌++◌}
 use Rattle.std.proofs.lemmas.List.{append-nil, take_all}
 use Rattle.cad_serve.proofs.Generatings.{ran_as, lines_more}
 use Rattle.cad_serve.proofs.generating.add_lines.Goals as goal

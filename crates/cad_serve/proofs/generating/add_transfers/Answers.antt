@@ -1,7 +1,6 @@
-use Rattle.std.proofs.Common.{sym, ◌∙◌, refl, arith, ap, ◌++◌}
+use Rattle.std.proofs.Common.{sym, ◌∙◌, refl, arith, ap}
 use Rattle.std.proofs.lemmas.List.{append-nil}
-use Rattle.cad_generation.specs.Lines.{transfers, transfer_of}
-use Rattle.cad_generation.specs.Numbers.{number, next_number}
+use Rattle.cad_generation.specs.Lines.{transfer_of}
 use Rattle.cad_serve.proofs.Generatings.{ran_as, transfers_more, transfers_all, next_more}
 use Rattle.cad_serve.proofs.generating.add_transfers.Goals as goal
 

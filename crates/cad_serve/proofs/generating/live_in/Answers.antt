@@ -1,4 +1,4 @@
-use Rattle.std.proofs.Common.{◌∙◌, ap, sym, length}
+use Rattle.std.proofs.Common.{◌∙◌, ap, length}
 use Rattle.cad_store.specs.Stores.{held}
 use Rattle.cad_world.specs.Live.{live}
 use Rattle.cad_worlds.specs.Standing.{world_of}

@@ -1,5 +1,4 @@
-use Rattle.std.proofs.Common.{subst, sym}
-use Rattle.cad_host.specs.Disk.{put, BreaksPut}
+use Rattle.std.proofs.Common.{subst}
 use Rattle.cad_serve.specs.Generated.{IsCountsLine}
 use Rattle.cad_serve.proofs.Numerals.{one_asked}
 use Rattle.cad_serve.proofs.serving.generate_or_refuse.Goals as goal

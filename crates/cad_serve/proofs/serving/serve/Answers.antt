@@ -1,7 +1,5 @@
 use Rattle.std.proofs.Common.{inl, inr, ⊎_elim, sym, subst}
-use Rattle.cad_host.specs.Disk.{output}
 use Rattle.cad_store.specs.Opening.{opened}
-use Rattle.cad_serve.specs.Lines.{commands}
 use Rattle.cad_serve.specs.Ending.{HasRun}
 use Rattle.cad_serve.specs.Code.Ending.{Leaves, EndsOpening, IsCausedBy}
 use Rattle.cad_serve.proofs.Numerals.{is_other, one_form}

@@ -1,4 +1,4 @@
-use Rattle.std.proofs.Common.{◌≤◌, length, get_or, ap, sym, ◌∙◌, arith}
+use Rattle.std.proofs.Common.{length, get_or, ap, sym, ◌∙◌, arith}
 use Rattle.cad_serve.proofs.Numerals.{first_is_no_plus, has_first, zero_is, zero_first, is_other}
 use Rattle.cad_serve.proofs.words.number_of.Goals as goal
 

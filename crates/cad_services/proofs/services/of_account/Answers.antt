@@ -18,8 +18,8 @@ pub returns-in-Ok : goal.returns-in-Ok
 returns-in-Ok c =
     let f = held_member c.args.held (map (λ t. pure_type t) c.args.types.now) (pure_row c.args.arguments.items) in
     let r = settled_of c.args.receiver in
-    subst (λ (p : Basic). FindsAndCarriesOut pure_tree (at_spot r (λ spot. on_account p spot f)) c.args.state.now c.held_member.new.state c.held_member.result) c.part_of.ensures
-    (with_told (λ (a : Address). a) pure_tree (look_at r) (λ spot. in_tree (account_in_value c.part_of.result) spot.tree) f c.in-Ok.address c.args.state.now c.held_member.new.state c.held_member.result c.in-Ok.ensures c.held_member.ensures)
+    subst (λ (p : Basic). FindsAndCarriesOut pure_tree (at_spot r (λ spot. on_account p spot f)) c.args.state.now c.known_member.new.state c.known_member.result) c.part_of.ensures
+    (with_told (λ (a : Address). a) pure_tree (look_at r) (λ spot. in_tree (account_in_value c.part_of.result) spot.tree) f c.in-Ok.address c.args.state.now c.known_member.new.state c.known_member.result c.in-Ok.ensures c.known_member.ensures)
 
 pub returns-in-Err : goal.returns-in-Err
 returns-in-Err c =

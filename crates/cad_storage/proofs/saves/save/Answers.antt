@@ -9,8 +9,8 @@ use Rattle.std.proofs.Common.{Bool, subst, sym, ◌∙◌}
 use Rattle.cad_syntax.specs.declared.address.Domain.TheVariants as d
 use Rattle.cad_storage.proofs.saves.save.Goals as goal
 
-pub returns-in-Ok-true : goal.returns-in-Ok-true
-returns-in-Ok-true c = λ w.
+pub returns-then-is_account : goal.returns-then-is_account
+returns-then-is_account c = λ w.
     let s = state_over w c.args.state.now in
     let p = with_argument (pure_row c.args.row.items) (λ t. with_identifier d.Storage 1 (pure_row c.args.row.items) (λ n. at_stored (saved c.args.address n t) c.args.address n)) in
-    subst (λ (b : Bool). Does pure_tree (guard b p) s (state_over w c.save_arguments.new.state) c.save_arguments.result) (sym (c.in-Ok-true.ensures w ∙ c.in-Ok-true.field-0-test)) (c.save_arguments.ensures w)
+    subst (λ (b : Bool). Does pure_tree (guard b p) s (state_over w c.save_arguments.new.state) c.save_arguments.result) (sym (c.is_account.ensures w ∙ c.if-is_account.true)) (c.save_arguments.ensures w)

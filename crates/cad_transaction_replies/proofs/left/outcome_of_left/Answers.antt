@@ -2,4 +2,4 @@ use Rattle.std.proofs.Common.{refl}
 use Rattle.cad_transaction_replies.proofs.left.outcome_of_left.Goals as goal
 
 pub returns : goal.returns
-returns c = λ all told. ((all, refl, told), refl)
+returns c = λ base all told. ((all, refl, told), refl)

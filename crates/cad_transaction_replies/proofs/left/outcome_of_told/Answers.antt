@@ -1,15 +1,16 @@
-use Rattle.std.proofs.Common.{map, subst}
+use Rattle.std.proofs.Common.{IfOk, map, subst}
 use Rattle.cad_json.specs.Told.{told}
 use Rattle.cad_runs.specs.Commands.{ran}
 use Rattle.cad_state.specs.Views.{contract_of}
 use Rattle.cad_values.specs.Shapes.{declarations}
 use Rattle.cad_values.specs.Values.{pure_value}
 use Rattle.cad_world.specs.Shapes.{shapes}
-use Rattle.cad_transaction_replies.specs.Replies.{leads}
-use Rattle.cad_transaction_replies.specs.Views.{Tells}
+use Rattle.cad_transaction_replies.specs.Replies.{Outcome, leads}
+use Rattle.cad_transaction_replies.specs.Views.{TellsOver}
 use Rattle.cad_transaction_replies.proofs.left.outcome_of_told.Goals as goal
 
 pub returns-in-Ok : goal.returns-in-Ok
-returns-in-Ok c = λ accounts.
+returns-in-Ok c = λ base kept.
     let all = map (told (declarations (shapes (map contract_of c.args.state.contracts.items)))) (map pure_value c.args.state.events.items) in
-    subst (Tells c.outcome_of_left.result) (λ i. leads (ran (c.in-Ok.ensures.made i) (c.in-Ok.ensures.destroyed i) all) (c.in-Ok.ensures.world accounts i)) (c.outcome_of_left.ensures all c.requires)
+    subst (λ (o : Outcome). IfOk c.settled_left.result (λ it. TellsOver base it o)) (λ i. leads (ran (c.in-Ok.ensures.made i) (c.in-Ok.ensures.destroyed i) all) (c.in-Ok.ensures.world base kept i))
+    (c.settled_left.ensures base all c.requires)

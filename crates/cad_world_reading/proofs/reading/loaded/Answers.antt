@@ -9,7 +9,7 @@ returns-then-not-are_as_many-clause-only c v is sound st = absurd (false≢true 
 
 pub with_programs-requires-clause-programs : goal.with_programs-requires-clause-programs
 with_programs-requires-clause-programs c =
-    loading.counted c.args.parts c.as_slice.result.now c.as_slice.ensures.value c.in-Ok-Some.field-0 c.in-Ok-Some.ensures c.in-Ok-Some.programs c.in-Ok-Some.field-0-is
+    loading.as_many_programs c.args.parts.sources.items c.as_slice.result.now c.as_slice.ensures.value c.in-Ok-Some.field-0 c.in-Ok-Some.ensures c.in-Ok-Some.programs c.in-Ok-Some.field-0-is
 
 pub with_programs-requires-clause-values : goal.with_programs-requires-clause-values
 with_programs-requires-clause-values c = c.are_as_many.ensures.0 c.if-not-are_as_many.false

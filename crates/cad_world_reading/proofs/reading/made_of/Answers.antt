@@ -1,7 +1,8 @@
-use Rattle.cad_world_reading.proofs.Loaded as loading
+use Rattle.std.proofs.Common.{ap}
+use Rattle.cad_worlds.specs.Items.{Draft}
+use Rattle.cad_world_reading.proofs.Loaded.{world_known}
 use Rattle.cad_world_reading.proofs.reading.made_of.Goals as goal
 
-pub returns-in-Ok-Some : goal.returns-in-Ok-Some
-returns-in-Ok-Some c v is sound =
-    loading.again c.args.parts c.as_slice.result.now c.as_slice.ensures.value c.in-Ok-Some.field-0 c.in-Ok-Some.ensures c.in-Ok-Some.programs c.in-Ok-Some.field-0-is
-    c.world_from.result v c.one_loading.ensures is sound c.world_from.ensures
+pub returns-in-Ok : goal.returns-in-Ok
+returns-in-Ok c v is sound =
+    world_known c.args.parts c.in-Ok.contracts.items v is (c.in-Ok.ensures v (ap (λ (d : Draft). d.sources) is) (ap (λ (d : Draft). d.values) is) sound)

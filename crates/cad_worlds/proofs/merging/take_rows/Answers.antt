@@ -1,8 +1,10 @@
 use Rattle.std.proofs.Common.{◌++◌}
-use Rattle.cad_worlds.proofs.Leading.{merge_turn}
-use Rattle.cad_worlds.specs.Merging.{merged}
+use Rattle.std.specs.Prelude.{option_map}
+use Rattle.cad_worlds.proofs.Choosing.{chosen_turn}
+use Rattle.cad_worlds.specs.Merging.{is_compared, chosen, merged}
 use Rattle.cad_worlds.proofs.merging.take_rows.Goals as goal
 
 pub loop-row-preserved : goal.loop-row-preserved
 loop-row-preserved c rest =
-    merge_turn (λ xs. c.args.changes.now ++ merged c.args.old.now xs) c.loop-row.left.now c.in_ok-left.left.now c.loop-row.yielded c.in-Some.row c.loop-row.changes c.take_row.new.changes c.loop-row.invariant c.in_ok-left.ensures.left c.in_ok-left.ensures.changes rest
+    let p = is_compared (option_map (λ k. k.now) c.args.known) in
+    chosen_turn p (λ xs. c.args.changes.now ++ merged (chosen p c.args.old.now) xs) c.loop-row.left.now c.in_ok-left.left.now c.loop-row.yielded c.in-Some.row c.loop-row.changes c.take_row.new.changes c.loop-row.invariant c.in_ok-left.ensures.left c.in_ok-left.ensures.changes rest

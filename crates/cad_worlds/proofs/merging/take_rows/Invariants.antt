@@ -1,7 +1,10 @@
 use Rattle.std.proofs.Common.{◌≡◌, ◌++◌, List}
+use Rattle.std.specs.Prelude.{option_map}
 use Rattle.cad_accounts.specs.declared.row.Row.{Row}
-use Rattle.cad_worlds.specs.Merging.{merged}
+use Rattle.cad_worlds.specs.Merging.{is_compared, chosen, merged}
 use Rattle.cad_worlds.proofs.merging.take_rows.Given as goal
 
 abbrev pub invariant-loop-row : goal.invariant-loop-row
-invariant-loop-row l = (rest : List Row) → l.changes ++ merged l.left rest ≡ l.fn.changes ++ merged l.old (l.yielded ++ rest)
+invariant-loop-row l =
+    let p = is_compared (option_map (λ k. k.now) l.known) in
+    (rest : List Row) → l.changes ++ merged (chosen p l.left) rest ≡ l.fn.changes ++ merged (chosen p l.old) (l.yielded ++ rest)

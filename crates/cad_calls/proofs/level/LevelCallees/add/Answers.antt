@@ -1,4 +1,4 @@
 use Rattle.cad_calls.proofs.level.LevelCallees.add.Goals as goal
 
 pub returns : goal.returns
-returns g c = c.add.ensures
+returns g c = c.add_contract.ensures
