@@ -8,3 +8,9 @@ pub mod RowLaws
 pub mod Places
 pub mod Existing
 mod OneByOne
+pub mod Middle
+pub mod Blocks
+pub mod BlockEdits
+pub mod Storing
+pub mod Splitting
+pub mod Promising

@@ -175,3 +175,22 @@ module _ {X : Type 0} (name : X → List ℕ) where
       let rises = parted_rises xs i x h.within e in
       ap (rise name) (set_split xs i x h.within)
       ∙ rises_with (take i xs) x (drop (suc i) xs) (rises_without (take i xs) (get_or xs i x) (drop (suc i) xs) rises) (in_front_of (name x) xs i x e h) (behind_it (name x) xs i x e h)
+
+  -- ---- a part of them
+
+  rise_left : (xs ys : List X) → rise name (xs ++ ys) ≡ true → rise name xs ≡ true
+  rise_left [] ys e = refl
+  rise_left (x ∷ []) ys e = refl
+  rise_left (x ∷ y ∷ xs) ys e =
+      both (before (name x) (name y)) (rise name (y ∷ xs)) (both_left (before (name x) (name y)) (rise name ((y ∷ xs) ++ ys)) e)
+      (rise_left (y ∷ xs) ys (both_right (before (name x) (name y)) (rise name ((y ∷ xs) ++ ys)) e))
+
+  rise_right : (xs ys : List X) → rise name (xs ++ ys) ≡ true → rise name ys ≡ true
+  rise_right [] ys e = e
+  rise_right (x ∷ xs) ys e = rise_right xs ys (tail_rises x (xs ++ ys) e)
+
+  pub take_rises : (i : ℕ) (xs : List X) → rise name xs ≡ true → rise name (take i xs) ≡ true
+  take_rises i xs e = rise_left (take i xs) (drop i xs) (ap (rise name) (take-append-drop i xs) ∙ e)
+
+  pub drop_rises : (i : ℕ) (xs : List X) → rise name xs ≡ true → rise name (drop i xs) ≡ true
+  drop_rises i xs e = rise_right (take i xs) (drop i xs) (ap (rise name) (take-append-drop i xs) ∙ e)

@@ -2,3 +2,4 @@ pub mod Code
 pub mod KeyOrder
 pub mod Memory
 pub mod Registers
+pub mod Room

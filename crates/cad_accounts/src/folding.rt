@@ -1,7 +1,7 @@
 // Registers from the records of a tape.
 ghost use Rattle.std.specs.Prelude.{◌≡◌, List, ℕ, IfOk, OnOk};
 ghost use Rattle.cad_accounts.specs.Registers.{Map, at, applied, folded, no_registers};
-ghost use Rattle.cad_accounts.specs.Memory.{rows_of};
+ghost use Rattle.cad_accounts.specs.Room.{rows_of};
 
 use crate::registers::MapRegisters;
 use crate::sifting::Sifted;
@@ -35,8 +35,6 @@ fn apply_all(alloc: Global, entries: Vec<Entry>) -> Result<MapRegisters, AllocEr
     ensures { IfOk result (λ registers. (key : List ℕ) → at (rows_of registers) key ≡ applied entries.items no_registers key) }
 {
     let mut registers = MapRegisters::new(alloc);
-    // Room for all at once, where there is; else each asks for its own.
-    let _ = registers.reserve(entries.len());
     for entry in entries {
         registers.apply(entry)?;
     }

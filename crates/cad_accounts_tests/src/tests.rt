@@ -1,5 +1,5 @@
 // Registers in memory: their order, their sizes, and what records fold to.
-use cad_accounts::{MapRegisters, Registers, fold_records};
+use cad_accounts::{MapRegisters, Registers, Row, fold_records};
 use cad_syntax::{Bytes, Items};
 use cad_wire::{Entries, Entry, Key};
 use std::alloc::{AllocError, Global};
@@ -62,7 +62,10 @@ fn sets(rt: HostRuntime) -> Result<(), Fail> {
 #[test]
 fn in_byte_order(rt: HostRuntime) -> Result<(), Fail> {
     let registers = one_account(rt.alloc())?;
-    let [first, second] = registers.as_slice() else {
+    let [block] = registers.blocks() else {
+        return Err("there is one")?;
+    };
+    let [first, second] = block.rows() else {
         return Err("there are two")?;
     };
     assert_eq!(rt; first.key.0.as_slice(), [0].as_slice());
@@ -73,12 +76,7 @@ fn in_byte_order(rt: HostRuntime) -> Result<(), Fail> {
 
 fn remove(alloc: Global, registers: &mut MapRegisters, key: &[u8]) -> Result<(), AllocError> {
     let key = key_of(alloc, key)?;
-    if key.0.len() > 9 {
-        return Err(AllocError);
-    }
-    registers.reserve(1)?;
-    registers.change(Entry { key, value: None });
-    Ok(())
+    registers.apply(Entry { key, value: None })
 }
 
 #[test]
@@ -87,7 +85,10 @@ fn removes(rt: HostRuntime) -> Result<(), Fail> {
     remove(rt.alloc(), &mut registers, &[0])?;
     assert_eq!(rt; registers.len(), 1);
     assert_eq!(rt; registers.size(), 41);
-    let first = registers.as_slice().first().ok_or("one is left")?;
+    let [block] = registers.blocks() else {
+        return Err("there is one")?;
+    };
+    let first = block.rows().first().ok_or("one is left")?;
     assert_eq!(rt; first.key.0.as_slice(), FIRST.as_slice());
     remove(rt.alloc(), &mut registers, &[0])?;
     assert_eq!(rt; registers.len(), 1);
@@ -114,7 +115,11 @@ fn folds(rt: HostRuntime) -> Result<(), Fail> {
     records.push(record_of(rt.alloc(), &X, None)?)?;
     records.push(record_of(rt.alloc(), &FIRST, Some(&ONE))?)?;
     let registers = fold_records(rt.alloc(), records)?;
-    assert!(rt; registers == one_account(rt.alloc())?);
+    let same = one_account(rt.alloc())?;
+    let ([block], [other]) = (registers.blocks(), same.blocks()) else {
+        return Err("there is one each")?;
+    };
+    assert!(rt; block.rows() == other.rows());
     Ok(())
 }
 
@@ -124,5 +129,43 @@ fn sizes(rt: HostRuntime) -> Result<(), Fail> {
     assert_eq!(rt; none.size(), 15);
     let one = one_account(rt.alloc())?;
     assert_eq!(rt; one.size(), 67);
+    Ok(())
+}
+
+// Sets 2,048 registers with keys of two bytes, in no order.
+fn many(alloc: Global) -> Result<MapRegisters, AllocError> {
+    let mut registers = MapRegisters::new(alloc);
+    for i in 0..2048u16 {
+        let key = i.wrapping_mul(1237) % 2048;
+        put(alloc, &mut registers, &key.to_be_bytes(), &[1])?;
+    }
+    Ok(registers)
+}
+
+// Whether the rows of blocks have as keys the numbers from a first on, and the number behind.
+fn follows(rows: &[Row], first: u16) -> Option<u16> {
+    let mut next = first;
+    for row in rows {
+        if row.key.0.as_slice() != next.to_be_bytes().as_slice() {
+            return None;
+        }
+        next = next.checked_add(1)?;
+    }
+    Some(next)
+}
+
+#[test]
+fn splits(rt: HostRuntime) -> Result<(), Fail> {
+    let registers = many(rt.alloc())?;
+    assert_eq!(rt; registers.len(), 2048);
+    assert!(rt; registers.blocks().len() > 3);
+    let mut next = 0;
+    for block in registers.blocks() {
+        assert!(rt; block.rows().len() <= 512);
+        next = follows(block.rows(), next).ok_or("in order")?;
+    }
+    assert_eq!(rt; next, 2048);
+    let key = key_of(rt.alloc(), &[4, 210])?;
+    assert!(rt; registers.get(&key).is_some());
     Ok(())
 }

@@ -39,7 +39,7 @@ pub fn part_in(
 ) -> Result<WorldPart, AllocError>
     ensures { IfOk result (λ part. (w : definition.World) → StandsFor (held store.now) w → IsPartOf wanted.now w part) }
 {
-    known_part(alloc, programs, store.rows(), wanted)
+    known_part(alloc, programs, store.blocks(), wanted)
 }
 
 // ---- the contracts after a run
@@ -121,7 +121,7 @@ fn sound_changes(
     if !stays_standing(alloc, before, after)? {
         return Err(AllocError);
     }
-    part_changes(alloc, store.rows(), before.count, after)
+    part_changes(alloc, store.blocks(), before.count, after)
 }
 
 // The same of contracts whose programs aren't known. Whole where they aren't those that were there before.

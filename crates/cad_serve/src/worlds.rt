@@ -16,7 +16,7 @@ use cad_script_replies::{RunWorld, Unfinished, of_part, of_world};
 use cad_state::Accounts;
 use cad_store::{Judge, Store};
 use cad_world_reading::{known_world, one_world, read_world};
-use cad_worlds::{World, WorldPart, changes, discard_world, registers_of};
+use cad_worlds::{RowList, World, WorldPart, changes, discard_world, registers_of};
 use std::alloc::{AllocError, Global};
 
 // The World that a store holds; None where its registers stand for none. The codes of its contracts are checked.
@@ -25,7 +25,7 @@ fn read(alloc: Global, store: &Store) -> Result<Option<World>, AllocError>
     ensures none { IfOk result (λ o. IfNone o (AreSound (held store.now) → ⊥)) }
 {
     let mut programs = nothing_kept(alloc);
-    let world = read_world(alloc, &mut programs, store.rows());
+    let world = read_world(alloc, &mut programs, RowList::of_blocks(store.blocks()));
     discard_kept(programs);
     world
 }
@@ -53,7 +53,7 @@ pub fn world_in(alloc: Global, programs: &mut Programs, store: &Store) -> Result
     requires { AreSound (held store.now) }
     ensures { IfOk result (λ world. StandsFor (held store.now) (world_of world)) }
 {
-    known_world(alloc, programs, store.rows())
+    known_world(alloc, programs, store.blocks())
 }
 
 // The same for a run.
@@ -98,7 +98,7 @@ fn rows_of(alloc: Global, programs: &mut Programs, world: World) -> Result<Vec<R
     ensures becomes { IfOk result (λ rows. (u : definition.World) × StandsFor (at rows.items) u × Becomes (world_of world) u) }
 {
     let rows = written(alloc, world)?;
-    match read_world(alloc, programs, rows.as_slice())? {
+    match read_world(alloc, programs, RowList::of_rows(rows.as_slice()))? {
         Some(sound) => {
             discard_world(sound);
             Ok(rows)
@@ -118,7 +118,7 @@ pub fn changes_to(
     ensures { IfOk result (λ changes. LeadsOn (held store.now) (world_of world) changes) }
 {
     let rows = rows_of(alloc, programs, world)?;
-    changes(alloc, store.rows(), rows)
+    changes(alloc, store.blocks(), rows)
 }
 
 /// The same of a run that knew all accounts, or some.

@@ -31,3 +31,6 @@ turns_end all first m left count t zero key =
 
 pub fits_rest : (x : Entry) (left rest : List Entry) → left ≡ x ∷ rest → All Fits left → All Fits rest
 fits_rest x left rest e h = All-from_recursion Fits rest (All-by_recursion Fits (x ∷ rest) (subst (λ (es : List Entry). All Fits es) e h)).1
+
+pub fits_first : (x : Entry) (left rest : List Entry) → left ≡ x ∷ rest → All Fits left → Fits x
+fits_first x left rest e h = (All-by_recursion Fits (x ∷ rest) (subst (λ (es : List Entry). All Fits es) e h)).0

@@ -9,7 +9,7 @@ use Rattle.cad_tape.specs.Framing.{framed}
 use Rattle.cad_tape.specs.Reading.{tape_reading, chosen, pick_of, ending, four_calls, BreaksFour, IsPlaced, IsFree, IsQuiet}
 use Rattle.cad_accounts.specs.declared.row.Row.{Row}
 use Rattle.cad_accounts.specs.Registers.{Map, at, folded, no_registers}
-use Rattle.cad_accounts.specs.Memory.{rows_of, room}
+use Rattle.cad_accounts.specs.Room.{rows_of, HasRoom}
 use Rattle.cad_store.specs.declared.place.Place.{Place}
 use Rattle.cad_store.specs.declared.place.Place.TheVariants.{Behind, Onto}
 use Rattle.cad_store.specs.declared.store.Store.{Store}
@@ -53,7 +53,7 @@ pub record IsOut (store : Store) (commit : Commit) (changes : List Entry) : Type
   pub changes_are : commit.changes ≡ changes
   pub bytes_are : commit.bytes ≡ 1 ∷ framed (body_bytes changes)
   pub form : IsRecord changes
-  pub room : length changes ≤ room store.registers
+  pub room : HasRoom changes store.registers
 
 -- at this moment no output has come, and each image holds the one map or the other
 pub record Keeps (old : List Event) (before behind : Map) (m : List Event) : Type 0 where

@@ -7,7 +7,7 @@ ghost use Rattle.cad_wire.specs.Body.{body_bytes, Fits};
 ghost use Rattle.cad_tape.specs.Framing.{framed};
 ghost use Rattle.cad_tape.specs.Reading.{stored, Leaves, IsQuiet};
 ghost use Rattle.cad_accounts.specs.Registers.{at, applied};
-ghost use Rattle.cad_accounts.specs.Memory.{rows_of, room};
+ghost use Rattle.cad_accounts.specs.Room.{rows_of, HasRoom};
 ghost use Rattle.cad_store.specs.Stores.{held, room_of, IsAt, IsOn, IsOut, Keeps, recorded, BreaksRecord};
 
 use crate::place::Place;
@@ -49,7 +49,7 @@ fn write_record<H: Host>(host: &mut H, place: Place, bytes: &[u8]) -> Result<Pla
 
 // Changes registers, for which there is room.
 fn change_all(registers: &mut MapRegisters, changes: Changes)
-    requires room { length changes ≤ room registers.old }
+    requires room { HasRoom changes registers.old }
     requires fit { All Fits changes }
     ensures { (key : List ℕ) → at (rows_of registers.new) key ≡ applied changes (at (rows_of registers.old)) key }
 {

@@ -1,7 +1,7 @@
 // What changes add to the size of a record of all registers. None where a sum is 2^64 or more.
 ghost use Rattle.std.specs.Prelude.{◌≡◌, ◌≤◌, ◌^◌, length, IfSome, Some, None};
 ghost use Rattle.cad_accounts.specs.Registers.{at};
-ghost use Rattle.cad_accounts.specs.Memory.{rows_of};
+ghost use Rattle.cad_accounts.specs.Room.{rows_of};
 ghost use Rattle.cad_store.specs.Code.Sizes.{value_size, added, replaced};
 
 use cad_accounts::{MapRegisters, Registers};

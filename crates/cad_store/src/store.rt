@@ -4,6 +4,7 @@ ghost use Rattle.cad_host.specs.Disk.{Event};
 ghost use Rattle.cad_wire.specs.Body.{body_bytes, FewEnough};
 ghost use Rattle.cad_tape.specs.Framing.{framed};
 ghost use Rattle.cad_accounts.specs.declared.row.Row.{Row};
+ghost use Rattle.cad_accounts.specs.Memory.{rows_in_blocks};
 ghost use Rattle.cad_accounts.specs.Registers.{Map, at, applied, are_rising, size_of, Leads};
 ghost use Rattle.cad_store.specs.Code.Sizes.{added, replaced};
 ghost use Rattle.cad_store.specs.Stores.{rows_in, held, room_of, IsOn, IsOut};
@@ -11,7 +12,7 @@ ghost use Rattle.cad_store.specs.Stores.{rows_in, held, room_of, IsOn, IsOut};
 use crate::place::Place;
 use crate::sizes::{size_added, size_replaced};
 use crate::stops::ReadyStop;
-use cad_accounts::{Changes, MapRegisters, Registers, Row};
+use cad_accounts::{Block, Changes, MapRegisters, Registers};
 use cad_syntax::Bytes;
 use cad_tape::frame;
 use cad_wire::{Entry, Key, write_entries};
@@ -51,12 +52,12 @@ fn built(alloc: Global, changes: &[Entry]) -> Result<Bytes, AllocError>
 }
 
 impl Store {
-    /// The registers, in byte order of their keys.
-    pub fn rows(&self) -> &[Row]
-        ensures rows { result.now ≡ rows_in self.now }
-        ensures rising { are_rising result.now ≡ true }
+    /// The registers in blocks, in byte order of their keys.
+    pub fn blocks(&self) -> &[Block]
+        ensures rows { rows_in_blocks result.now ≡ rows_in self.now }
+        ensures rising { are_rising (rows_in_blocks result.now) ≡ true }
     {
-        self.registers.as_slice()
+        self.registers.blocks()
     }
 
     /// How many bytes a record of all registers has, with the gate behind it: at most 2^64-1 are told.
@@ -104,10 +105,10 @@ impl Store {
         let Ok(bytes) = built(self.alloc, changes.as_slice()) else {
             return Err(ReadyStop::Memory);
         };
-        if self.registers.reserve(changes.len()).is_err() {
-            return Err(ReadyStop::Memory);
+        match self.registers.reserve(changes.as_slice()) {
+            Ok(()) => Ok(Commit { changes, bytes }),
+            Err(_) => Err(ReadyStop::Memory),
         }
-        Ok(Commit { changes, bytes })
     }
 
     /// Ends a commit that isn't wanted. The store is as it was.

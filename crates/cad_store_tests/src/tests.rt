@@ -94,11 +94,20 @@ fn changes_of(alloc: Global, store: &Store, body: &[u8]) -> Result<Changes, Allo
     Ok(changes)
 }
 
+// How many registers a store has.
+fn count_of(store: &Store) -> usize {
+    let mut count = 0usize;
+    for block in store.blocks() {
+        count = count.saturating_add(block.rows().len());
+    }
+    count
+}
+
 // What makes one account more, of registers that are accounts alone.
 fn account_changes(alloc: Global, store: &Store) -> Result<Changes, AllocError>
     ensures { IfOk result (λ changes. (new : Map) × Leads (held store.now) new changes) }
 {
-    let count = store.rows().len().max(1).min(255) as u8;
+    let count = count_of(store).max(1).min(255) as u8;
     let mut bytes = TAPE;
     bytes[31] = count;
     bytes[52] = count;
@@ -211,7 +220,10 @@ fn reads_registers(rt: HostRuntime) -> Result<(), Fail> {
         store.get(&head),
         Some([0u8, 0, 0, 0, 0, 0, 0, 1, 0, 0, 0, 0, 0, 0, 0, 1].as_slice())
     );
-    let [first, _] = store.rows() else {
+    let [block] = store.blocks() else {
+        return Err("there is one")?;
+    };
+    let [first, _] = block.rows() else {
         return Err("there are two")?;
     };
     assert!(rt; first.key == head);

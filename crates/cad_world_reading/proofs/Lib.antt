@@ -9,4 +9,5 @@ pub mod OneWorld
 pub mod PartSteps
 pub mod WantedAccounts
 pub mod PartMade
+pub mod PartPassed
 pub mod PartKnown

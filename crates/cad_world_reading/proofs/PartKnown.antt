@@ -1,10 +1,11 @@
 -- What is known of a World is as it is there.
-use Rattle.std.proofs.Common.{◌≡◌, ◌<◌, ◌+◌, ℕ, zero, suc, Bool, true, false, cond, List, [], ◌∷◌, map, length, drop, Some, None, Result, Ok, Err, refl, sym, ap, ◌∙◌, arith}
+use Rattle.std.proofs.Common.{◌≡◌, ◌<◌, ◌+◌, ◌^◌, ℕ, zero, suc, Bool, true, false, cond, List, [], ◌∷◌, map, length, drop, Some, None, Result, Ok, Err, refl, sym, ap, ◌∙◌, arith}
 use Rattle.std.specs.Prelude.{◌==◌, IfOk}
 use Rattle.std.specs.declared.alloc.Global.{Global}
 use Rattle.std.specs.declared.vec.Vec.{Vec}
+use Rattle.cad_accounts.specs.Memory.{rows_in_blocks}
 use Rattle.cad_accounts.specs.Registers.{at, are_rising}
-use Rattle.cad_accounts.specs.declared.row.Row.{Row}
+use Rattle.cad_accounts.specs.declared.block.Block.{Block}
 use Rattle.cad_state.specs.Parts.{accounts_from, among, known_in, known_or}
 use Rattle.cad_state.specs.Views.{account_of, contract_of}
 use Rattle.cad_state.specs.declared.state.Contract.{Contract}
@@ -12,10 +13,14 @@ use Rattle.cad_state.specs.declared.state.Known.{Known}
 use Rattle.cad_world.specs.Labels.{account_at}
 use Rattle.cad_world.specs.State.{Account, World}
 use Rattle.cad_worlds.proofs.Lists.{none_past}
+use Rattle.cad_worlds.proofs.ToldKeys.{are_told}
+use Rattle.cad_worlds.specs.Code.Passing.{shown_in}
 use Rattle.cad_worlds.specs.Items.{draft_of}
 use Rattle.cad_worlds.specs.Standing.{IsSound, StandsFor, register_of}
 use Rattle.cad_worlds.specs.declared.part.WorldPart.{WorldPart}
 use Rattle.cad_world_reading.proofs.PartMade.{part_follows}
+use Rattle.cad_world_reading.proofs.PartPassed.{take_shown}
+use Rattle.cad_world_reading.specs.Code.Selection.{is_passed}
 use Rattle.cad_world_reading.specs.Code.PartDrafts.{Follows, empty_part, known_at, known_of, part_of, take_all}
 use Rattle.cad_world_reading.specs.Wanted.{IsPartOf, is_wanted, wanted_account}
 use Rattle.cad_world_reading.specs.declared.part_draft.PartDraft.{PartDraft}
@@ -61,8 +66,13 @@ part_is wanted w draft contracts f are =
     let accounts = all_again wanted w.accounts draft.known.items known draft.count f.count_is in
     record { known = known; is = λ j. record { accounts = accounts j; contracts = are j; next_identity = f.identity_is j } }
 
--- of rows that stand for a World
-pub part_known : {E : Type 0} (rows : List Row) (wanted : List ℕ) (draft : PartDraft) (r : Result WorldPart E) → are_rising rows ≡ true → take_all wanted (map register_of rows) empty_part ≡ Some (part_of draft)
-    → ((is : List ℕ) (w : World) → Follows is (length w.accounts) (draft_of w) (part_of draft) → IsSound w → IfOk r (λ part. IsPartOf is w part)) → IfOk r (λ part. (w : World) → StandsFor (at rows) w → IsPartOf wanted w part)
-part_known rows wanted draft (Ok part) a is found = λ w st. found wanted w (part_follows rows wanted w (part_of draft) a st is) st.sound
-part_known rows wanted draft (Err e) a is found = tt
+-- of blocks of rows that stand for a World
+pub part_known : {E : Type 0} (blocks : List Block) (wanted : List ℕ) (draft : PartDraft) (r : Result WorldPart E) → are_rising (rows_in_blocks blocks) ≡ true
+    → take_all wanted (map register_of (shown_in (is_passed wanted) blocks)) empty_part ≡ Some (part_of draft)
+    → ((is : List ℕ) (w : World) → Follows is (length w.accounts) (draft_of w) (part_of draft) → IsSound w → IfOk r (λ part. IsPartOf is w part)) → IfOk r (λ part. (w : World) → StandsFor (at (rows_in_blocks blocks)) w → IsPartOf wanted w part)
+part_known blocks wanted draft (Ok part) a is found = λ w st.
+    let rows = rows_in_blocks blocks in
+    let fits : length w.accounts < 2 ^ 64 = omega (arith, st.sound.0.few) in
+    let all = sym (take_shown wanted blocks empty_part (are_told rows w fits st.are) a) ∙ is in
+    found wanted w (part_follows rows wanted w (part_of draft) a st all) st.sound
+part_known blocks wanted draft (Err e) a is found = tt

@@ -5,6 +5,7 @@ mod comparing;
 mod contracts;
 mod fields;
 mod laws;
+mod listing;
 mod making;
 mod part;
 mod part_draft;

@@ -1,5 +1,6 @@
 // What registers make, one behind another.
 ghost use Rattle.std.specs.Prelude.{◌≡◌, ◌<◌, ◌≤◌, ◌++◌, ◌∷◌, [], ℕ, suc, MatchOption, OnOk, map};
+ghost use Rattle.cad_accounts.specs.Memory.{rows_in_blocks};
 ghost use Rattle.cad_codec.specs.Answers.{GivesAs};
 ghost use Rattle.cad_rows.specs.Views.{pure_tree};
 ghost use Rattle.cad_loading.specs.Views.{source_of};
@@ -10,11 +11,12 @@ ghost use Rattle.cad_world.specs.Rows as nodes;
 ghost use Rattle.cad_world_reading.specs.Meaning.{changed_by, item_of, parts_of, value_row};
 ghost use Rattle.cad_world_reading.specs.Told as spec;
 ghost use Rattle.cad_worlds.specs.Items as items;
+ghost use Rattle.cad_worlds.specs.RowLists.{rows_listed};
 ghost use Rattle.cad_worlds.specs.Standing.{register_of};
 
 use crate::parts::{Parts, discard_parts};
 use crate::saying::{Change, Said, read_row};
-use cad_accounts::Row;
+use cad_accounts::{Block, Row};
 use cad_codec::DecodeError;
 use cad_declarations::discard_type;
 use cad_loading::Source;
@@ -23,6 +25,7 @@ use cad_state::{Account, Controller, Publication, discard_account, discard_value
 use cad_syntax::{Bytes, Name, TypeId};
 use cad_value_trees::tree_from_value;
 use cad_values::Value;
+use cad_worlds::RowList;
 use std::alloc::{AllocError, Global};
 use std::rc::Rc;
 
@@ -280,6 +283,24 @@ fn take_rows(alloc: Global, parts: &mut Parts, rows: &[Row]) -> Result<(), Decod
     Ok(())
 }
 
+/// The same of the rows of blocks.
+fn take_blocks(alloc: Global, parts: &mut Parts, blocks: &[Block]) -> Result<(), DecodeError>
+    ensures { GivesAs (λ done. parts_of parts.new) result (spec.all_made (map register_of (rows_in_blocks blocks.now)) (parts_of parts.old)) }
+{
+    for block in blocks {
+        take_rows(alloc, parts, block.rows())?;
+    }
+    Ok(())
+}
+
+/// The same of rows in parts.
+fn take_list(alloc: Global, parts: &mut Parts, list: RowList<'_>) -> Result<(), DecodeError>
+    ensures { GivesAs (λ done. parts_of parts.new) result (spec.all_made (map register_of (rows_listed list.entry)) (parts_of parts.old)) }
+{
+    take_rows(alloc, parts, list.rows)?;
+    take_blocks(alloc, parts, list.blocks)
+}
+
 /// What no register makes.
 fn empty_parts(alloc: Global) -> Parts
     ensures { parts_of result ≡ items.empty_draft }
@@ -293,11 +314,11 @@ fn empty_parts(alloc: Global) -> Parts
 }
 
 /// What registers make.
-pub(crate) fn make(alloc: Global, rows: &[Row]) -> Result<Parts, DecodeError>
-    ensures { GivesAs parts_of result (spec.all_made (map register_of rows.now) items.empty_draft) }
+pub(crate) fn make(alloc: Global, list: RowList<'_>) -> Result<Parts, DecodeError>
+    ensures { GivesAs parts_of result (spec.all_made (map register_of (rows_listed list.entry)) items.empty_draft) }
 {
     let mut parts = empty_parts(alloc);
-    match take_rows(alloc, &mut parts, rows) {
+    match take_list(alloc, &mut parts, list) {
         Ok(()) => Ok(parts),
         Err(error) => {
             discard_parts(parts);

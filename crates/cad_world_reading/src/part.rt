@@ -1,5 +1,6 @@
 // The part of a World that some of its registers tell.
 ghost use Rattle.std.specs.Prelude.{◌≡◌, ℕ, List, true, IfOk, length};
+ghost use Rattle.cad_accounts.specs.Memory.{rows_in_blocks};
 ghost use Rattle.cad_accounts.specs.Registers.{at, are_rising};
 ghost use Rattle.cad_world.specs.State as s;
 ghost use Rattle.cad_world_reading.specs.Code.PartDrafts.{Follows, part_of};
@@ -9,7 +10,7 @@ ghost use Rattle.cad_worlds.specs.Standing.{IsSound, StandsFor};
 
 use crate::contracts::load_contracts;
 use crate::part_draft::{PartDraft, make_part};
-use cad_accounts::Row;
+use cad_accounts::Block;
 use cad_loading::Programs;
 use cad_state::discard_known;
 use cad_worlds::WorldPart;
@@ -44,20 +45,20 @@ fn part_from(
     }
 }
 
-/// What rows tell of a World, of which it is known that they stand for it, where its accounts with these indexes are wanted: those
-/// accounts, all contracts, how many accounts there are and the next identity. Of other accounts nothing is read.
+/// What blocks of rows tell of a World, of which it is known that they stand for it, where its accounts with these indexes are
+/// wanted: those accounts, all contracts, how many accounts there are and the next identity. Of other accounts nothing is read.
 /// A contract is checked again where its program isn't kept; then it is (`load_kept`).
 /// AllocError where memory runs out. Of rows that stand for no World nothing is said.
 pub fn known_part(
     alloc: Global,
     programs: &mut Programs,
-    rows: &[Row],
+    blocks: &[Block],
     wanted: &[u64],
 ) -> Result<WorldPart, AllocError>
-    requires { are_rising rows.now ≡ true }
-    ensures { IfOk result (λ part. (w : s.World) → StandsFor (at rows.now) w → IsPartOf wanted.now w part) }
+    requires { are_rising (rows_in_blocks blocks.now) ≡ true }
+    ensures { IfOk result (λ part. (w : s.World) → StandsFor (at (rows_in_blocks blocks.now)) w → IsPartOf wanted.now w part) }
 {
-    match make_part(alloc, wanted, rows) {
+    match make_part(alloc, wanted, blocks) {
         Ok(draft) => part_from(alloc, programs, draft),
         Err(_) => Err(AllocError),
     }

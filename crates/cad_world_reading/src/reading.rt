@@ -1,32 +1,34 @@
 // The World for which registers stand.
 ghost use Rattle.std.specs.Prelude.{◌≡◌, ◌↔◌, Some, true, IsTrue, IfOk, IfSome, length, map, option_map};
+ghost use Rattle.cad_accounts.specs.Memory.{rows_in_blocks};
 ghost use Rattle.cad_accounts.specs.Registers.{at, are_rising};
 ghost use Rattle.cad_loading.specs.Views.{programs_of};
 ghost use Rattle.cad_loads.specs.Loads.{Loads, loaded_of};
 ghost use Rattle.cad_world.specs.State as s;
 ghost use Rattle.cad_world_reading.specs.Meaning.{Stands, parts_of};
 ghost use Rattle.cad_worlds.specs.Items as items;
+ghost use Rattle.cad_worlds.specs.RowLists.{rows_listed};
 ghost use Rattle.cad_worlds.specs.Standing.{IsSound, StandsFor, world_of};
 
 use crate::comparing::stand_for;
 use crate::contracts::{load_contracts, world_from};
 use crate::making::make;
 use crate::parts::{Parts, discard_parts};
-use cad_accounts::Row;
+use cad_accounts::Block;
 use cad_codec::DecodeError;
 use cad_declarations::Checked;
 use cad_loading::{Programs, load_kept, one_loading};
 use cad_state::discard_accounts;
-use cad_worlds::{World, discard_world};
+use cad_worlds::{RowList, World, discard_world};
 use std::alloc::{AllocError, Global};
 use std::rc::Rc;
 
 /// A World, where rows stand for it; else it is let go.
-fn kept(alloc: Global, world: World, rows: &[Row]) -> Result<Option<World>, AllocError>
-    ensures found { IfOk result (λ o. IfSome o (λ w. (world_of w ≡ world_of world) × Stands rows.now (world_of w))) }
-    ensures only { Stands rows.now (world_of world) → IfOk result (λ o. option_map world_of o ≡ Some (world_of world)) }
+fn kept(alloc: Global, world: World, list: RowList<'_>) -> Result<Option<World>, AllocError>
+    ensures found { IfOk result (λ o. IfSome o (λ w. (world_of w ≡ world_of world) × Stands (rows_listed list.entry) (world_of w))) }
+    ensures only { Stands (rows_listed list.entry) (world_of world) → IfOk result (λ o. option_map world_of o ≡ Some (world_of world)) }
 {
-    match stand_for(alloc, &world, rows) {
+    match stand_for(alloc, &world, list) {
         Ok(true) => Ok(Some(world)),
         Ok(false) => {
             discard_world(world);
@@ -44,15 +46,15 @@ fn with_programs(
     alloc: Global,
     parts: Parts,
     programs: Vec<Rc<Checked>>,
-    rows: &[Row],
+    list: RowList<'_>,
 ) -> Result<Option<World>, AllocError>
     requires programs { length programs.items ≡ length parts.sources.items }
     requires values { length parts.values.items ≡ length parts.sources.items }
-    ensures found { IfOk result (λ o. IfSome o (λ w. (world_of w ≡ items.world_from (parts_of parts) (programs_of programs)) × Stands rows.now (world_of w))) }
-    ensures only { Stands rows.now (items.world_from (parts_of parts) (programs_of programs)) → IfOk result (λ o. option_map world_of o ≡ Some (items.world_from (parts_of parts) (programs_of programs))) }
+    ensures found { IfOk result (λ o. IfSome o (λ w. (world_of w ≡ items.world_from (parts_of parts) (programs_of programs)) × Stands (rows_listed list.entry) (world_of w))) }
+    ensures only { Stands (rows_listed list.entry) (items.world_from (parts_of parts) (programs_of programs)) → IfOk result (λ o. option_map world_of o ≡ Some (items.world_from (parts_of parts) (programs_of programs))) }
 {
     match world_from(alloc, parts, programs) {
-        Ok(world) => kept(alloc, world, rows),
+        Ok(world) => kept(alloc, world, list),
         Err(error) => Err(error),
     }
 }
@@ -69,10 +71,10 @@ fn loaded(
     alloc: Global,
     known: &mut Programs,
     parts: Parts,
-    rows: &[Row],
+    list: RowList<'_>,
 ) -> Result<Option<World>, AllocError>
-    ensures found { IfOk result (λ o. IfSome o (λ w. Stands rows.now (world_of w) × Loads (map loaded_of (world_of w).contracts))) }
-    ensures only { (v : s.World) → parts_of parts ≡ items.draft_of v → IsSound v → Stands rows.now v → IfOk result (λ o. option_map world_of o ≡ Some v) }
+    ensures found { IfOk result (λ o. IfSome o (λ w. Stands (rows_listed list.entry) (world_of w) × Loads (map loaded_of (world_of w).contracts))) }
+    ensures only { (v : s.World) → parts_of parts ≡ items.draft_of v → IsSound v → Stands (rows_listed list.entry) v → IfOk result (λ o. option_map world_of o ≡ Some v) }
 {
     one_loading();
     if !are_as_many(&parts) {
@@ -80,7 +82,7 @@ fn loaded(
         return Ok(None);
     }
     match load_kept(alloc, known, parts.sources.as_slice()) {
-        Ok(Some(programs)) => with_programs(alloc, parts, programs, rows),
+        Ok(Some(programs)) => with_programs(alloc, parts, programs, list),
         Ok(None) => {
             discard_parts(parts);
             Ok(None)
@@ -99,19 +101,19 @@ fn loaded(
 pub fn read_world(
     alloc: Global,
     known: &mut Programs,
-    rows: &[Row],
+    list: RowList<'_>,
 ) -> Result<Option<World>, AllocError>
     // Where a World is read, the rows are in byte order of their keys.
-    ensures rising { IfOk result (λ o. IfSome o (λ _. are_rising rows.now ≡ true)) }
+    ensures rising { IfOk result (λ o. IfSome o (λ _. are_rising (rows_listed list.entry) ≡ true)) }
 
     // What is read stands there.
-    ensures found { IfOk result (λ o. IfSome o (λ w. StandsFor (at rows.now) (world_of w))) }
+    ensures found { IfOk result (λ o. IfSome o (λ w. StandsFor (at (rows_listed list.entry)) (world_of w))) }
 
     // What stands there is read, of rows in that order.
-    ensures only { are_rising rows.now ≡ true → (v : s.World) → StandsFor (at rows.now) v → IfOk result (λ o. option_map world_of o ≡ Some v) }
+    ensures only { are_rising (rows_listed list.entry) ≡ true → (v : s.World) → StandsFor (at (rows_listed list.entry)) v → IfOk result (λ o. option_map world_of o ≡ Some v) }
 {
-    match make(alloc, rows) {
-        Ok(parts) => loaded(alloc, known, parts, rows),
+    match make(alloc, list) {
+        Ok(parts) => loaded(alloc, known, parts, list),
         Err(DecodeError::Damaged) => Ok(None),
         Err(DecodeError::Memory) => Err(AllocError),
     }
@@ -140,14 +142,19 @@ fn made_of(alloc: Global, known: &mut Programs, parts: Parts) -> Result<World, A
     }
 }
 
-/// The World for which rows stand, of which it is known that they stand for one: what was read isn't written and tested again.
+/// The World for which the rows of blocks stand, of which it is known that they stand for one: what was read isn't written and tested
+/// again.
 /// A contract is checked again where its program isn't kept; then it is (`load_kept`).
-pub fn known_world(alloc: Global, known: &mut Programs, rows: &[Row]) -> Result<World, AllocError>
-    requires rising { are_rising rows.now ≡ true }
-    requires stands { (v : s.World) × StandsFor (at rows.now) v }
-    ensures { IfOk result (λ w. StandsFor (at rows.now) (world_of w)) }
+pub fn known_world(
+    alloc: Global,
+    known: &mut Programs,
+    blocks: &[Block],
+) -> Result<World, AllocError>
+    requires rising { are_rising (rows_in_blocks blocks.now) ≡ true }
+    requires stands { (v : s.World) × StandsFor (at (rows_in_blocks blocks.now)) v }
+    ensures { IfOk result (λ w. StandsFor (at (rows_in_blocks blocks.now)) (world_of w)) }
 {
-    match make(alloc, rows) {
+    match make(alloc, RowList::of_blocks(blocks)) {
         Ok(parts) => made_of(alloc, known, parts),
         Err(_) => Err(AllocError),
     }

@@ -2,9 +2,11 @@ pub mod Lists
 pub mod Sections
 pub mod Leading
 pub mod Choosing
+pub mod Blocks
 pub mod KnownPlaces
 pub mod Numbers
 pub mod Parts
+pub mod Passing
 pub mod Known
 pub mod ContractParts
 pub mod Rising
@@ -13,3 +15,4 @@ pub mod Items
 pub mod Making
 pub mod OneWorld
 pub mod PartLaws
+pub mod ToldKeys

@@ -1,1 +1,2 @@
 pub mod KnownRegisters
+pub mod Passing

@@ -4,4 +4,5 @@ pub mod Merging
 pub mod Laws
 pub mod Items
 pub mod Parts
+pub mod RowLists
 pub mod Code

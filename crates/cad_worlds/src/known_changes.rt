@@ -1,5 +1,6 @@
 // The registers of a part of a World, and what leads to them.
 ghost use Rattle.std.specs.Prelude.{◌≡◌, ◌++◌, ◌<◌, ◌≤◌, ℕ, List, map, flat_map, true, length, IfOk, OnOk, IsTrue};
+ghost use Rattle.cad_accounts.specs.Memory.{rows_in_blocks};
 ghost use Rattle.cad_accounts.specs.Registers.{Leads, at, are_rising};
 ghost use Rattle.cad_world.specs.Registers.{map_of};
 ghost use Rattle.cad_world.specs.State as s;
@@ -11,7 +12,7 @@ use crate::keys::{are_in_order, are_known};
 use crate::merging::merge;
 use crate::part::WorldPart;
 use crate::writing::{Section, head_rows, push_account, push_codes, push_values};
-use cad_accounts::Row;
+use cad_accounts::{Block, Row};
 use cad_state::Known;
 use cad_wire::Entries;
 use std::alloc::{AllocError, Global};
@@ -72,24 +73,24 @@ fn is_whole_part(before: u64, part: &WorldPart) -> bool
     before <= part.count && are_in_order(known, part.count) && are_known(known, before, part.count)
 }
 
-/// What leads from rows that stand for a World of so many accounts to the registers of what is known after a run, where this is
-/// sound: exactly the entries that differ, in byte order of their keys. AllocError where memory runs out, where a value holds a
-/// reference, and where a text or a list has 2^32 items or more; also where known accounts don't stand in order, each once, where
-/// there are fewer accounts than before, or where one that was added isn't known.
+/// What leads from blocks of rows that stand for a World of so many accounts to the registers of what is known after a run, where
+/// this is sound: exactly the entries that differ, in byte order of their keys. AllocError where memory runs out, where a value
+/// holds a reference, and where a text or a list has 2^32 items or more; also where known accounts don't stand in order, each once,
+/// where there are fewer accounts than before, or where one that was added isn't known.
 pub fn part_changes(
     alloc: Global,
-    rows: &[Row],
+    blocks: &[Block],
     before: u64,
     part: &WorldPart,
 ) -> Result<Entries, AllocError>
-    requires { are_rising rows.now ≡ true }
-    ensures { IfOk result (λ changes. (w : s.World) → ((key : List ℕ) → at rows.now key ≡ map_of coding w key) → before ≡ length w.accounts
-        → IsSoundButCode (world_over w.accounts part.now) → Leads (at rows.now) (map_of coding (world_over w.accounts part.now)) changes) }
+    requires { are_rising (rows_in_blocks blocks.now) ≡ true }
+    ensures { IfOk result (λ changes. (w : s.World) → ((key : List ℕ) → at (rows_in_blocks blocks.now) key ≡ map_of coding w key) → before ≡ length w.accounts
+        → IsSoundButCode (world_over w.accounts part.now) → Leads (at (rows_in_blocks blocks.now)) (map_of coding (world_over w.accounts part.now)) changes) }
 {
     if !is_whole_part(before, part) {
         return Err(AllocError);
     }
     let new = part_registers(alloc, part)?;
-    let entries = merge(alloc, Some(part.known.as_slice()), rows, new)?;
+    let entries = merge(alloc, Some(part.known.as_slice()), blocks, new)?;
     Ok(entries)
 }

@@ -7,7 +7,9 @@ mod known_changes;
 mod laws;
 mod merging;
 mod part;
+mod row_list;
 mod rows;
+mod spans;
 mod writing;
 
 pub use kept::{World, discard_world};
@@ -15,4 +17,8 @@ pub use known_changes::part_changes;
 pub use laws::{one_world, registers_rise, rows_are_registers};
 pub use merging::changes;
 pub use part::{WorldPart, discard_part};
+pub use row_list::RowList;
 pub use writing::registers_of;
+
+// For the crates above alone: between which addresses the registers of a block are.
+pub use spans::{Span, is_between, span_of};

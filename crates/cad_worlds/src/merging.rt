@@ -1,12 +1,15 @@
 // The entries that lead from registers to others.
-ghost use Rattle.std.specs.Prelude.{◌≡◌, ◌++◌, ◌∷◌, [], true, List, map, IfOk, OnOk, option_map};
+ghost use Rattle.std.specs.Prelude.{◌≡◌, ◌≤◌, ◌++◌, ◌∷◌, [], Bool, true, List, length, drop, map, IfOk, OnOk, option_map};
 ghost use Rattle.cad_accounts.specs.KeyOrder as order;
+ghost use Rattle.cad_accounts.specs.Memory.{rows_in_blocks};
 ghost use Rattle.cad_accounts.specs.Registers.{Leads, at, are_rising};
 ghost use Rattle.cad_accounts.specs.declared.row.Row as r;
+ghost use Rattle.cad_worlds.specs.Code.Passing.{is_passed, shown_in, shown_of};
 ghost use Rattle.cad_worlds.specs.Merging as spec;
 
-use crate::keys::is_of_part;
-use cad_accounts::Row;
+use crate::keys::{is_of_part, rows_shown};
+use crate::row_list::RowList;
+use cad_accounts::{Block, Row};
 use cad_state::Known;
 use cad_syntax::Items;
 use cad_wire::{Entries, Entry, Key};
@@ -40,8 +43,8 @@ fn is_compared(known: Option<&[Known]>, row: &Row) -> bool
     }
 }
 
-/// Adds that all rows are removed that are compared.
-fn remove_all(
+/// Adds that all of some rows are removed that are compared.
+fn remove_rows(
     alloc: Global,
     known: Option<&[Known]>,
     rows: &[Row],
@@ -57,9 +60,25 @@ fn remove_all(
     Ok(())
 }
 
-/// Adds that the first rows are removed that are compared and whose keys stand before this one. The rows from the next one on are
-/// handed back.
-fn remove_before<'r>(
+/// Adds that all rows are removed that are compared.
+fn remove_all(
+    alloc: Global,
+    known: Option<&[Known]>,
+    list: RowList<'_>,
+    changes: &mut Entries,
+) -> Result<(), AllocError>
+    ensures { OnOk result (changes.new ≡ changes.old ++ map spec.removal (spec.chosen (spec.is_compared (option_map (λ k. k.now) known.entry)) (shown_of (is_passed (option_map (λ k. k.now) known.entry)) list.entry))) }
+{
+    remove_rows(alloc, known, list.rows, changes)?;
+    for block in list.blocks {
+        remove_rows(alloc, known, rows_shown(known, block), changes)?;
+    }
+    Ok(())
+}
+
+/// Adds that the first of some rows are removed that are compared and whose keys stand before this one. The rows from the next one
+/// on are handed back.
+fn remove_front<'r>(
     alloc: Global,
     known: Option<&[Known]>,
     rows: &'r [Row],
@@ -79,6 +98,44 @@ fn remove_before<'r>(
         }
     }
     Ok(&[])
+}
+
+/// The blocks from one on.
+fn blocks_from(blocks: &[Block], i: usize) -> &[Block]
+    requires { i ≤ length blocks.now }
+    ensures { result.now ≡ drop i blocks.now }
+{
+    &blocks[i..]
+}
+
+/// Adds that the first rows are removed that are compared and whose keys stand before this one. The rows from the next one on are
+/// handed back, and where there are any, the first of them stands in front of the blocks.
+fn remove_before<'r>(
+    alloc: Global,
+    known: Option<&[Known]>,
+    list: RowList<'r>,
+    key: &[u8],
+    changes: &mut Entries,
+) -> Result<RowList<'r>, AllocError>
+    ensures left { IfOk result (λ left. shown_of (is_passed (option_map (λ k. k.now) known.entry)) left ≡ spec.left_from (spec.is_compared (option_map (λ k. k.now) known.entry)) key.now (shown_of (is_passed (option_map (λ k. k.now) known.entry)) list.entry)) }
+    ensures front { IfOk result (λ left. left.rows.now ≡ [] → left.blocks.now ≡ []) }
+    ensures changes { OnOk result (changes.new ≡ changes.old ++ map spec.removal (spec.in_front key.now (spec.chosen (spec.is_compared (option_map (λ k. k.now) known.entry)) (shown_of (is_passed (option_map (λ k. k.now) known.entry)) list.entry)))) }
+{
+    let mut rows = remove_front(alloc, known, list.rows, key, changes)?;
+    for i in 0..list.blocks.len() {
+        if !rows.is_empty() {
+            let blocks = blocks_from(list.blocks, i);
+            return Ok(RowList { rows, blocks });
+        }
+        rows = remove_front(
+            alloc,
+            known,
+            rows_shown(known, &list.blocks[i]),
+            key,
+            changes,
+        )?;
+    }
+    Ok(RowList { rows, blocks: &[] })
 }
 
 /// Whether a row is the first of these.
@@ -129,17 +186,20 @@ fn push_row(there: &[Row], row: Row, changes: &mut Entries) -> Result<(), AllocE
 fn take_row<'r>(
     alloc: Global,
     known: Option<&[Known]>,
-    rows: &'r [Row],
+    list: RowList<'r>,
     row: Row,
     changes: &mut Entries,
-) -> Result<&'r [Row], AllocError>
-    ensures left { IfOk result (λ left. left.now ≡ spec.behind row.key.0 (spec.left_from (spec.is_compared (option_map (λ k. k.now) known.entry)) row.key.0 rows.now)) }
-    ensures changes { OnOk result (changes.new ≡ changes.old ++ (map spec.removal (spec.in_front row.key.0 (spec.chosen (spec.is_compared (option_map (λ k. k.now) known.entry)) rows.now)) ++ spec.own (spec.left_from (spec.is_compared (option_map (λ k. k.now) known.entry)) row.key.0 rows.now) row)) }
+) -> Result<RowList<'r>, AllocError>
+    ensures left { IfOk result (λ left. shown_of (is_passed (option_map (λ k. k.now) known.entry)) left ≡ spec.behind row.key.0 (spec.left_from (spec.is_compared (option_map (λ k. k.now) known.entry)) row.key.0 (shown_of (is_passed (option_map (λ k. k.now) known.entry)) list.entry))) }
+    ensures changes { OnOk result (changes.new ≡ changes.old ++ (map spec.removal (spec.in_front row.key.0 (spec.chosen (spec.is_compared (option_map (λ k. k.now) known.entry)) (shown_of (is_passed (option_map (λ k. k.now) known.entry)) list.entry))) ++ spec.own (spec.left_from (spec.is_compared (option_map (λ k. k.now) known.entry)) row.key.0 (shown_of (is_passed (option_map (λ k. k.now) known.entry)) list.entry)) row)) }
 {
-    let there = remove_before(alloc, known, rows, row.key.0.as_slice(), changes)?;
-    let left = behind(there, row.key.0.as_slice());
-    push_row(there, row, changes)?;
-    Ok(left)
+    let there = remove_before(alloc, known, list, row.key.0.as_slice(), changes)?;
+    let rows = behind(there.rows, row.key.0.as_slice());
+    push_row(there.rows, row, changes)?;
+    Ok(RowList {
+        rows,
+        blocks: there.blocks,
+    })
 }
 
 /// Adds what leads from the one rows, where they are compared, to the others, but for the removal of those behind the last of
@@ -147,11 +207,11 @@ fn take_row<'r>(
 fn take_rows<'r>(
     alloc: Global,
     known: Option<&[Known]>,
-    old: &'r [Row],
+    old: RowList<'r>,
     new: Vec<Row>,
     changes: &mut Entries,
-) -> Result<&'r [Row], AllocError>
-    ensures { IfOk result (λ left. (rest : List r.Row) → changes.new ++ spec.merged (spec.chosen (spec.is_compared (option_map (λ k. k.now) known.entry)) left.now) rest ≡ changes.old ++ spec.merged (spec.chosen (spec.is_compared (option_map (λ k. k.now) known.entry)) old.now) (new.items ++ rest)) }
+) -> Result<RowList<'r>, AllocError>
+    ensures { IfOk result (λ left. (rest : List r.Row) → changes.new ++ spec.merged (spec.chosen (spec.is_compared (option_map (λ k. k.now) known.entry)) (shown_of (is_passed (option_map (λ k. k.now) known.entry)) left)) rest ≡ changes.old ++ spec.merged (spec.chosen (spec.is_compared (option_map (λ k. k.now) known.entry)) (shown_of (is_passed (option_map (λ k. k.now) known.entry)) old.entry)) (new.items ++ rest)) }
 {
     let mut left = old;
     for row in new {
@@ -160,26 +220,33 @@ fn take_rows<'r>(
     Ok(left)
 }
 
+/// The rows of all blocks.
+fn all_of(blocks: &[Block]) -> RowList<'_>
+    ensures { (passes : List r.Row → Bool) → shown_of passes result ≡ shown_in passes blocks.now }
+{
+    RowList { rows: &[], blocks }
+}
+
 /// What leads from the one rows, where they are compared, to the others, by going once over both.
 pub(crate) fn merge(
     alloc: Global,
     known: Option<&[Known]>,
-    old: &[Row],
+    old: &[Block],
     new: Vec<Row>,
 ) -> Result<Entries, AllocError>
-    ensures { IfOk result (λ changes. changes ≡ spec.merged (spec.chosen (spec.is_compared (option_map (λ k. k.now) known.entry)) old.now) new.items) }
+    ensures { IfOk result (λ changes. changes ≡ spec.merged (spec.chosen (spec.is_compared (option_map (λ k. k.now) known.entry)) (shown_in (is_passed (option_map (λ k. k.now) known.entry)) old.now)) new.items) }
 {
     let mut changes = Items::new(alloc);
-    let left = take_rows(alloc, known, old, new, &mut changes)?;
+    let left = take_rows(alloc, known, all_of(old), new, &mut changes)?;
     remove_all(alloc, known, left, &mut changes)?;
     Ok(changes)
 }
 
 /// The entries that lead from registers to others, both in byte order of their keys: exactly those that differ, in that order.
-pub fn changes(alloc: Global, old: &[Row], new: Vec<Row>) -> Result<Entries, AllocError>
-    requires old { are_rising old.now ≡ true }
+pub fn changes(alloc: Global, old: &[Block], new: Vec<Row>) -> Result<Entries, AllocError>
+    requires old { are_rising (rows_in_blocks old.now) ≡ true }
     requires new { are_rising new.items ≡ true }
-    ensures { IfOk result (λ changes. Leads (at old.now) (at new.items) changes) }
+    ensures { IfOk result (λ changes. Leads (at (rows_in_blocks old.now)) (at new.items) changes) }
 {
     let entries = merge(alloc, None, old, new)?;
     Ok(entries)

@@ -1,11 +1,16 @@
 -- Where a key stands, or belongs, in a list that is in byte order of its keys.
-use Rattle.std.specs.Prelude.{◌≡◌, ◌⊎◌, ℕ, ◌<◌, ◌≤◌, true, List, [], ◌∷◌, length, take, drop, Result, Ok, Err}
+use Rattle.std.specs.Prelude.{◌≡◌, ◌⊎◌, ℕ, suc, ◌<◌, ◌≤◌, true, List, [], ◌∷◌, length, take, drop, Result, Ok, Err}
 use Rattle.std.specs.List.{HoldsAt}
 use Rattle.cad_wire.specs.declared.entry.Entry.{Entry}
 use Rattle.cad_accounts.specs.KeyOrder.{before}
 
 abbrev pub entry_key : Entry → List ℕ
 entry_key e = e.key.0
+
+-- the index in all of what stands at this index behind a list
+abbrev pub past : {X : Type 0} → List X → ℕ → ℕ
+past [] i = i
+past (x ∷ xs) i = suc (past xs i)
 
 -- all keys stand before this one, or behind it
 abbrev pub AllBefore : {X : Type 0} → (X → List ℕ) → List X → List ℕ → Type 0

@@ -1,5 +1,5 @@
 use Rattle.cad_accounts.specs.Registers.{at}
-use Rattle.cad_accounts.specs.Memory.{rows_of}
+use Rattle.cad_accounts.specs.Room.{rows_of}
 use Rattle.cad_accounts.proofs.OneByOne.{entry_more}
 use Rattle.cad_accounts.proofs.folding.apply_all.Goals as goal
 

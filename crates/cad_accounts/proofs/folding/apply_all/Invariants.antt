@@ -1,6 +1,6 @@
 use Rattle.std.proofs.Common.{◌≡◌, List, ℕ}
 use Rattle.cad_accounts.specs.Registers.{at, applied, no_registers}
-use Rattle.cad_accounts.specs.Memory.{rows_of}
+use Rattle.cad_accounts.specs.Room.{rows_of}
 use Rattle.cad_accounts.proofs.folding.apply_all.Given as goal
 
 abbrev pub invariant-loop-entry : goal.invariant-loop-entry

@@ -1,6 +1,6 @@
 use Rattle.std.proofs.Common.{◌≡◌, ◌+◌, drop}
 use Rattle.cad_accounts.specs.Registers.{at}
-use Rattle.cad_accounts.specs.Memory.{rows_of}
+use Rattle.cad_accounts.specs.Room.{rows_of}
 use Rattle.cad_store.specs.Code.Sizes.{replaced}
 use Rattle.cad_store.proofs.sizes.size_replaced.Given as goal
 

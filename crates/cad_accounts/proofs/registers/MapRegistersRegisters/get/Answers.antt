@@ -1,17 +1,25 @@
-use Rattle.std.proofs.Common.{sym}
-use Rattle.cad_accounts.specs.KeyOrder.{row_key}
-use Rattle.cad_accounts.proofs.Order.{stands_there, belongs_there}
-use Rattle.cad_accounts.proofs.Places.{found_value, absent}
+use Rattle.std.proofs.Common.{◌≡◌, ◌∙◌, ℕ, ◌<◌, length, sym, ap, arith}
+use Rattle.std.proofs.lemmas.Grind.{common_steps}
+use Rattle.cad_accounts.specs.Memory.{block_rows, block_at}
+use Rattle.cad_accounts.specs.Registers.{at}
+use Rattle.cad_accounts.proofs.Blocks.{at_within, at_block}
+use Rattle.cad_accounts.proofs.BlockEdits.{spare_there}
 use Rattle.cad_accounts.proofs.registers.MapRegistersRegisters.get.Goals as goal
 
-pub returns-in-Ok : goal.returns-in-Ok
-returns-in-Ok c =
+pub index-requires : goal.index-requires
+index-requires c =
     let m = c.args.self.now in
-    let h = stands_there row_key c.args.key.now.0 c.as_slice-2.result.now m.rows.items c.as_slice.result.now c.in-Ok.i c.as_slice-2.ensures c.as_slice.ensures.value c.in-Ok.ensures in
-    found_value m.rows.items c.in-Ok.i c.args.key.now.0 c.index.result.now c.as_slice-in-Ok.result.now m.ascending h c.index.ensures c.as_slice-in-Ok.ensures
+    let some : 0 < length m.blocks.items = grind (arith, common_steps) in
+    let is : c.block_of-block.result ≡ block_at m.blocks.items c.args.key.now.0 = c.block_of-block.ensures ∙ ap (block_at m.blocks.items) c.as_slice.ensures in
+    omega (arith, is, at_within m.blocks.items c.args.key.now.0 some)
 
-pub returns-in-Err : goal.returns-in-Err
-returns-in-Err c =
+pub returns : goal.returns
+returns c =
     let m = c.args.self.now in
-    let h = belongs_there row_key c.args.key.now.0 c.as_slice-2.result.now m.rows.items c.as_slice.result.now c.in-Err.field-0 c.as_slice-2.ensures c.as_slice.ensures.value c.in-Err.ensures in
-    sym (absent m.rows.items c.in-Err.field-0 c.args.key.now.0 h)
+    let key = c.args.key.now.0 in
+    let some : 0 < length m.blocks.items = grind (arith, common_steps) in
+    let is : c.block_of-block.result ≡ block_at m.blocks.items key = c.block_of-block.ensures ∙ ap (block_at m.blocks.items) c.as_slice.ensures in
+    let inside : c.block_of-block.result < length m.blocks.items = omega (arith, is, at_within m.blocks.items key some) in
+    c.get.ensures
+    ∙ ap (at (block_rows c.index.result.now)) c.as_slice-2.ensures
+    ∙ sym (at_block m.blocks.items key c.block_of-block.result c.index.result.now m.parted m.whole inside is c.index.ensures)

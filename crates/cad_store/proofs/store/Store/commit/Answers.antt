@@ -2,7 +2,7 @@ use Rattle.std.proofs.Common.{◌∙◌, List, ap}
 use Rattle.cad_wire.specs.declared.entry.Entry.{Entry}
 use Rattle.cad_wire.specs.Body.{body_bytes}
 use Rattle.cad_accounts.specs.Registers.{at, applied}
-use Rattle.cad_accounts.specs.Memory.{rows_of}
+use Rattle.cad_accounts.specs.Room.{rows_of}
 use Rattle.cad_store.specs.Stores.{held, IsOut, BreaksRecord}
 use Rattle.cad_store.proofs.Holding.{keeps, holds_new}
 use Rattle.cad_store.proofs.Placing.{whole_at, told_err}

@@ -1,6 +1,6 @@
 use Rattle.std.proofs.Common.{◌∙◌, sym, arith, add-one}
 use Rattle.cad_world_reading.proofs.Same.{same_turn, rows_differ, lengths_differ, same_end}
-use Rattle.cad_world_reading.proofs.comparing.are_same_rows.Goals as goal
+use Rattle.cad_world_reading.proofs.listing.are_same_rows.Goals as goal
 
 pub returns-then-a-b : goal.returns-then-a-b
 returns-then-a-b c = lengths_differ c.args.a.now c.args.b.now c.if-a-b.true
