@@ -7,13 +7,16 @@ MOST = 2.3
 
 
 def lines_of(names):
-    """The lines of crates.txt that these crates have in the repository."""
-    lines = {}
+    """The lines of crates.txt that these crates and those below them have in the repository, by name, the lowest first."""
+    lines, wanted = {}, set(names)
     for line in (ROOT / "crates.txt").read_text().splitlines():
-        name, colon, _ = line.partition(":")
+        name, colon, _ = line.split("#")[0].partition(":")
         if colon:
-            lines[name] = line
-    return [lines[name] for name in names]
+            lines[name.strip()] = line
+    for name in reversed(lines):
+        if name in wanted:
+            wanted.update(lines[name].split("#")[0].partition(":")[2].split())
+    return {name: line for name, line in lines.items() if name in wanted}
 
 
 def build(folder, libraries, name, uses, source, proofs, words):
@@ -21,11 +24,12 @@ def build(folder, libraries, name, uses, source, proofs, words):
     uses; it is run once with these words. Answers its path."""
     crates = folder / "crates"
     crates.mkdir(parents=True)
-    for library in libraries:
+    lines = lines_of(libraries)
+    for library in lines:
         shutil.copytree(ROOT / "crates" / library, crates / library, ignore=shutil.ignore_patterns("out", "must-fail", "edits"))
     subprocess.run(["git", "init", "-q", "."], cwd=folder, check=True)
-    lines = lines_of(libraries) + [f"{name}: {' '.join([*libraries, *uses])}"]
-    (folder / "crates.txt").write_text("\n".join(lines) + "\n")
+    own = f"{name}: {' '.join([*libraries, *uses])}"
+    (folder / "crates.txt").write_text("\n".join([*lines.values(), own]) + "\n")
     (folder / "HANDLES").write_text((ROOT / "HANDLES").read_text())
     program = crates / name
     (program / "src").mkdir(parents=True)

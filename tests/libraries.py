@@ -1,7 +1,7 @@
 #!/usr/bin/env python3
 """Proves the libraries of a branch, the lowest first, and again those whose text changes.
 
-    tests/libraries.py [--once] CLONE BRANCH BUILT JOBS CRATE..
+    tests/libraries.py [--once] [--above=LOW] CLONE BRANCH BUILT JOBS CRATE..
 
 BRANCH is one of CLONE's remote, to which everybody pushes; CLONE is for this script alone. All that the CRATEs stand on is proved
 too, what the first of them stands on before the rest, JOBS at a time. A library that failed waits until its text or that of one
@@ -59,6 +59,9 @@ class Text:
 
     def below(self, crate):
         return [it for it in self.needs[crate] if it in self.needs]
+
+    def stands_on(self, crate, low):
+        return crate == low or any(self.stands_on(it, low) for it in self.below(crate))
 
     def sum(self, crate):
         if crate not in self.sums:
@@ -135,8 +138,8 @@ def words_of(text, folder, built, crate):
 
 
 class Queue:
-    def __init__(self, clone, branch, built, wanted):
-        self.clone, self.branch, self.built, self.wanted = clone, branch, os.path.abspath(built), wanted
+    def __init__(self, clone, branch, built, wanted, low):
+        self.clone, self.branch, self.built, self.wanted, self.low = clone, branch, os.path.abspath(built), wanted, low
         self.lock, self.texts = threading.Lock(), {}
         self.failed, self.running, self.passed = set(), set(), set()
         self.first = Text(clone, "HEAD", wanted)
@@ -161,10 +164,11 @@ class Queue:
             take_kept(self.first, self.built)
             text, folder = self.text()
             proved = {it for it in text.crates if os.path.isdir(text.library(self.built, it)) or text.sum(it) in self.passed}
-            left = [it for it in text.crates if it not in proved and text.sum(it) not in self.failed]
+            own = [it for it in text.crates if self.low is None or text.stands_on(it, self.low)]
+            left = [it for it in own if it not in proved and text.sum(it) not in self.failed]
             due = [it for it in left if text.sum(it) not in self.running and all(os.path.isdir(text.library(self.built, low)) for low in text.below(it))]
             if not due:
-                return None, not self.running
+                return None, not self.running and (self.low is None or not left)
             first = text.closure(self.wanted[:1])
             crate = max(due, key=lambda it: (it in first, text.height(it)))
             self.running.add(text.sum(crate))
@@ -204,14 +208,16 @@ def prove(queue, once):
 
 
 def main():
-    once = "--once" in sys.argv
-    words = [it for it in sys.argv[1:] if it != "--once"]
+    once, low = "--once" in sys.argv, None
+    for word in sys.argv[1:]:
+        low = word.removeprefix("--above=") if word.startswith("--above=") else low
+    words = [it for it in sys.argv[1:] if not it.startswith("--")]
     if len(words) < 5:
         print(__doc__)
         return 2
     clone, branch, built, jobs, *wanted = words
     os.makedirs(built, exist_ok=True)
-    queue = Queue(clone, branch, built, wanted)
+    queue = Queue(clone, branch, built, wanted, low)
     workers = [threading.Thread(target=prove, args=(queue, once)) for _ in range(int(jobs))]
     for worker in workers:
         worker.start()
