@@ -60,8 +60,9 @@ class Text:
     def below(self, crate):
         return [it for it in self.needs[crate] if it in self.needs]
 
-    def stands_on(self, crate, low):
-        return crate == low or any(self.stands_on(it, low) for it in self.below(crate))
+    def over(self, low):
+        """This crate, and all that stand on it; all crates where it is None."""
+        return [it for it in self.crates if low is None or low in self.closure([it])]
 
     def sum(self, crate):
         if crate not in self.sums:
@@ -164,8 +165,7 @@ class Queue:
             take_kept(self.first, self.built)
             text, folder = self.text()
             proved = {it for it in text.crates if os.path.isdir(text.library(self.built, it)) or text.sum(it) in self.passed}
-            own = [it for it in text.crates if self.low is None or text.stands_on(it, self.low)]
-            left = [it for it in own if it not in proved and text.sum(it) not in self.failed]
+            left = [it for it in text.over(self.low) if it not in proved and text.sum(it) not in self.failed]
             due = [it for it in left if text.sum(it) not in self.running and all(os.path.isdir(text.library(self.built, low)) for low in text.below(it))]
             if not due:
                 return None, not self.running and (self.low is None or not left)
