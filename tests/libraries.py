@@ -135,7 +135,7 @@ def words_of(text, folder, built, crate):
     for it in order:
         words += ["-L", f"dependency={os.path.dirname(text.library(built, it))}"]
     words += ["--antt-project", f"{KIT}/rattle/logic/antt-project.json", "--logic-built", f"{KIT}/logic_built", "--links", f"{crate}="]
-    return [*words, "--jobs", os.environ.get("J", "1"), "--statements"], is_program
+    return [*words, "--jobs", os.environ.get("J", "1")], is_program
 
 
 class Queue:
@@ -199,7 +199,7 @@ def prove(queue, once):
         if crate.endswith("_tests") or is_program:
             command = ["check", *(["--test"] if crate.endswith("_tests") else []), *words]
         else:
-            command = ["build", *words, "-o", made, "--empty-contracts"]
+            command = ["build", *words, "--statements", "-o", made, "--empty-contracts"]
         with open(f"{logs}/{crate}.{text.sum(crate)}", "w", encoding="utf-8") as log:
             run = ["nice", "-n", os.environ.get("NICE", "0"), f"{KIT}/bin/rattle", *command]
             is_proved = subprocess.run(run, cwd=f"{folder}/crates/{crate}", stdout=log, stderr=log, stdin=subprocess.DEVNULL).returncode == 0
