@@ -6,13 +6,12 @@ use Rattle.std.proofs.lemmas.List.{map-append}
 use Rattle.std.proofs.lemmas.List.Elements.{filter-append}
 use Rattle.cad_accounts.specs.Memory.{block_rows}
 use Rattle.cad_accounts.specs.KeyOrder.{before}
-use Rattle.cad_accounts.specs.Registers.{same_key}
 use Rattle.cad_accounts.specs.declared.block.Block.{Block}
 use Rattle.cad_accounts.specs.declared.row.Row.{Row}
 use Rattle.cad_wire.specs.declared.entry.Entry.{Entry}
 use Rattle.cad_worlds.proofs.Lists.{none_past, from_item}
 use Rattle.cad_worlds.specs.Code.Passing.{last_key, shown, shown_in}
-use Rattle.cad_worlds.specs.Merging.{chosen, left_from, removal, in_front, behind, own}
+use Rattle.cad_worlds.specs.Merging.{chosen, left_from, removal, in_front}
 
 -- ---- the blocks that are left
 
@@ -31,32 +30,6 @@ not_empty b rows is f none = let wrong : true ≡ false = sym (ap (λ (l : List 
 pub empty : (b : Bool) (rows : List Row) → b ≡ (length rows == 0) → b ≡ true → rows ≡ []
 empty b [] is t = refl
 empty b (r ∷ rows) is t = absurd (false≢true (sym (ne_eqb (length (r ∷ rows)) 0 (λ z. omega (arith, z))) ∙ sym is ∙ t))
-
--- ---- the first row of all
-
--- that of the rows in front, where there is none behind if there is none in front
-own_first : (rows rest : List Row) (r : Row) → (rows ≡ [] → rest ≡ []) → own (rows ++ rest) r ≡ own rows r
-own_first [] rest r front = ap (λ (l : List Row). own l r) (front refl)
-own_first (x ∷ rows) rest r front = refl
-
-behind_either : (b : Bool) (x : Row) (rows rest : List Row) → cond b (rows ++ rest) (x ∷ (rows ++ rest)) ≡ cond b rows (x ∷ rows) ++ rest
-behind_either true x rows rest = refl
-behind_either false x rows rest = refl
-
-behind_first : (key : List ℕ) (rows rest : List Row) → (rows ≡ [] → rest ≡ []) → behind key (rows ++ rest) ≡ behind key rows ++ rest
-behind_first key [] rest front = ap (behind key) (front refl) ∙ sym (front refl)
-behind_first key (x ∷ rows) rest front = behind_either (same_key x.key.0 key) x rows rest
-
-module _ (passes : List Row → Bool) where
-  none_in : (blocks : List Block) → blocks ≡ [] → shown_in passes blocks ≡ []
-  none_in blocks e = ap (shown_in passes) e
-
-  -- what is added for a row, and what is left behind it
-  pub own_listed : (rows : List Row) (blocks : List Block) (r : Row) (all : List Row) → (rows ≡ [] → blocks ≡ []) → rows ++ shown_in passes blocks ≡ all → own rows r ≡ own all r
-  own_listed rows blocks r all front is = sym (own_first rows (shown_in passes blocks) r (λ e. none_in blocks (front e))) ∙ ap (λ (l : List Row). own l r) is
-
-  pub behind_listed : (key : List ℕ) (rows : List Row) (blocks : List Block) (all : List Row) → (rows ≡ [] → blocks ≡ []) → rows ++ shown_in passes blocks ≡ all → behind key rows ++ shown_in passes blocks ≡ behind key all
-  behind_listed key rows blocks all front is = sym (behind_first key rows (shown_in passes blocks) (λ e. none_in blocks (front e))) ∙ ap (behind key) is
 
 module _ (p : List ℕ → Bool) where
   -- ---- all that are compared
