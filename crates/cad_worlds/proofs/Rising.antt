@@ -16,7 +16,7 @@ use Rattle.cad_world.specs.Orders.{rises, name_before, publication_before, contr
 use Rattle.cad_world.specs.Registers.{Register, register, head_key, code_register, fields_registers, of_accounts, next_register, stored_from, stored_registers, published_register, published_registers, controller_register, controller_registers, row_values}
 use Rattle.cad_world.specs.Shapes.{shapes}
 use Rattle.cad_world.specs.Sound.{SoundAccount, SoundPublication, SoundController, most_next, most_accounts}
-use Rattle.cad_world.specs.State.{Publication, Controller, Account, Contract, World}
+use Rattle.cad_world.specs.State.{Publication, Controller, Account, Contract}
 use Rattle.cad_worlds.specs.Laws.{register_key, RegistersRise}
 use Rattle.cad_worlds.specs.Standing.{coding}
 use Rattle.cad_worlds.proofs.ContractParts.{codes_part, values_part}
