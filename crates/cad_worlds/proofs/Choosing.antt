@@ -173,6 +173,26 @@ module _ (p : List ℕ → Bool) where
         left = sym (ap (left_from p key) there ∙ left_past_other key r rest e) ∙ so_far.left;
       }
 
+  -- it stops at a row that is left
+  pub stop_left : (key : List ℕ) (rows : List Row) (i : ℕ) (r : Row) (now all : List Entry) → i < length rows → r ≡ get_or rows i r → p r.key.0 ≡ true → before r.key.0 key ≡ false → Goes p key rows i now all → drop i rows ≡ left_from p key rows
+  stop_left key rows i r now all inside is e not_lt so_far =
+      let there = from_item rows i r inside is in
+      there ∙ sym (ap (left_from p key) there ∙ left_at key r (drop (suc i) rows) e not_lt) ∙ so_far.left
+
+  pub stop_changes : (key : List ℕ) (rows : List Row) (i : ℕ) (r : Row) (now all : List Entry) → i < length rows → r ≡ get_or rows i r → p r.key.0 ≡ true → before r.key.0 key ≡ false → Goes p key rows i now all → now ≡ all
+  stop_changes key rows i r now all inside is e not_lt so_far =
+      let rest = drop (suc i) rows in
+      let none = ap (λ (l : List Row). in_front key (chosen p l)) (from_item rows i r inside is) ∙ ap (in_front key) (to_chosen r rest e) ∙ front_at key r (chosen p rest) not_lt in
+      sym (append-nil now) ∙ ap (λ (z : List Row). now ++ map removal z) (sym none) ∙ so_far.changes
+
+  -- none is left
+  pub go_end_left : (key : List ℕ) (rows : List Row) (i : ℕ) (now all : List Entry) → length rows ≤ i → Goes p key rows i now all → [] ≡ left_from p key rows
+  go_end_left key rows i now all outside so_far = ap (left_from p key) (sym (none_past rows i outside)) ∙ so_far.left
+
+  pub go_end_changes : (key : List ℕ) (rows : List Row) (i : ℕ) (now all : List Entry) → length rows ≤ i → Goes p key rows i now all → now ≡ all
+  go_end_changes key rows i now all outside so_far =
+      sym (append-nil now) ∙ ap (λ (l : List Row). now ++ map removal (in_front key (chosen p l))) (sym (none_past rows i outside)) ∙ so_far.changes
+
   -- one row more
   pub chosen_turn : (all : List Row → List Entry) (left next yielded : List Row) (row : Row) (now new : List Entry) → ((rest : List Row) → now ++ merged (chosen p left) rest ≡ all (yielded ++ rest)) → next ≡ behind row.key.0 (left_from p row.key.0 left)
       → new ≡ now ++ (map removal (in_front row.key.0 (chosen p left)) ++ own (left_from p row.key.0 left) row) → (rest : List Row) → new ++ merged (chosen p next) rest ≡ all ((yielded ++ row ∷ []) ++ rest)

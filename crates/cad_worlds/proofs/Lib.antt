@@ -3,10 +3,13 @@ pub mod Sections
 pub mod Leading
 pub mod Choosing
 pub mod Blocks
+pub mod References
 pub mod KnownPlaces
 pub mod Numbers
 pub mod Parts
 pub mod Passing
+pub mod Fronts
+pub mod KnownOthers
 pub mod Known
 pub mod ContractParts
 pub mod Rising

@@ -1,26 +1,23 @@
--- Blocks of registers that are passed over have none that is known with a part.
-use Rattle.std.proofs.Common.{◌≡◌, ℕ, zero, suc, ◌^◌, ◌<◌, ◌≤◌, Bool, true, false, cond, List, [], ◌∷◌, ◌++◌, Option, Some, None, refl, sym, ap, subst, ◌∙◌, arith, inl, inr, ◌⊎◌}
-use Rattle.std.specs.Prelude.{filter, not, is_some, ◌||◌, ◌==◌, option_map}
-use Rattle.std.specs.List.{AllByRecursion}
+-- Registers that are passed over are of accounts that aren't asked for.
+use Rattle.std.proofs.Common.{◌≡◌, ℕ, zero, suc, ◌^◌, ◌<◌, ◌≤◌, Bool, true, false, cond, List, [], ◌∷◌, ◌++◌, Option, Some, None, length, take, drop, get_or, ◌+◌, refl, sym, ap, subst, ◌∙◌, append_assoc, append-nil, take-append-drop, drop-drop, arith, inl, inr, ◌⊎◌}
+use Rattle.std.specs.Prelude.{not, ◌||◌, ◌==◌, option_map}
+use Rattle.std.specs.List.{AllByRecursion, list_any}
 use Rattle.std.specs.Ordering.{is_lt}
-use Rattle.std.proofs.lemmas.Bool.{cases_eq, cases_lt, eqb-true, lt-ltb, le-leb}
+use Rattle.std.proofs.lemmas.Bool.{cases_eq, cases_lt, eqb-true, ne_eqb, lt-ltb, le-leb}
 use Rattle.std.proofs.lemmas.List.Elements.{filter-append}
 use Rattle.cad_accounts.proofs.Keys.{not_itself, passes}
 use Rattle.cad_accounts.proofs.Order.{both_left, both_right, both, tail_rises}
 use Rattle.cad_accounts.specs.KeyOrder.{before, row_key}
-use Rattle.cad_accounts.specs.Memory.{block_rows, rows_in_blocks}
 use Rattle.cad_accounts.specs.Registers.{are_rising}
-use Rattle.cad_accounts.specs.declared.block.Block.{Block}
 use Rattle.cad_accounts.specs.declared.row.Row.{Row}
-use Rattle.cad_state.specs.declared.state.Known.{Known}
 use Rattle.cad_wire.proofs.FieldLaws.{number_again, some_is}
-use Rattle.cad_wire.specs.Fields.{number_field, number_at}
+use Rattle.cad_wire.specs.Fields.{number_field}
 use Rattle.cad_worlds.proofs.Choosing.{filter_none}
-use Rattle.cad_worlds.proofs.KnownPlaces.{known_past}
+use Rattle.cad_worlds.proofs.Lists.{none_past, from_item}
 use Rattle.cad_worlds.proofs.Numbers.{less_step}
 use Rattle.cad_worlds.proofs.Parts.{key_of, ahead}
-use Rattle.cad_worlds.specs.Code.KnownRegisters.{has_index, is_known, is_known_at, is_of_all, is_of_part}
-use Rattle.cad_worlds.specs.Code.Passing.{last_key, front_number, span_from, span_between, span_of, is_between, has_between, is_unknown, is_passed, shown, shown_in}
+use Rattle.cad_worlds.specs.Code.KnownRegisters.{is_of_all}
+use Rattle.cad_worlds.specs.Code.Passing.{last_key, front_number, span_from, span_between, span_of, is_of_account, is_between, has_between, is_passed, HasAddress, IsTold, AreTold, is_among, IsOfOther, RefusesOthers, LeavesOut, GoesOn}
 use Rattle.cad_worlds.specs.Merging.{chosen}
 use Rattle.cad_worlds.specs.declared.spans.Span.{Span}
 
@@ -59,20 +56,7 @@ none_at_most : (k : ℕ) (xs : List ℕ) → AtMost (k ∷ xs) [] → ⊥
 none_at_most k xs (inl e) = absurd cc
 none_at_most k xs (inr h) = absurd cc
 
--- ---- keys of registers: of all accounts, or of one
-
-pub record HasAddress (kind : ℕ) (rest : List ℕ) : Type 0 where
-  pub address : ℕ
-  pub name : List ℕ
-  pub rest_is : rest ≡ number_field address ++ name
-  pub fits : address < 2 ^ 64
-
-abbrev pub IsTold : List ℕ → Type 0
-IsTold [] = ⊥
-IsTold (kind ∷ rest) = (is_of_all kind ≡ true) ⊎ HasAddress kind rest
-
-abbrev pub AreTold : List Row → Type 0
-AreTold rows = AllByRecursion (λ r. IsTold r.key.0) rows
+-- ---- keys of registers of one account
 
 has_address : (kind : ℕ) (rest : List ℕ) → is_of_all kind ≡ false → IsTold (kind ∷ rest) → HasAddress kind rest
 has_address kind rest f (inl t) = let wrong : true ≡ false = sym t ∙ f in absurd cc
@@ -166,7 +150,7 @@ pub are_within : (rows : List Row) (s : Span) → span_of rows ≡ Some s → is
 are_within [] s e u t a = tt
 are_within (r ∷ rows) s e u t a = all_between r.key.0 r rows s e u t.0 (inl refl) t a
 
--- ---- accounts that aren't known
+-- ---- accounts that aren't asked for
 
 pub either_left : (a b : Bool) → (a || b) ≡ false → a ≡ false
 either_left true b e = absurd cc
@@ -176,50 +160,46 @@ pub either_right : (a b : Bool) → (a || b) ≡ false → b ≡ false
 either_right true b e = absurd cc
 either_right false b e = e
 
-pub not_so : (b : Bool) → not b ≡ true → b ≡ false
+not_so : (b : Bool) → not b ≡ true → b ≡ false
 not_so true e = absurd cc
 not_so false e = refl
 
-pub is_there : (least most i : ℕ) → least ≤ suc i → i < most → is_between least most i ≡ true
+is_there : (least most i : ℕ) → least ≤ suc i → i < most → is_between least most i ≡ true
 is_there least most i low high = rw (lt-ltb i most high, le-leb least (suc i) low) refl
 
-none_between : (known : List Known) (least most i : ℕ) → has_between known least most ≡ false → least ≤ suc i → i < most → has_index known i ≡ false
+none_between : (indexes : List ℕ) (least most i : ℕ) → has_between indexes least most ≡ false → least ≤ suc i → i < most → list_any (λ j. j == i) indexes ≡ false
 none_between [] least most i none low high = refl
-none_between (k ∷ known) least most i none low high =
-    let here = either_left (is_between least most k.index) (has_between known least most) none in
-    let rest = none_between known least most i (either_right (is_between least most k.index) (has_between known least most) none) low high in
-    elim (cases_eq k.index i) [
+none_between (j ∷ indexes) least most i none low high =
+    let here = either_left (is_between least most j) (has_between indexes least most) none in
+    let rest = none_between indexes least most i (either_right (is_between least most j) (has_between indexes least most) none) low high in
+    elim (cases_eq j i) [
       | inl e ↦ let wrong : true ≡ false = sym (is_there least most i low high) ∙ ap (is_between least most) (sym e) ∙ here in absurd cc
-      | inr n ↦ ap is_some (known_past k known i n) ∙ rest
+      | inr n ↦ ap (λ b. b || list_any (λ k. k == i) indexes) (ne_eqb j i n) ∙ rest
     ]
 
-unknown_address : (known : List Known) (least most n : ℕ) → has_between known least most ≡ false → least ≤ n → n ≤ most → is_known known n ≡ false
-unknown_address known least most zero none low high = refl
-unknown_address known least most (suc i) none low high = none_between known least most i none low (omega (arith, high))
+other_address : (indexes : List ℕ) (least most n : ℕ) → has_between indexes least most ≡ false → least ≤ n → n ≤ most → is_among indexes n ≡ false
+other_address indexes least most zero none low high = refl
+other_address indexes least most (suc i) none low high = none_between indexes least most i none low (omega (arith, high))
 
-module _ (known : List Known) where
-  not_of_part : (s : Span) (key : List ℕ) → is_of_all s.kind ≡ false → has_between known s.least s.most ≡ false → IsWithin s key → is_of_part known key ≡ false
-  not_of_part s [] f u w = absurd w
-  not_of_part s (kind ∷ rest) f u w =
-      let h = w.1 in
-      ap (λ b. b || is_known_at known (number_at rest)) (ap is_of_all (sym w.0) ∙ f)
-      ∙ ap (λ (l : List ℕ). is_known_at known (number_at l)) h.rest_is
-      ∙ ap (is_known_at known) (number_again h.address h.name h.fits)
-      ∙ unknown_address known s.least s.most h.address u w.2 w.3
-
-  none_of_part : (s : Span) (rows : List Row) → is_of_all s.kind ≡ false → has_between known s.least s.most ≡ false → AreWithin s rows → AllByRecursion (λ x. is_of_part known x.key.0 ≡ false) rows
-  none_of_part s [] f u w = tt
-  none_of_part s (r ∷ rows) f u w = (not_of_part s r.key.0 f u w.0, none_of_part s rows f u w.1)
-
-  by_span : (o : Option Span) (rows : List Row) → span_of rows ≡ o → is_unknown known o ≡ true → AreTold rows → are_rising rows ≡ true → AllByRecursion (λ x. is_of_part known x.key.0 ≡ false) rows
-  by_span None rows e u t a = absurd cc
-  by_span (Some s) rows e u t a =
-      let neither = not_so (is_of_all s.kind || has_between known s.least s.most) u in
-      let one = either_left (is_of_all s.kind) (has_between known s.least s.most) neither in
-      none_of_part s rows one (either_right (is_of_all s.kind) (has_between known s.least s.most) neither) (are_within rows s e one t a)
-
-  pub passed : (rows : List Row) → is_passed (Some known) rows ≡ true → AreTold rows → are_rising rows ≡ true → AllByRecursion (λ x. is_of_part known x.key.0 ≡ false) rows
-  passed rows u t a = by_span (span_of rows) rows refl u t a
+-- registers of one account each aren't of all
+pub of_account_only : (k : ℕ) → is_of_account k ≡ true → is_of_all k ≡ false
+of_account_only k t =
+    elim (cases_eq k 1) [
+      | inl e ↦ ap is_of_all e
+      | inr a ↦ elim (cases_eq k 4) [
+        | inl e ↦ ap is_of_all e
+        | inr b ↦ elim (cases_eq k 5) [
+          | inl e ↦ ap is_of_all e
+          | inr c ↦ elim (cases_eq k 6) [
+            | inl e ↦ ap is_of_all e
+            | inr d ↦
+                let none : is_of_account k ≡ false = λ i. ne_eqb k 1 a i || (ne_eqb k 4 b i || (ne_eqb k 5 c i || ne_eqb k 6 d i)) in
+                let wrong : true ≡ false = sym t ∙ none in
+                absurd cc
+          ]
+        ]
+      ]
+    ]
 
 -- ---- rows in two parts
 
@@ -241,28 +221,73 @@ pub back_rises : (xs ys : List Row) → are_rising (xs ++ ys) ≡ true → are_r
 back_rises [] ys a = a
 back_rises (x ∷ xs) ys a = back_rises xs ys (tail_rises row_key x (xs ++ ys) a)
 
--- ---- all blocks
+-- ---- what is left out
 
-module _ (known : List Known) where
-  abbrev of_part : Row → Bool
-  of_part r = is_of_part known r.key.0
+abbrev AreOfOthers : List ℕ → List Row → Type 0
+AreOfOthers indexes rows = AllByRecursion (λ r. IsOfOther indexes r.key.0) rows
 
-  shown_either : (b : Bool) (rows : List Row) → is_passed (Some known) rows ≡ b → AreTold rows → are_rising rows ≡ true → filter of_part (cond b [] rows) ≡ filter of_part rows
-  shown_either true rows e t a = sym (filter_none of_part rows (passed known rows e t a))
-  shown_either false rows e t a = refl
+module _ (indexes : List ℕ) where
+  of_other : (s : Span) (key : List ℕ) → is_of_account s.kind ≡ true → has_between indexes s.least s.most ≡ false → IsWithin s key → IsOfOther indexes key
+  of_other s [] a none w = absurd w
+  of_other s (kind ∷ rest) a none w = (ap is_of_account (sym w.0) ∙ a, w.1, other_address indexes s.least s.most w.1.address none w.2 w.3)
 
-  pub chosen_shown : (blocks : List Block) → AreTold (rows_in_blocks blocks) → are_rising (rows_in_blocks blocks) ≡ true → chosen (is_of_part known) (shown_in (is_passed (Some known)) blocks) ≡ chosen (is_of_part known) (rows_in_blocks blocks)
-  chosen_shown [] t a = refl
-  chosen_shown (b ∷ blocks) t a =
-      let xs = block_rows b in
-      let ys = rows_in_blocks blocks in
-      let here = shown_either (is_passed (Some known) xs) xs refl (front_told xs ys t) (front_rises xs ys a) in
-      let rest = chosen_shown blocks (back_told xs ys t) (back_rises xs ys a) in
-      filter-append of_part (shown (is_passed (Some known)) xs) (shown_in (is_passed (Some known)) blocks)
-      ∙ (λ i. here i ++ rest i)
-      ∙ sym (filter-append of_part xs ys)
+  of_others : (s : Span) (rows : List Row) → is_of_account s.kind ≡ true → has_between indexes s.least s.most ≡ false → AreWithin s rows → AreOfOthers indexes rows
+  of_others s [] a none w = tt
+  of_others s (r ∷ rows) a none w = (of_other s r.key.0 a none w.0, of_others s rows a none w.1)
 
--- where all are gone over
-pub all_shown : (blocks : List Block) → shown_in (is_passed None) blocks ≡ rows_in_blocks blocks
-all_shown [] = refl
-all_shown (b ∷ blocks) = ap (λ (l : List Row). block_rows b ++ l) (all_shown blocks)
+  refused : (p : List ℕ → Bool) (rows : List Row) → RefusesOthers indexes p → AreOfOthers indexes rows → AllByRecursion (λ r. p r.key.0 ≡ false) rows
+  refused p [] refuses h = tt
+  refused p (r ∷ rows) refuses h = (refuses r.key.0 h.0, refused p rows refuses h.1)
+
+  pub by_span : (o : Option Span) (rows : List Row) → is_passed indexes o ≡ true → span_of rows ≡ o → LeavesOut indexes [] rows
+  by_span None rows u e p refuses t a = absurd cc
+  by_span (Some s) rows u e p refuses t a =
+      let kind = both_left (is_of_account s.kind) (not (has_between indexes s.least s.most)) u in
+      let none = not_so (has_between indexes s.least s.most) (both_right (is_of_account s.kind) (not (has_between indexes s.least s.most)) u) in
+      let within = are_within rows s e (of_account_only s.kind kind) t a in
+      sym (filter_none (λ r. p r.key.0) rows (refused p rows refuses (of_others s rows kind none within)))
+
+  pub none_left_out : LeavesOut indexes [] []
+  none_left_out p refuses t a = refl
+
+  -- rows in two parts
+  pub leave_both : (found more xs ys : List Row) → LeavesOut indexes found xs → LeavesOut indexes more ys → LeavesOut indexes (found ++ more) (xs ++ ys)
+  leave_both found more xs ys h g p refuses t a =
+      let here = h p refuses (front_told xs ys t) (front_rises xs ys a) in
+      let rest = g p refuses (back_told xs ys t) (back_rises xs ys a) in
+      filter-append (λ r. p r.key.0) found more ∙ (λ i. here i ++ rest i) ∙ sym (filter-append (λ r. p r.key.0) xs ys)
+
+  -- ---- one part more
+
+  pub pass_on : (found xs ys left rows : List Row) → LeavesOut indexes [] xs → left ≡ xs ++ ys → GoesOn indexes found left rows → GoesOn indexes found ys rows
+  pass_on found xs ys left rows none split so_far more h =
+      so_far more (subst (LeavesOut indexes more) (sym split) (leave_both [] more xs ys none h))
+
+  same : (xs : List Row) → LeavesOut indexes xs xs
+  same xs p refuses t a = refl
+
+  pub take_on : (found new xs ys left rows : List Row) → new ≡ found ++ xs → left ≡ xs ++ ys → GoesOn indexes found left rows → GoesOn indexes new ys rows
+  take_on found new xs ys left rows grown split so_far more h =
+      subst (λ (l : List Row). LeavesOut indexes l rows) (sym (ap (λ (l : List Row). l ++ more) grown ∙ append_assoc found xs more))
+      (so_far (xs ++ more) (subst (LeavesOut indexes (xs ++ more)) (sym split) (leave_both xs more xs ys (same xs) h)))
+
+  -- a row more, where others stand behind these
+  pub row_taken : (found new behind rows : List Row) (i : ℕ) (r : Row) (all : List Row) → i < length rows → r ≡ get_or rows i r → new ≡ found ++ r ∷ []
+      → GoesOn indexes found (drop i rows ++ behind) all → GoesOn indexes new (drop (suc i) rows ++ behind) all
+  row_taken found new behind rows i r all inside is grown so_far =
+      take_on found new (r ∷ []) (drop (suc i) rows ++ behind) (drop i rows ++ behind) all grown (ap (λ (l : List Row). l ++ behind) (from_item rows i r inside is)) so_far
+
+  -- some of them are passed over
+  pub rows_passed : (found behind rows left : List Row) (i n : ℕ) (all : List Row) → left ≡ drop i rows → LeavesOut indexes [] (take n left)
+      → GoesOn indexes found (drop i rows ++ behind) all → GoesOn indexes found (drop (i + n) rows ++ behind) all
+  rows_passed found behind rows left i n all are none so_far =
+      let rest = drop (i + n) rows in
+      let parts = sym are ∙ sym (take-append-drop n left) ∙ ap (λ (l : List Row). take n left ++ l) (ap (drop n) are ∙ drop-drop n i rows) in
+      pass_on found (take n left) (rest ++ behind) (drop i rows ++ behind) all none (ap (λ (l : List Row). l ++ behind) parts ∙ append_assoc (take n left) rest behind) so_far
+
+  pub rows_ended : (found behind rows : List Row) (i : ℕ) (all : List Row) → length rows ≤ i → GoesOn indexes found (drop i rows ++ behind) all → GoesOn indexes found behind all
+  rows_ended found behind rows i all outside so_far = subst (λ (l : List Row). GoesOn indexes found (l ++ behind) all) (none_past rows i outside) so_far
+
+  pub all_found : (found left rows : List Row) → left ≡ [] → GoesOn indexes found left rows → LeavesOut indexes found rows
+  all_found found left rows none so_far =
+      subst (λ (l : List Row). LeavesOut indexes l rows) (append-nil found) (so_far [] (subst (LeavesOut indexes []) (sym none) none_left_out))

@@ -13,7 +13,7 @@ use Rattle.cad_wire.specs.Fields.{number_field}
 use Rattle.cad_world.specs.Orders.{contract_name}
 use Rattle.cad_world.specs.Registers.{Register, register, head_key, fields_key, registers, bytes_under, map_of, of_accounts, next_register, code_register, fields_registers, row_values, stored_from, stored_registers, published_register, published_registers, controller_register, controller_registers}
 use Rattle.cad_world.specs.State.{Publication, Controller, Account, Contract, World}
-use Rattle.cad_worlds.proofs.Passing.{IsTold, AreTold}
+use Rattle.cad_worlds.specs.Code.Passing.{IsTold, AreTold}
 use Rattle.cad_worlds.specs.Sections.{head, of_section}
 use Rattle.cad_worlds.specs.Standing.{coding}
 use Rattle.cad_worlds.specs.declared.writing.Section.{Section}

@@ -1,13 +1,9 @@
 // Which registers are known with a part of a World.
 ghost use Rattle.std.specs.Prelude.{◌≡◌, ◌<◌, ◌≤◌, ℕ, true, IsTrue, option_map};
-ghost use Rattle.cad_accounts.specs.Memory.{block_rows};
 ghost use Rattle.cad_wire.specs.Fields.{number_at};
 ghost use Rattle.cad_worlds.specs.Code.KnownRegisters as spec;
-ghost use Rattle.cad_worlds.specs.Code.Passing as passing;
 
 use crate::rows::{CODE, FIELDS, HEAD};
-use crate::spans::{Span, is_between, span_of};
-use cad_accounts::{Block, Row};
 use cad_state::Known;
 
 /// Whether the account of an index is known.
@@ -93,44 +89,4 @@ pub(crate) fn is_of_part(known: &[Known], key: &[u8]) -> bool
         [] => false,
         [kind, rest @ ..] => is_of_all(*kind) || is_known_at(known, rest),
     }
-}
-
-// ---- blocks that are passed over
-
-/// Whether an account between two addresses is known.
-fn has_between(known: &[Known], least: u64, most: u64) -> bool
-    ensures { result ≡ passing.has_between known.now least most }
-{
-    known.iter().any(|one| is_between(one.index, least, most))
-}
-
-/// Whether no key between two addresses is of an account that is known.
-fn is_unknown(known: &[Known], span: Option<Span>) -> bool
-    ensures { result ≡ passing.is_unknown known.now span }
-{
-    match span {
-        None => false,
-        Some(span) => !(is_of_all(span.kind) || has_between(known, span.least, span.most)),
-    }
-}
-
-/// Whether rows are passed over: where a part is known, and their first and last keys tell that they aren't of it.
-fn is_passed(known: Option<&[Known]>, rows: &[Row]) -> bool
-    ensures { result ≡ passing.is_passed (option_map (λ k. k.now) known.entry) rows.now }
-{
-    match known {
-        None => false,
-        Some(known) => is_unknown(known, span_of(rows)),
-    }
-}
-
-/// The rows of a block; none where it is passed over.
-pub(crate) fn rows_shown<'r>(known: Option<&[Known]>, block: &'r Block) -> &'r [Row]
-    ensures { result.now ≡ passing.shown (passing.is_passed (option_map (λ k. k.now) known.entry)) (block_rows block.now) }
-{
-    let rows = block.rows();
-    if is_passed(known, rows) {
-        return &[];
-    }
-    rows
 }

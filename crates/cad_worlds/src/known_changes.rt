@@ -5,12 +5,16 @@ ghost use Rattle.cad_accounts.specs.Registers.{Leads, at, are_rising};
 ghost use Rattle.cad_world.specs.Registers.{map_of};
 ghost use Rattle.cad_world.specs.State as s;
 ghost use Rattle.cad_worlds.specs.Code.KnownRegisters as spec;
+ghost use Rattle.cad_worlds.specs.Code.Passing.{AreTold, LeavesOut};
+ghost use Rattle.cad_worlds.specs.Merging.{chosen, merged};
 ghost use Rattle.cad_worlds.specs.Parts.{world_over};
+ghost use Rattle.cad_worlds.specs.RowLists.{rows_at};
 ghost use Rattle.cad_worlds.specs.Standing.{coding, register_of, IsSoundButCode};
 
 use crate::keys::{are_in_order, are_known};
 use crate::merging::merge;
 use crate::part::WorldPart;
+use crate::selection::part_rows;
 use crate::writing::{Section, head_rows, push_account, push_codes, push_values};
 use cad_accounts::{Block, Row};
 use cad_state::Known;
@@ -73,6 +77,45 @@ fn is_whole_part(before: u64, part: &WorldPart) -> bool
     before <= part.count && are_in_order(known, part.count) && are_known(known, before, part.count)
 }
 
+// ---- what they are compared with
+
+/// Where known accounts stand among all.
+fn indexes_of(alloc: Global, known: &[Known]) -> Result<Vec<u64>, AllocError>
+    ensures { IfOk result (λ indexes. indexes.items ≡ spec.indexes_of known.now) }
+{
+    let mut indexes = Vec::new(alloc);
+    for one in known {
+        indexes.push(one.index)?;
+    }
+    Ok(indexes)
+}
+
+/// The rows of blocks, but for some of accounts that aren't known.
+fn known_rows<'r>(
+    alloc: Global,
+    known: &[Known],
+    blocks: &'r [Block],
+) -> Result<Vec<&'r Row>, AllocError>
+    ensures { IfOk result (λ rows. LeavesOut (spec.indexes_of known.now) (rows_at rows.items) (rows_in_blocks blocks.now)) }
+{
+    let indexes = indexes_of(alloc, known)?;
+    part_rows(alloc, indexes.as_slice(), blocks)
+}
+
+/// What leads from the registers of a World, as far as they are known with a part, to others.
+fn merge_part(
+    alloc: Global,
+    known: &[Known],
+    blocks: &[Block],
+    new: Vec<Row>,
+) -> Result<Entries, AllocError>
+    ensures { IfOk result (λ changes. AreTold (rows_in_blocks blocks.now) → are_rising (rows_in_blocks blocks.now) ≡ true → changes ≡ merged (chosen (spec.is_of_part known.now) (rows_in_blocks blocks.now)) new.items) }
+{
+    let old = known_rows(alloc, known, blocks)?;
+    let entries = merge(alloc, Some(known), old.as_slice(), new)?;
+    Ok(entries)
+}
+
 /// What leads from blocks of rows that stand for a World of so many accounts to the registers of what is known after a run, where
 /// this is sound: exactly the entries that differ, in byte order of their keys. AllocError where memory runs out, where a value
 /// holds a reference, and where a text or a list has 2^32 items or more; also where known accounts don't stand in order, each once,
@@ -91,6 +134,6 @@ pub fn part_changes(
         return Err(AllocError);
     }
     let new = part_registers(alloc, part)?;
-    let entries = merge(alloc, Some(part.known.as_slice()), blocks, new)?;
+    let entries = merge_part(alloc, part.known.as_slice(), blocks, new)?;
     Ok(entries)
 }

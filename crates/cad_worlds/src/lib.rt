@@ -9,6 +9,7 @@ mod merging;
 mod part;
 mod row_list;
 mod rows;
+mod selection;
 mod spans;
 mod writing;
 
@@ -20,5 +21,5 @@ pub use part::{WorldPart, discard_part};
 pub use row_list::RowList;
 pub use writing::registers_of;
 
-// For the crates above alone: between which addresses the registers of a block are.
-pub use spans::{Span, is_between, span_of};
+// For the crates above alone: the registers of some accounts.
+pub use selection::part_rows;

@@ -1,14 +1,13 @@
 // The entries that lead from registers to others.
-ghost use Rattle.std.specs.Prelude.{◌≡◌, ◌≤◌, ◌++◌, ◌∷◌, [], Bool, true, List, length, drop, map, IfOk, OnOk, option_map};
+ghost use Rattle.std.specs.Prelude.{◌≡◌, ◌≤◌, ◌++◌, ◌∷◌, [], true, List, length, drop, map, IfOk, OnOk, option_map};
 ghost use Rattle.cad_accounts.specs.KeyOrder as order;
 ghost use Rattle.cad_accounts.specs.Memory.{rows_in_blocks};
 ghost use Rattle.cad_accounts.specs.Registers.{Leads, at, are_rising};
 ghost use Rattle.cad_accounts.specs.declared.row.Row as r;
-ghost use Rattle.cad_worlds.specs.Code.Passing.{is_passed, shown_in, shown_of};
 ghost use Rattle.cad_worlds.specs.Merging as spec;
+ghost use Rattle.cad_worlds.specs.RowLists.{rows_at};
 
-use crate::keys::{is_of_part, rows_shown};
-use crate::row_list::RowList;
+use crate::keys::is_of_part;
 use cad_accounts::{Block, Row};
 use cad_state::Known;
 use cad_syntax::Items;
@@ -43,14 +42,14 @@ fn is_compared(known: Option<&[Known]>, row: &Row) -> bool
     }
 }
 
-/// Adds that all of some rows are removed that are compared.
-fn remove_rows(
+/// Adds that all rows are removed that are compared.
+fn remove_all(
     alloc: Global,
     known: Option<&[Known]>,
-    rows: &[Row],
+    rows: &[&Row],
     changes: &mut Entries,
 ) -> Result<(), AllocError>
-    ensures { OnOk result (changes.new ≡ changes.old ++ map spec.removal (spec.chosen (spec.is_compared (option_map (λ k. k.now) known.entry)) rows.now)) }
+    ensures { OnOk result (changes.new ≡ changes.old ++ map spec.removal (spec.chosen (spec.is_compared (option_map (λ k. k.now) known.entry)) (rows_at rows.now))) }
 {
     for row in rows {
         if is_compared(known, row) {
@@ -60,87 +59,42 @@ fn remove_rows(
     Ok(())
 }
 
-/// Adds that all rows are removed that are compared.
-fn remove_all(
-    alloc: Global,
-    known: Option<&[Known]>,
-    list: RowList<'_>,
-    changes: &mut Entries,
-) -> Result<(), AllocError>
-    ensures { OnOk result (changes.new ≡ changes.old ++ map spec.removal (spec.chosen (spec.is_compared (option_map (λ k. k.now) known.entry)) (shown_of (is_passed (option_map (λ k. k.now) known.entry)) list.entry))) }
+/// The rows from one on.
+fn rows_from<'s, 'r>(rows: &'s [&'r Row], i: usize) -> &'s [&'r Row]
+    requires { i ≤ length rows.now }
+    ensures { result.now ≡ drop i rows.now }
 {
-    remove_rows(alloc, known, list.rows, changes)?;
-    for block in list.blocks {
-        remove_rows(alloc, known, rows_shown(known, block), changes)?;
-    }
-    Ok(())
+    &rows[i..]
 }
 
-/// Adds that the first of some rows are removed that are compared and whose keys stand before this one. The rows from the next one
-/// on are handed back.
-fn remove_front<'r>(
+/// Adds that the first rows are removed that are compared and whose keys stand before this one. How many rows it went over is handed
+/// back.
+fn remove_before(
     alloc: Global,
     known: Option<&[Known]>,
-    rows: &'r [Row],
+    rows: &[&Row],
     key: &[u8],
     changes: &mut Entries,
-) -> Result<&'r [Row], AllocError>
-    ensures left { IfOk result (λ left. left.now ≡ spec.left_from (spec.is_compared (option_map (λ k. k.now) known.entry)) key.now rows.now) }
-    ensures changes { OnOk result (changes.new ≡ changes.old ++ map spec.removal (spec.in_front key.now (spec.chosen (spec.is_compared (option_map (λ k. k.now) known.entry)) rows.now))) }
+) -> Result<usize, AllocError>
+    ensures few { IfOk result (λ gone. gone ≤ length rows.now) }
+    ensures left { IfOk result (λ gone. drop gone (rows_at rows.now) ≡ spec.left_from (spec.is_compared (option_map (λ k. k.now) known.entry)) key.now (rows_at rows.now)) }
+    ensures changes { OnOk result (changes.new ≡ changes.old ++ map spec.removal (spec.in_front key.now (spec.chosen (spec.is_compared (option_map (λ k. k.now) known.entry)) (rows_at rows.now)))) }
 {
     for i in 0..rows.len() {
         let row = &rows[i];
         if is_compared(known, row) {
             if !is_before(row, key) {
-                return Ok(&rows[i..]);
+                return Ok(i);
             }
             push_removal(alloc, row, changes)?;
         }
     }
-    Ok(&[])
-}
-
-/// The blocks from one on.
-fn blocks_from(blocks: &[Block], i: usize) -> &[Block]
-    requires { i ≤ length blocks.now }
-    ensures { result.now ≡ drop i blocks.now }
-{
-    &blocks[i..]
-}
-
-/// Adds that the first rows are removed that are compared and whose keys stand before this one. The rows from the next one on are
-/// handed back, and where there are any, the first of them stands in front of the blocks.
-fn remove_before<'r>(
-    alloc: Global,
-    known: Option<&[Known]>,
-    list: RowList<'r>,
-    key: &[u8],
-    changes: &mut Entries,
-) -> Result<RowList<'r>, AllocError>
-    ensures left { IfOk result (λ left. shown_of (is_passed (option_map (λ k. k.now) known.entry)) left ≡ spec.left_from (spec.is_compared (option_map (λ k. k.now) known.entry)) key.now (shown_of (is_passed (option_map (λ k. k.now) known.entry)) list.entry)) }
-    ensures front { IfOk result (λ left. left.rows.now ≡ [] → left.blocks.now ≡ []) }
-    ensures changes { OnOk result (changes.new ≡ changes.old ++ map spec.removal (spec.in_front key.now (spec.chosen (spec.is_compared (option_map (λ k. k.now) known.entry)) (shown_of (is_passed (option_map (λ k. k.now) known.entry)) list.entry)))) }
-{
-    let mut rows = remove_front(alloc, known, list.rows, key, changes)?;
-    for i in 0..list.blocks.len() {
-        if !rows.is_empty() {
-            let blocks = blocks_from(list.blocks, i);
-            return Ok(RowList { rows, blocks });
-        }
-        rows = remove_front(
-            alloc,
-            known,
-            rows_shown(known, &list.blocks[i]),
-            key,
-            changes,
-        )?;
-    }
-    Ok(RowList { rows, blocks: &[] })
+    Ok(rows.len())
 }
 
 /// Whether a row is the first of these.
-fn is_first(rows: &[Row], row: &Row) -> bool
-    ensures { result ≡ spec.is_first rows.now row.now }
+fn is_first(rows: &[&Row], row: &Row) -> bool
+    ensures { result ≡ spec.is_first (rows_at rows.now) row.now }
 {
     match rows {
         [] => false,
@@ -151,25 +105,26 @@ fn is_first(rows: &[Row], row: &Row) -> bool
     }
 }
 
-/// The rows behind that of a key, where it is the first.
-fn behind<'r>(rows: &'r [Row], key: &[u8]) -> &'r [Row]
-    ensures { result.now ≡ spec.behind key.now rows.now }
+/// How many rows at the front have a key, which is one or none.
+fn count_of(rows: &[&Row], key: &[u8]) -> usize
+    ensures few { result ≤ length rows.now }
+    ensures behind { drop result (rows_at rows.now) ≡ spec.behind key.now (rows_at rows.now) }
 {
     match rows {
-        [] => rows,
-        [first, rest @ ..] => {
+        [] => 0,
+        [first, ..] => {
             if first.key.0.as_slice() == key {
-                rest
+                1
             } else {
-                rows
+                0
             }
         }
     }
 }
 
 /// Adds that a row comes, unless it is the first of those that are there.
-fn push_row(there: &[Row], row: Row, changes: &mut Entries) -> Result<(), AllocError>
-    ensures { OnOk result (changes.new ≡ changes.old ++ spec.own there.now row) }
+fn push_row(there: &[&Row], row: Row, changes: &mut Entries) -> Result<(), AllocError>
+    ensures { OnOk result (changes.new ≡ changes.old ++ spec.own (rows_at there.now) row) }
 {
     if is_first(there, &row) {
         return Ok(());
@@ -181,65 +136,80 @@ fn push_row(there: &[Row], row: Row, changes: &mut Entries) -> Result<(), AllocE
     })
 }
 
-/// Adds what leads to one row more: the removals of the rows before it, and itself, unless it is there. The rows behind it are
-/// handed back.
-fn take_row<'r>(
+/// Adds what leads to one row more: the removals of the rows before it, and itself, unless it is there. How many rows it went over
+/// is handed back.
+fn take_row(
     alloc: Global,
     known: Option<&[Known]>,
-    list: RowList<'r>,
+    rows: &[&Row],
     row: Row,
     changes: &mut Entries,
-) -> Result<RowList<'r>, AllocError>
-    ensures left { IfOk result (λ left. shown_of (is_passed (option_map (λ k. k.now) known.entry)) left ≡ spec.behind row.key.0 (spec.left_from (spec.is_compared (option_map (λ k. k.now) known.entry)) row.key.0 (shown_of (is_passed (option_map (λ k. k.now) known.entry)) list.entry))) }
-    ensures changes { OnOk result (changes.new ≡ changes.old ++ (map spec.removal (spec.in_front row.key.0 (spec.chosen (spec.is_compared (option_map (λ k. k.now) known.entry)) (shown_of (is_passed (option_map (λ k. k.now) known.entry)) list.entry))) ++ spec.own (spec.left_from (spec.is_compared (option_map (λ k. k.now) known.entry)) row.key.0 (shown_of (is_passed (option_map (λ k. k.now) known.entry)) list.entry)) row)) }
+) -> Result<usize, AllocError>
+    ensures few { IfOk result (λ gone. gone ≤ length rows.now) }
+    ensures left { IfOk result (λ gone. drop gone (rows_at rows.now) ≡ spec.behind row.key.0 (spec.left_from (spec.is_compared (option_map (λ k. k.now) known.entry)) row.key.0 (rows_at rows.now))) }
+    ensures changes { OnOk result (changes.new ≡ changes.old ++ (map spec.removal (spec.in_front row.key.0 (spec.chosen (spec.is_compared (option_map (λ k. k.now) known.entry)) (rows_at rows.now))) ++ spec.own (spec.left_from (spec.is_compared (option_map (λ k. k.now) known.entry)) row.key.0 (rows_at rows.now)) row)) }
 {
-    let there = remove_before(alloc, known, list, row.key.0.as_slice(), changes)?;
-    let rows = behind(there.rows, row.key.0.as_slice());
-    push_row(there.rows, row, changes)?;
-    Ok(RowList {
-        rows,
-        blocks: there.blocks,
-    })
+    let gone = remove_before(alloc, known, rows, row.key.0.as_slice(), changes)?;
+    let there = rows_from(rows, gone);
+    let count = count_of(there, row.key.0.as_slice());
+    push_row(there, row, changes)?;
+    Ok(gone + count)
 }
 
 /// Adds what leads from the one rows, where they are compared, to the others, but for the removal of those behind the last of
-/// these, which are handed back.
-fn take_rows<'r>(
+/// these. How many rows it went over is handed back.
+fn take_rows(
     alloc: Global,
     known: Option<&[Known]>,
-    old: RowList<'r>,
+    old: &[&Row],
     new: Vec<Row>,
     changes: &mut Entries,
-) -> Result<RowList<'r>, AllocError>
-    ensures { IfOk result (λ left. (rest : List r.Row) → changes.new ++ spec.merged (spec.chosen (spec.is_compared (option_map (λ k. k.now) known.entry)) (shown_of (is_passed (option_map (λ k. k.now) known.entry)) left)) rest ≡ changes.old ++ spec.merged (spec.chosen (spec.is_compared (option_map (λ k. k.now) known.entry)) (shown_of (is_passed (option_map (λ k. k.now) known.entry)) old.entry)) (new.items ++ rest)) }
+) -> Result<usize, AllocError>
+    ensures few { IfOk result (λ gone. gone ≤ length old.now) }
+    ensures changes { IfOk result (λ gone. (rest : List r.Row) → changes.new ++ spec.merged (spec.chosen (spec.is_compared (option_map (λ k. k.now) known.entry)) (drop gone (rows_at old.now))) rest ≡ changes.old ++ spec.merged (spec.chosen (spec.is_compared (option_map (λ k. k.now) known.entry)) (rows_at old.now)) (new.items ++ rest)) }
 {
-    let mut left = old;
+    let mut gone = 0;
     for row in new {
-        left = take_row(alloc, known, left, row, changes)?;
+        let more = take_row(alloc, known, rows_from(old, gone), row, changes)?;
+        gone += more;
     }
-    Ok(left)
-}
-
-/// The rows of all blocks.
-fn all_of(blocks: &[Block]) -> RowList<'_>
-    ensures { (passes : List r.Row → Bool) → shown_of passes result ≡ shown_in passes blocks.now }
-{
-    RowList { rows: &[], blocks }
+    Ok(gone)
 }
 
 /// What leads from the one rows, where they are compared, to the others, by going once over both.
 pub(crate) fn merge(
     alloc: Global,
     known: Option<&[Known]>,
-    old: &[Block],
+    old: &[&Row],
     new: Vec<Row>,
 ) -> Result<Entries, AllocError>
-    ensures { IfOk result (λ changes. changes ≡ spec.merged (spec.chosen (spec.is_compared (option_map (λ k. k.now) known.entry)) (shown_in (is_passed (option_map (λ k. k.now) known.entry)) old.now)) new.items) }
+    ensures { IfOk result (λ changes. changes ≡ spec.merged (spec.chosen (spec.is_compared (option_map (λ k. k.now) known.entry)) (rows_at old.now)) new.items) }
 {
     let mut changes = Items::new(alloc);
-    let left = take_rows(alloc, known, all_of(old), new, &mut changes)?;
-    remove_all(alloc, known, left, &mut changes)?;
+    let gone = take_rows(alloc, known, old, new, &mut changes)?;
+    remove_all(alloc, known, rows_from(old, gone), &mut changes)?;
     Ok(changes)
+}
+
+/// Appends rows.
+fn push_all<'r>(rows: &'r [Row], all: &mut Vec<&'r Row>) -> Result<(), AllocError>
+    ensures { OnOk result (rows_at all.new.items ≡ rows_at all.old.items ++ rows.now) }
+{
+    for row in rows {
+        all.push(row)?;
+    }
+    Ok(())
+}
+
+/// The rows of blocks.
+fn all_rows(alloc: Global, blocks: &[Block]) -> Result<Vec<&Row>, AllocError>
+    ensures { IfOk result (λ rows. rows_at rows.items ≡ rows_in_blocks blocks.now) }
+{
+    let mut all = Vec::new(alloc);
+    for block in blocks {
+        push_all(block.rows(), &mut all)?;
+    }
+    Ok(all)
 }
 
 /// The entries that lead from registers to others, both in byte order of their keys: exactly those that differ, in that order.
@@ -248,6 +218,7 @@ pub fn changes(alloc: Global, old: &[Block], new: Vec<Row>) -> Result<Entries, A
     requires new { are_rising new.items ≡ true }
     ensures { IfOk result (λ changes. Leads (at (rows_in_blocks old.now)) (at new.items) changes) }
 {
-    let entries = merge(alloc, None, old, new)?;
+    let rows = all_rows(alloc, old)?;
+    let entries = merge(alloc, None, rows.as_slice(), new)?;
     Ok(entries)
 }

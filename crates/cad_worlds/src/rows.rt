@@ -26,17 +26,17 @@ use std::alloc::{AllocError, Global};
 
 pub(crate) const HEAD: u8 = 0;
 
-const NEXT: u8 = 1;
+pub(crate) const NEXT: u8 = 1;
 
 pub(crate) const CODE: u8 = 2;
 
 pub(crate) const FIELDS: u8 = 3;
 
-const STORED: u8 = 4;
+pub(crate) const STORED: u8 = 4;
 
-const PUBLISHED: u8 = 5;
+pub(crate) const PUBLISHED: u8 = 5;
 
-const CONTROLLER: u8 = 6;
+pub(crate) const CONTROLLER: u8 = 6;
 
 // ---- keys
 

@@ -16,6 +16,9 @@ use Rattle.cad_worlds.specs.declared.writing.Section.TheVariants as section
 abbrev pub has_index : List Known → ℕ → Bool
 has_index known i = is_some (known_in known i)
 
+abbrev pub indexes_of : List Known → List ℕ
+indexes_of known = map (λ (k : Known). k.index) known
+
 -- indexes in order, each once, from one on and below another
 abbrev pub StandBetween : ℕ → ℕ → List Known → Type 0
 StandBetween i count [] = Unit {0}

@@ -1,32 +1,30 @@
-use Rattle.std.proofs.Common.{◌++◌, ◌∙◌, List, map, drop, suc, sym, ap, refl, add-one, arith}
+use Rattle.std.proofs.Common.{◌≡◌, ◌++◌, ◌∙◌, List, suc, map, drop, sym, subst, add-one, arith}
 use Rattle.std.specs.Prelude.{option_map}
-use Rattle.cad_accounts.specs.declared.row.Row.{Row}
-use Rattle.cad_worlds.proofs.Blocks.{from_block, no_block, all_turn, all_end}
-use Rattle.cad_worlds.specs.Code.Passing.{is_passed, shown_in, shown_of}
+use Rattle.cad_wire.specs.declared.entry.Entry.{Entry}
+use Rattle.cad_worlds.proofs.Choosing.{removal_turn, removal_else, removal_end}
+use Rattle.cad_worlds.proofs.References.{inside_at, outside_at, item_at}
 use Rattle.cad_worlds.specs.Merging.{is_compared, chosen, removal}
+use Rattle.cad_worlds.specs.RowLists.{rows_at}
+use Rattle.cad_worlds.proofs.merging.remove_all.Goals.{then-is_compared+in_ok-push_removal, else-is_compared}
 use Rattle.cad_worlds.proofs.merging.remove_all.Goals as goal
 
-pub loop-block-init : goal.loop-block-init
-loop-block-init c =
+pub loop-row-preserved : goal.loop-row-preserved
+loop-row-preserved c =
     let p = is_compared (option_map (λ k. k.now) c.args.known) in
-    let q = is_passed (option_map (λ k. k.now) c.args.known) in
-    let list = c.args.list in
-    all_turn p list.rows.now (shown_in q list.blocks.now) (shown_of q list) c.args.changes.now c.remove_rows.new.changes (c.args.changes.now ++ map removal (chosen p (shown_of q list))) refl refl c.in_ok-remove_rows.ensures
-
-pub loop-block-preserved : goal.loop-block-preserved
-loop-block-preserved c =
-    let p = is_compared (option_map (λ k. k.now) c.args.known) in
-    let q = is_passed (option_map (λ k. k.now) c.args.known) in
-    let list = c.args.list in
-    let blocks = list.blocks.now in
-    let i = c.loop-block.block-index in
-    let rows = c.rows_shown.result.now in
-    rw add-one (all_turn p rows (shown_in q (drop (suc i) blocks)) (shown_in q (drop i blocks)) c.loop-block.changes c.remove_rows-in-loop-block.new.changes (c.args.changes.now ++ map removal (chosen p (shown_of q list)))
-    (from_block q blocks i c.block-item.result c.loop-block-test.true c.block-item.is ∙ ap (λ (l : List Row). l ++ shown_in q (drop (suc i) blocks)) (sym c.rows_shown.ensures)) c.loop-block.invariant c.in_ok-remove_rows-2.ensures)
+    let all_rows = c.args.rows.now in
+    let rows = rows_at all_rows in
+    let i = c.loop-row.row-index in
+    let r = c.row-item.result.now in
+    let inside = inside_at all_rows i c.loop-row-test.true in
+    let is = item_at all_rows i c.row-item.result c.row-item.is in
+    let all = c.args.changes.now ++ map removal (chosen p rows) in
+    rw add-one (elim c.if-is_compared.branch [
+      | then-is_compared+in_ok-push_removal w ↦ removal_turn p rows i r c.loop-row.changes c.if-is_compared.changes all inside is (sym c.is_compared.ensures ∙ w.if-is_compared.true) c.loop-row.invariant (w.changes-is ∙ w.in_ok-push_removal.ensures)
+      | else-is_compared w ↦ subst (λ (z : List Entry). z ++ map removal (chosen p (drop (suc i) rows)) ≡ all) (sym w.changes-is) (removal_else p rows i r c.loop-row.changes all inside is (sym c.is_compared.ensures ∙ w.if-is_compared.false) c.loop-row.invariant)
+    ])
 
 pub returns : goal.returns
 returns c =
     let p = is_compared (option_map (λ k. k.now) c.args.known) in
-    let q = is_passed (option_map (λ k. k.now) c.args.known) in
-    let list = c.args.list in
-    all_end p (shown_in q (drop c.loop-block.block-index list.blocks.now)) c.loop-block.changes (c.args.changes.now ++ map removal (chosen p (shown_of q list))) (no_block q list.blocks.now c.loop-block.block-index (omega arith)) c.loop-block.invariant
+    let rows = rows_at c.args.rows.now in
+    removal_end p rows c.loop-row.row-index c.loop-row.changes (c.args.changes.now ++ map removal (chosen p rows)) (outside_at c.args.rows.now c.loop-row.row-index (omega arith)) c.loop-row.invariant
