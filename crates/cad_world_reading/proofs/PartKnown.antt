@@ -6,6 +6,7 @@ use Rattle.std.specs.declared.vec.Vec.{Vec}
 use Rattle.cad_accounts.specs.Memory.{rows_in_blocks}
 use Rattle.cad_accounts.specs.Registers.{at, are_rising}
 use Rattle.cad_accounts.specs.declared.block.Block.{Block}
+use Rattle.cad_accounts.specs.declared.row.Row.{Row}
 use Rattle.cad_state.specs.Parts.{accounts_from, among, known_in, known_or}
 use Rattle.cad_state.specs.Views.{account_of, contract_of}
 use Rattle.cad_state.specs.declared.state.Contract.{Contract}
@@ -14,13 +15,12 @@ use Rattle.cad_world.specs.Labels.{account_at}
 use Rattle.cad_world.specs.State.{Account, World}
 use Rattle.cad_worlds.proofs.Lists.{none_past}
 use Rattle.cad_worlds.proofs.ToldKeys.{are_told}
-use Rattle.cad_worlds.specs.Code.Passing.{shown_in}
+use Rattle.cad_worlds.specs.Code.Passing.{LeavesOut}
 use Rattle.cad_worlds.specs.Items.{draft_of}
 use Rattle.cad_worlds.specs.Standing.{IsSound, StandsFor, register_of}
 use Rattle.cad_worlds.specs.declared.part.WorldPart.{WorldPart}
 use Rattle.cad_world_reading.proofs.PartMade.{part_follows}
-use Rattle.cad_world_reading.proofs.PartPassed.{take_shown}
-use Rattle.cad_world_reading.specs.Code.Selection.{is_passed}
+use Rattle.cad_world_reading.proofs.PartPassed.{take_left}
 use Rattle.cad_world_reading.specs.Code.PartDrafts.{Follows, empty_part, known_at, known_of, part_of, take_all}
 use Rattle.cad_world_reading.specs.Wanted.{IsPartOf, is_wanted, wanted_account}
 use Rattle.cad_world_reading.specs.declared.part_draft.PartDraft.{PartDraft}
@@ -67,12 +67,12 @@ part_is wanted w draft contracts f are =
     record { known = known; is = λ j. record { accounts = accounts j; contracts = are j; next_identity = f.identity_is j } }
 
 -- of blocks of rows that stand for a World
-pub part_known : {E : Type 0} (blocks : List Block) (wanted : List ℕ) (draft : PartDraft) (r : Result WorldPart E) → are_rising (rows_in_blocks blocks) ≡ true
-    → take_all wanted (map register_of (shown_in (is_passed wanted) blocks)) empty_part ≡ Some (part_of draft)
+pub part_known : {E : Type 0} (blocks : List Block) (wanted : List ℕ) (rows_found : List Row) (draft : PartDraft) (r : Result WorldPart E) → are_rising (rows_in_blocks blocks) ≡ true
+    → LeavesOut wanted rows_found (rows_in_blocks blocks) → take_all wanted (map register_of rows_found) empty_part ≡ Some (part_of draft)
     → ((is : List ℕ) (w : World) → Follows is (length w.accounts) (draft_of w) (part_of draft) → IsSound w → IfOk r (λ part. IsPartOf is w part)) → IfOk r (λ part. (w : World) → StandsFor (at (rows_in_blocks blocks)) w → IsPartOf wanted w part)
-part_known blocks wanted draft (Ok part) a is found = λ w st.
+part_known blocks wanted rows_found draft (Ok part) a leaves is found = λ w st.
     let rows = rows_in_blocks blocks in
     let fits : length w.accounts < 2 ^ 64 = omega (arith, st.sound.0.few) in
-    let all = sym (take_shown wanted blocks empty_part (are_told rows w fits st.are) a) ∙ is in
+    let all = sym (take_left wanted rows_found rows empty_part leaves (are_told rows w fits st.are) a) ∙ is in
     found wanted w (part_follows rows wanted w (part_of draft) a st all) st.sound
-part_known blocks wanted draft (Err e) a is found = tt
+part_known blocks wanted rows_found draft (Err e) a leaves is found = tt

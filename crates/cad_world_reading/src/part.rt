@@ -13,7 +13,7 @@ use crate::part_draft::{PartDraft, make_part};
 use cad_accounts::Block;
 use cad_loading::Programs;
 use cad_state::discard_known;
-use cad_worlds::WorldPart;
+use cad_worlds::{WorldPart, part_rows};
 use std::alloc::{AllocError, Global};
 
 /// The part of which registers made this. AllocError also where there is none.
@@ -58,7 +58,8 @@ pub fn known_part(
     requires { are_rising (rows_in_blocks blocks.now) ≡ true }
     ensures { IfOk result (λ part. (w : s.World) → StandsFor (at (rows_in_blocks blocks.now)) w → IsPartOf wanted.now w part) }
 {
-    match make_part(alloc, wanted, blocks) {
+    let rows = part_rows(alloc, wanted, blocks)?;
+    match make_part(alloc, wanted, rows.as_slice()) {
         Ok(draft) => part_from(alloc, programs, draft),
         Err(_) => Err(AllocError),
     }

@@ -3,17 +3,16 @@ ghost use Rattle.std.specs.Prelude.{◌≡◌, MatchOption, OnOk, map};
 ghost use Rattle.cad_codec.specs.Answers.{GivesAs};
 ghost use Rattle.cad_world_reading.specs.Code.PartDrafts as spec;
 ghost use Rattle.cad_world_reading.specs.Code.PartDrafts.{known_of, part_of};
-ghost use Rattle.cad_world_reading.specs.Code.Selection.{is_passed};
 ghost use Rattle.cad_world_reading.specs.Meaning.{changed_by, item_of};
-ghost use Rattle.cad_worlds.specs.Code.Passing.{shown_in};
 ghost use Rattle.cad_worlds.specs.Items as items;
+ghost use Rattle.cad_worlds.specs.RowLists.{rows_at};
 ghost use Rattle.cad_worlds.specs.Standing.{register_of};
 
 use crate::making::{begun_account, change_account, discard_change, push_source, push_value};
 use crate::parts::discard_contract_parts;
 use crate::saying::{Change, Said, read_row};
-use crate::selection::{is_selected, rows_read};
-use cad_accounts::{Block, Row};
+use crate::selection::is_selected;
+use cad_accounts::Row;
 use cad_codec::DecodeError;
 use cad_loading::Source;
 use cad_state::{Known, discard_account, discard_known};
@@ -177,27 +176,12 @@ fn take_rows(
     alloc: Global,
     wanted: &[u64],
     draft: &mut PartDraft,
-    rows: &[Row],
+    rows: &[&Row],
 ) -> Result<(), DecodeError>
-    ensures { GivesAs (λ done. part_of draft.new) result (spec.take_all wanted.now (map register_of rows.now) (part_of draft.old)) }
+    ensures { GivesAs (λ done. part_of draft.new) result (spec.take_all wanted.now (map register_of (rows_at rows.now)) (part_of draft.old)) }
 {
     for row in rows {
         take_row(alloc, wanted, draft, row)?;
-    }
-    Ok(())
-}
-
-/// The same of the rows of blocks that aren't passed over.
-fn take_blocks(
-    alloc: Global,
-    wanted: &[u64],
-    draft: &mut PartDraft,
-    blocks: &[Block],
-) -> Result<(), DecodeError>
-    ensures { GivesAs (λ done. part_of draft.new) result (spec.take_all wanted.now (map register_of (shown_in (is_passed wanted.now) blocks.now)) (part_of draft.old)) }
-{
-    for block in blocks {
-        take_rows(alloc, wanted, draft, rows_read(wanted, block))?;
     }
     Ok(())
 }
@@ -219,12 +203,12 @@ fn empty_part(alloc: Global) -> PartDraft
 pub(crate) fn make_part(
     alloc: Global,
     wanted: &[u64],
-    blocks: &[Block],
+    rows: &[&Row],
 ) -> Result<PartDraft, DecodeError>
-    ensures { GivesAs part_of result (spec.take_all wanted.now (map register_of (shown_in (is_passed wanted.now) blocks.now)) spec.empty_part) }
+    ensures { GivesAs part_of result (spec.take_all wanted.now (map register_of (rows_at rows.now)) spec.empty_part) }
 {
     let mut draft = empty_part(alloc);
-    match take_blocks(alloc, wanted, &mut draft, blocks) {
+    match take_rows(alloc, wanted, &mut draft, rows) {
         Ok(()) => Ok(draft),
         Err(error) => {
             discard_part_draft(draft);

@@ -1,16 +1,14 @@
 // Which registers are read of a World of which some accounts are wanted.
 ghost use Rattle.std.specs.Prelude.{◌≡◌};
-ghost use Rattle.cad_accounts.specs.Memory.{block_rows};
 ghost use Rattle.cad_world_reading.specs.Code.Selection as spec;
-ghost use Rattle.cad_worlds.specs.Code.Passing.{shown};
+ghost use Rattle.cad_worlds.specs.Code.Passing as passing;
 
 use crate::saying::{CONTROLLER, NEXT, PUBLISHED, STORED};
-use cad_accounts::{Block, Row};
-use cad_worlds::{Span, is_between, span_of};
+use cad_accounts::Row;
 
 /// Whether registers of a kind are of one account each.
 fn is_of_account(kind: u8) -> bool
-    ensures { result ≡ spec.is_of_account kind }
+    ensures { result ≡ passing.is_of_account kind }
 {
     kind == NEXT || kind == STORED || kind == PUBLISHED || kind == CONTROLLER
 }
@@ -49,34 +47,4 @@ pub(crate) fn is_selected(wanted: &[u64], row: &Row) -> bool
         Some(address) => is_address_wanted(wanted, address),
         None => true,
     }
-}
-
-// ---- blocks that are passed over
-
-/// Whether an account between two addresses is wanted.
-fn has_wanted(wanted: &[u64], least: u64, most: u64) -> bool
-    ensures { result ≡ spec.has_wanted wanted.now least most }
-{
-    wanted.iter().any(|index| is_between(*index, least, most))
-}
-
-/// Whether no register between two addresses is read.
-fn is_span_passed(wanted: &[u64], span: Option<Span>) -> bool
-    ensures { result ≡ spec.is_span_passed wanted.now span }
-{
-    match span {
-        None => false,
-        Some(span) => { is_of_account(span.kind) && !has_wanted(wanted, span.least, span.most) }
-    }
-}
-
-/// The rows of a block; none where the first key and the last tell that none of them is read.
-pub(crate) fn rows_read<'r>(wanted: &[u64], block: &'r Block) -> &'r [Row]
-    ensures { result.now ≡ shown (spec.is_passed wanted.now) (block_rows block.now) }
-{
-    let rows = block.rows();
-    if is_span_passed(wanted, span_of(rows)) {
-        return &[];
-    }
-    rows
 }
