@@ -11,14 +11,12 @@ use Rattle.cad_accounts.specs.KeyOrder.{before, row_key}
 use Rattle.cad_accounts.specs.Registers.{are_rising}
 use Rattle.cad_accounts.specs.declared.row.Row.{Row}
 use Rattle.cad_wire.proofs.FieldLaws.{number_again, some_is}
-use Rattle.cad_wire.specs.Fields.{number_field}
 use Rattle.cad_worlds.proofs.Choosing.{filter_none}
 use Rattle.cad_worlds.proofs.Lists.{none_past, from_item}
 use Rattle.cad_worlds.proofs.Numbers.{less_step}
 use Rattle.cad_worlds.proofs.Parts.{key_of, ahead}
 use Rattle.cad_worlds.specs.Code.KnownRegisters.{is_of_all}
 use Rattle.cad_worlds.specs.Code.Passing.{last_key, front_number, span_from, span_between, span_of, is_of_account, is_between, has_between, is_passed, HasAddress, IsTold, AreTold, is_among, IsOfOther, RefusesOthers, LeavesOut, GoesOn}
-use Rattle.cad_worlds.specs.Merging.{chosen}
 use Rattle.cad_worlds.specs.declared.spans.Span.{Span}
 
 -- ---- keys in order

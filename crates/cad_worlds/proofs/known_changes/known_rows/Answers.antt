@@ -1,4 +1,4 @@
-use Rattle.std.proofs.Common.{◌≡◌, ◌∙◌, IfOk, List, ℕ, Vec, ap, subst, Bor}
+use Rattle.std.proofs.Common.{◌∙◌, IfOk, List, ℕ, subst}
 use Rattle.cad_accounts.specs.Memory.{rows_in_blocks}
 use Rattle.cad_worlds.specs.Code.Passing.{LeavesOut}
 use Rattle.cad_worlds.specs.RowLists.{rows_at}

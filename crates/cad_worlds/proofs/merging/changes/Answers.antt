@@ -1,4 +1,4 @@
-use Rattle.std.proofs.Common.{List, Bor, sym, ap, subst, ◌∙◌}
+use Rattle.std.proofs.Common.{List, sym, ap, subst, ◌∙◌}
 use Rattle.cad_accounts.specs.Memory.{rows_in_blocks}
 use Rattle.cad_accounts.specs.Registers.{Leads, at}
 use Rattle.cad_accounts.specs.declared.row.Row.{Row}
