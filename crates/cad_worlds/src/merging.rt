@@ -112,13 +112,7 @@ fn count_of(rows: &[&Row], key: &[u8]) -> usize
 {
     match rows {
         [] => 0,
-        [first, ..] => {
-            if first.key.0.as_slice() == key {
-                1
-            } else {
-                0
-            }
-        }
+        [first, ..] => { if first.key.0.as_slice() == key { 1 } else { 0 } }
     }
 }
 

@@ -20,8 +20,7 @@ loop-row-preserved c =
     let now = c.loop-row.changes in
     let there = left_at old c.rows_from.result.now gone c.rows_from.ensures in
     let next = sym (drop-drop more gone rows) ∙ ap (λ (l : List Row). drop more l) (sym there) ∙ c.in_ok-more.ensures.left ∙ ap (λ (l : List Row). behind key (left_from p key l)) there in
-    let grown = c.in_ok-more.ensures.changes ∙ ap (λ (l : List Row). now ++ (map removal (in_front key (chosen p l)) ++ own (left_from p key l) row)) there in
-    (
+    let grown = c.in_ok-more.ensures.changes ∙ ap (λ (l : List Row). now ++ (map removal (in_front key (chosen p l)) ++ own (left_from p key l) row)) there in (
       ahead_of old c.rows_from.result.now gone more c.rows_from.ensures c.loop-row.invariant.0 c.in_ok-more.ensures.few,
       λ rest. chosen_turn p (λ xs. c.args.changes.now ++ merged (chosen p rows) xs) (drop gone rows) (drop (gone + more) rows) c.loop-row.yielded row now c.take_row.new.changes c.loop-row.invariant.1 next grown rest,
     )

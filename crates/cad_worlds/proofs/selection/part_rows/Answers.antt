@@ -17,8 +17,7 @@ loop-at-preserved c =
     let blocks = c.args.blocks.now in
     let left = c.blocks_from.result.now in
     let passed = c.passed_blocks-passed.ensures in
-    let n = c.passed_blocks-passed.result in
-    (
+    let n = c.passed_blocks-passed.result in (
       ahead_of blocks left c.loop-at.at n c.blocks_from.ensures c.loop-at.invariant.0 passed.few,
       blocks_passed c.args.indexes.now (rows_at c.loop-at.found.items) (rows_in_blocks blocks) blocks c.loop-at.at left n c.blocks_from.ensures passed.others c.loop-at.invariant.1,
     )

@@ -18,8 +18,7 @@ loop-i-preserved c =
     let rows = c.args.rows.now in
     let left = c.rows_from.result.now in
     let passed = c.passed_rows-passed.ensures in
-    let n = c.passed_rows-passed.result in
-    (
+    let n = c.passed_rows-passed.result in (
       ahead_of rows left c.loop-i.i n c.rows_from.ensures c.loop-i.invariant.0 passed.few,
       λ behind all h. rows_passed c.args.indexes.now (rows_at c.loop-i.found.items) behind rows left c.loop-i.i n all c.rows_from.ensures passed.others (c.loop-i.invariant.1 behind all h),
     )
