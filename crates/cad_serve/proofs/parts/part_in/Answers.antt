@@ -8,4 +8,4 @@ use Rattle.cad_serve.proofs.parts.part_in.Goals as goal
 
 pub returns : goal.returns
 returns c =
-    subst (λ (rows : List Row). IfOk c.known_part.result (λ part. (w : definition.World) → StandsFor (at rows) w → IsPartOf c.args.wanted.now w part)) c.blocks.ensures.rows c.known_part.ensures
+    subst (λ (rows : List Row). IfOk c.known_part.result (λ part. (w : definition.World) → StandsFor (at rows) w → IsPartOf c.args.wanted.now w part)) c.blocks-2.ensures.rows c.known_part.ensures

@@ -17,4 +17,4 @@ returns c =
     (subst
     (λ (rows : List Row). IfOk c.part_changes.result (λ changes. (w : definition.World) → ((key : List ℕ) → at rows key ≡ map_of coding w key) → before.count ≡ length w.accounts → IsSoundButCode (world_over w.accounts after)
     → Leads (at rows) (map_of coding (world_over w.accounts after)) changes))
-    c.blocks.ensures.rows c.part_changes.ensures)
+    c.blocks-2.ensures.rows c.part_changes.ensures)

@@ -9,5 +9,5 @@ returns c =
     let h = c.in_ok-rows.ensures.becomes in
     if_ok c.changes.result
     (λ changes leads.
-    (at c.in_ok-rows.rows.items, subst (λ (rows : List Row). Leads (at rows) (at c.in_ok-rows.rows.items) changes) c.blocks.ensures.rows leads, h.0, h.1, h.2))
+    (at c.in_ok-rows.rows.items, subst (λ (rows : List Row). Leads (at rows) (at c.in_ok-rows.rows.items) changes) c.blocks-2.ensures.rows leads, h.0, h.1, h.2))
     c.changes.ensures

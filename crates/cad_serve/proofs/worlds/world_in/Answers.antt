@@ -5,7 +5,7 @@ use Rattle.cad_worlds.specs.Standing.{StandsFor, world_of}
 use Rattle.cad_serve.proofs.worlds.world_in.Goals as goal
 
 pub known_world-requires-clause-stands : goal.known_world-requires-clause-stands
-known_world-requires-clause-stands c = (c.requires.0, subst (λ (rows : List Row). StandsFor (at rows) c.requires.0) (sym c.blocks.ensures.rows) c.requires.1)
+known_world-requires-clause-stands c = (c.requires.0, subst (λ (rows : List Row). StandsFor (at rows) c.requires.0) (sym c.blocks-2.ensures.rows) c.requires.1)
 
 pub returns : goal.returns
-returns c = subst (λ (rows : List Row). IfOk c.known_world.result (λ world. StandsFor (at rows) (world_of world))) c.blocks.ensures.rows c.known_world.ensures
+returns c = subst (λ (rows : List Row). IfOk c.known_world.result (λ world. StandsFor (at rows) (world_of world))) c.blocks-2.ensures.rows c.known_world.ensures
