@@ -4,11 +4,15 @@
     tests/edits.py NAME..      these crates
     tests/edits.py             all that have a folder edits/
 
+Behind --built=BUILT, the folder of tests/libraries.py, they are checked over the libraries that it has; behind --only=EDIT,EDIT these alone.
+
 An edit is a file as in must-fail/: a line 'file: PATH', then pairs of lines 'old: TEXT' and 'new: TEXT'. The function in which it stands must not be
 proved any more, by a goal of its own and not only since it calls another or since its proof names what the edit took away: that is 'NOT TRIED'. Only
 these functions and those that they call are checked, in a copy of the crate and of those below it, over the libraries that stand built here: build
-them first, by a check of the crate as it stands (rt check). What the checks said stands in crates/NAME/out/edits.txt."""
+them first, by a check of the crate as it stands (rt check), where there is no BUILT. What the checks said stands in crates/NAME/out/edits.txt."""
 import os, pathlib, re, shutil, subprocess, sys, tempfile
+
+import check_over
 
 ROOT = pathlib.Path(__file__).resolve().parent.parent
 
@@ -39,15 +43,17 @@ def function_at(text, place):
 
 
 def changed(crate, edit):
-    """The function that an edit changes, by its path in the crate as it stands, or stops."""
+    """The function that an edit changes, by its path in the crate as it stands (of a method that of its type), or stops."""
     file, pairs = read(edit)
     text, name = (crate / file).read_text(), None
     for old, _ in pairs:
         if text.count(old) != 1:
             sys.exit(f"{edit}: a text stands {text.count(old)} times in {file}, and not once")
         name = function_at(text, text.index(old))
-    modules = [it for it in pathlib.Path(file).with_suffix("").parts[1:] if it not in ("lib", "main", "mod")]
-    return "::".join([*modules, str(name)])
+    owner = (name or "").rpartition("::")[0].rpartition("::")[2]
+    of_owner = [it for it in (crate / "src").rglob("*.rt") if owner and re.search(rf"^(pub(\([a-z ]+\))? )?(struct|enum) {owner}\b", it.read_text(), re.M)]
+    parts = [*of_owner, crate / file][0].relative_to(crate / "src").with_suffix("").parts
+    return "::".join([*(it for it in parts if it not in ("lib", "main", "mod")), str(name)])
 
 
 def apply(crate, edit):
@@ -81,12 +87,15 @@ def judged(name, edits, room):
             apply(crate, edit)
             functions[edit.stem] = function
     only = [word for it in functions.values() for word in ("--only", it)]
-    ran = subprocess.run(["rt", "check", "--jobs", "1", "--allow-holes", *only], cwd=crate, capture_output=True, text=True)
+    command = ["rt", "check", "--jobs", "1"]
+    if BUILT:
+        command = [f"{check_over.KIT}/bin/rattle", "check", *check_over.words_of(str(ROOT), os.path.abspath(BUILT), name, [])[0]]
+    ran = subprocess.run([*command, "--allow-holes", *only], cwd=crate, capture_output=True, text=True)
     kept = ROOT / "crates" / name / "out" / "edits.txt"
     kept.parent.mkdir(exist_ok=True)
     with kept.open("a") as it:
         it.write(ran.stdout + ran.stderr)
-    told = {edit: (function, *goals_of(ran.stdout, name, function)) for edit, function in functions.items()}
+    told = {edit: (function, *goals_of(ran.stdout + ran.stderr, name, function)) for edit, function in functions.items()}
     if not any(found for _, found, _, _ in told.values()):
         print("\n".join(ran.stdout.splitlines()[-12:] + ran.stderr.splitlines()[-6:]))
     return told, later
@@ -106,7 +115,7 @@ def with_below(name):
 
 def attempt(name):
     """Tries all edits of a crate, and answers how many were not refused."""
-    edits = sorted((ROOT / "crates" / name / "edits").glob("*.edit"))
+    edits = sorted(it for it in (ROOT / "crates" / name / "edits").glob("*.edit") if not ONLY or it.stem in ONLY)
     missed = 0
     (ROOT / "crates" / name / "out" / "edits.txt").unlink(missing_ok=True)
     with tempfile.TemporaryDirectory(prefix="cadence-edits-") as room:
@@ -128,5 +137,7 @@ def attempt(name):
     return missed
 
 
-names = sys.argv[1:] or sorted(it.parent.name for it in (ROOT / "crates").glob("*/edits"))
+FLAGS = dict(it[2:].split("=", 1) for it in sys.argv[1:] if it.startswith("--"))
+BUILT, ONLY = FLAGS.get("built"), [*filter(None, FLAGS.get("only", "").split(","))]
+names = [it for it in sys.argv[1:] if not it.startswith("--")] or sorted(it.parent.name for it in (ROOT / "crates").glob("*/edits"))
 sys.exit(1 if sum([attempt(it) for it in names]) else 0)

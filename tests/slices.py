@@ -86,17 +86,20 @@ def lemmas_of(text, wanted):
     if None in wanted or "mutual" in text:
         return text
     blocks = []
-    for block in re.split(r"\n\n+", text):
+    for block in re.split(r"\n\n+(?! {4})", text):
         block = "\n".join(it for it in block.split("\n") if it and not it.startswith(("use ", "--")))
-        names = re.findall(r"^(?:(?:pub|abbrev|data|record|unfolding) )*([^\s:]+)|^  (?:pub )?([^\s:]+) :", block, re.M)
+        names = re.findall(r"^(?:(?:pub|abbrev|data|record|unfolding) )*([^\s:]+)|^ +(?:(?:pub|abbrev) )*([^\s:]+) :", block, re.M)
         blocks.append((block, {one or two for one, two in names}, set(NAME.findall(block))))
+    if not wanted <= set().union(*(it[1] for it in blocks)):
+        return text
     kept, left = [], set(wanted)
     while left:
         name = left.pop()
         for one in blocks:
             if name in one[1] and one not in kept:
-                kept.append(one)
-                left |= one[2]
+                head = [it for it in blocks[: blocks.index(one)] if it[0].startswith("module ")][-1:] if one[0].startswith(" ") else []
+                kept += [it for it in (*head, one) if it not in kept]
+                left = left.union(*(it[2] for it in (*head, one)))
     kept = [it for it in blocks if it in kept]
     body, words = "\n\n".join(it[0] for it in kept), set().union(*(it[2] for it in kept))
     uses = [with_names(it, lambda _, __, called: has(body, words, called)) for it in text.split("\n") if it.startswith("use ")]
@@ -109,14 +112,15 @@ class Slice:
     def __init__(self, top, crate, names, proved):
         self.top, self.crate, self.own, self.proved = top, crate, names, proved
         self.files, self.items, self.scopes = {}, {}, {}
-        self.let_go, self.memory = set(LET_GO), {"AllocError": "AllocError"}
+        self.let_go, self.held, self.memory = set(LET_GO), set(), {"AllocError": "AllocError"}
         self.kept, self.antt, self.wanted, self.called, self.exports = {}, {}, {}, set(), set()
         for path in sorted(glob.glob(f"{top}/crates/*/src/*.rt")):
             crate, module = path.split("/")[-3], os.path.basename(path)[:-3]
             if not crate.endswith("_tests") and module != "tests":
                 self.load(crate, module, items_of(read(path)))
+        self.let_go -= self.held
         for key in list(self.items):
-            if self.is_own(*key):
+            if self.is_own(*key) or self.has_own(*key):
                 self.keep(key)
         size = -1
         while size != sum(map(len, self.kept.values())):
@@ -134,8 +138,8 @@ class Slice:
             self.files[crate][module].append((kind, name, key))
             if "#[cfg(test)]" not in lead:
                 self.items[key] = (kind, lead, item)
-            if re.search(r"derive\([^)]*\b(Drop|Copy)\b", lead):
-                self.let_go.add(name)
+            if kind in ("struct", "enum"):
+                (self.let_go if re.search(r"derive\([^)]*\b(Drop|Copy)\b", lead) else self.held).add(name)
             if kind == "enum" and re.search(r"^    Memory,$", item, re.M):
                 self.memory[name] = f"{name}::Memory"
 
@@ -214,7 +218,7 @@ class Slice:
                 kind, method = name_of(one)
                 if kind != "fn":
                     block.append(f"{more}\n{one}")
-                elif trait or method in self.called:
+                elif trait or method in self.called or self.is_own(crate, module, f"{name}/{method}"):
                     block.append(self.function(crate, module, f"{name}{trait}/{method}", more, one))
             text = f"{lead}\n{head}{{\n" + "\n".join(block) + "\n}"
             if block and self.kept.get((crate, module, item)) != text:
@@ -235,12 +239,17 @@ class Slice:
         if not given and result is None and not is_own:
             axiom = ["unsafe extern \"C\" {", f"    safe fn believed_{path}()", *[f"    {it}" for it in lines[1:at] if "//" not in it]]
             return "\n".join([*axiom, "    ;", "}", *lines[:at], "{", f"    believed_{path}()", "}"])
-        for file in glob.glob(f"{self.top}/crates/{crate}/proofs/{module}/{path}/*.antt"):
-            self.keep_file(crate, os.path.relpath(file, f"{self.top}/crates/{crate}"), {None})
+        for folder in [path, *[f"+{it}" for it in re.findall(r"#\[cycle\((\w+)\)\]", lead)]]:
+            for file in glob.glob(f"{self.top}/crates/{crate}/proofs/{module}/{folder}/*.antt"):
+                self.keep_file(crate, os.path.relpath(file, f"{self.top}/crates/{crate}"), {None})
         return f"{lead}\n{item}"
 
     def is_own(self, crate, module, path):
         return crate == self.crate and (module in self.own or f"{module}::{path.replace('/', '::')}" in self.own)
+
+    def has_own(self, crate, module, name):
+        """Whether a method of this type is asked for."""
+        return crate == self.crate and any(it.startswith(f"{module}::{name}::") for it in self.own)
 
     def is_let_go(self, parameter):
         kind = re.sub(r"'\w+", "", parameter.split(":", 1)[-1]).strip()
@@ -297,4 +306,5 @@ class Slice:
                     it.write(text)
         text = "".join(files[path] for path in sorted(files))
         words = set(WORD.findall(text))
-        return [it for it in self.files if it != crate and it in words], text
+        libraries = [it for it in self.files if not os.path.isfile(f"{self.top}/crates/{it}/src/main.rt")]
+        return [it for it in libraries if it != crate and it in words], text

@@ -21,12 +21,13 @@ ghost use Rattle.cad_world.specs.Trees.{of_plain};
 
 use crate::arguments::{argument, identifier};
 use crate::trees::{path_value, unsigned_tree, void_tree, wrapped_value};
-use cad_operators::{nil_tree, number_in, plain_tree, text_copy, text_in};
+use cad_operators::{nil_tree, number_in, plain_tree};
 use cad_outcomes::{RunError, Stop};
 use cad_rows::{Place, Shape, Tree};
 use cad_run_accounts::controller;
 use cad_state::{Controller, RunState};
 use cad_syntax::{Address, Authorization, Basic, Bytes, CadType, Domain, Name, Num};
+use cad_text_operators::{text_copy, text_in};
 use cad_values::{Reference, Target, Value};
 use std::alloc::{AllocError, Global};
 

@@ -13,7 +13,6 @@ ghost use Rattle.cad_world.specs.Rows as rows;
 ghost use Rattle.cad_world.specs.State.{Account};
 
 use crate::parts::{Elements, Entries, discard_type, elements_of, entries_of};
-use cad_operators::key_position;
 use cad_outcomes::Stop;
 use cad_receivers::{Settled, Spot, look};
 use cad_rows::count_places;
@@ -133,7 +132,7 @@ fn keyed_aim(
     ensures aim { IfOk result (λ a. (a.label ≡ label) × (pure_type a.key ≡ pure_type dictionary.entry.key.now) × (pure_type a.value ≡ pure_type dictionary.entry.value.now) × (a.count ≡ rows.count_places (pure_row dictionary.entry.parts.now)) × (a.position ≡ locations.key_position (pure_value key.now) (map pure_value dictionary.entry.keys.now))) }
     ensures memory { IfErr result (λ stop. stop ≡ Memory) }
 {
-    match key_position(alloc, key, dictionary.keys) {
+    match dictionary.keys.position(alloc, key) {
         Ok(position) => match dictionary_aim(label, dictionary, position) {
             Ok(aim) => Ok(aim),
             Err(_) => Err(Stop::Memory),

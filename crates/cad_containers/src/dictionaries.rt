@@ -14,9 +14,9 @@ ghost use Rattle.cad_world.specs.State.{give};
 
 use crate::copies::{array_copy, array_with};
 use crate::parts::{Entries, argument_at};
-use cad_operators::{bool_tree, count_tree, key_position};
+use cad_operators::{bool_tree, count_tree};
 use cad_outcomes::Stop;
-use cad_rows::{Place, Tree, add_last, discard_row};
+use cad_rows::{Keys, Place, Tree, add_last, discard_row};
 use cad_state::discard_value;
 use cad_syntax::CadType;
 use cad_types::Builtin;
@@ -25,7 +25,7 @@ use cad_values::Value;
 use std::alloc::{AllocError, Global};
 
 /// How many keys there are, as an Int.
-fn length(alloc: Global, keys: &[Value]) -> Tree
+fn length(alloc: Global, keys: &Keys) -> Tree
     ensures { Gives pure_tree (given_int (length (map pure_value keys.now))) (Ok result) }
 {
     count_tree(alloc, keys.len() as u64)
@@ -43,11 +43,11 @@ fn push_keys(alloc: Global, keys: &[Value], row: &mut Vec<Place>) -> Result<(), 
 }
 
 /// An array of the keys.
-fn keys(alloc: Global, key: &CadType, keys: &[Value]) -> Result<Tree, Stop>
+fn keys(alloc: Global, key: &CadType, keys: &Keys) -> Result<Tree, Stop>
     ensures { Gives pure_tree (spec.dictionary_keys (pure_type key.now) (map pure_value keys.now)) result }
 {
     let mut row = Vec::new(alloc);
-    match push_keys(alloc, keys, &mut row) {
+    match push_keys(alloc, keys.as_slice(), &mut row) {
         Ok(()) => match array_with(key, row) {
             Ok(tree) => Ok(tree),
             Err(_) => Err(Stop::Memory),
@@ -60,7 +60,7 @@ fn keys(alloc: Global, key: &CadType, keys: &[Value]) -> Result<Tree, Stop>
 }
 
 /// Whether a value is a key.
-fn contains_key(alloc: Global, keys: &[Value], value: &Tree) -> Result<Tree, Stop>
+fn contains_key(alloc: Global, keys: &Keys, value: &Tree) -> Result<Tree, Stop>
     ensures { Gives pure_tree (spec.contains_key (map pure_value keys.now) (pure_tree value.now)) result }
 {
     match value_from_tree(alloc, value) {
@@ -70,10 +70,10 @@ fn contains_key(alloc: Global, keys: &[Value], value: &Tree) -> Result<Tree, Sto
 }
 
 /// Whether there is a key.
-fn told_key(alloc: Global, keys: &[Value], key: Value) -> Result<Tree, Stop>
+fn told_key(alloc: Global, keys: &Keys, key: Value) -> Result<Tree, Stop>
     ensures { Gives pure_tree (give (truth_tree (spec.is_found (locations.key_position (pure_value key) (map pure_value keys.now))))) result }
 {
-    let position = key_position(alloc, &key, keys);
+    let position = keys.position(alloc, &key);
     discard_value(key);
     match position {
         Ok(Some(_)) => Ok(bool_tree(alloc, true)),

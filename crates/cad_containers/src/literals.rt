@@ -17,12 +17,12 @@ ghost use Rattle.cad_world.specs.Trees.{value_of, whole};
 
 use crate::parts::{array_tree, discard_type, has_room, is_array_shape};
 use cad_access::kinds_of_run;
-use cad_operators::key_position;
 use cad_outcomes::{RunError, Stop};
 use cad_rows::{
-    Place, Shape, Tree, add_last, count_places, discard_row, discard_shape, discard_tree, put,
+    Keys, Place, Shape, Tree, add_last, count_places, discard_keys, discard_row, discard_shape,
+    discard_tree, put,
 };
-use cad_state::{RunState, discard_value, discard_values};
+use cad_state::{RunState, discard_value};
 use cad_syntax::CadType;
 use cad_types::is_resource;
 use cad_value_trees::value_from_tree;
@@ -37,7 +37,7 @@ pub struct Pair {
 
 /// Keys and the values under them.
 pub(crate) struct Table {
-    pub keys: Vec<Value>,
+    pub keys: Keys,
     pub values: Vec<Place>,
 }
 
@@ -60,7 +60,7 @@ pub fn discard_pairs(pairs: Vec<Pair>) {
 /// Lets keys and values go.
 fn discard_table(table: Table) {
     let Table { keys, values } = table;
-    discard_values(keys);
+    discard_keys(keys);
     discard_row(values)
 }
 
@@ -116,7 +116,7 @@ fn or_memory(table: Result<Table, AllocError>) -> Result<Table, Stop>
 
 /// A key that isn't there comes last, and so does its value.
 fn add_pair(table: Table, key: Value, value: Tree) -> Result<Table, AllocError>
-    ensures { IfOk result (λ more. pure_table more ≡ (record { keys = map pure_value table.keys.items ++ pure_value key ∷ []; values = rows.add_last (pure_tree value) (pure_row table.values.items) })) }
+    ensures { IfOk result (λ more. pure_table more ≡ (record { keys = map pure_value table.keys ++ pure_value key ∷ []; values = rows.add_last (pure_tree value) (pure_row table.values.items) })) }
 {
     let Table { keys, values } = table;
     match push_key(keys, key) {
@@ -130,29 +130,28 @@ fn add_pair(table: Table, key: Value, value: Tree) -> Result<Table, AllocError>
 }
 
 /// A key more. Where memory fails, all are let go.
-fn push_key(keys: Vec<Value>, key: Value) -> Result<Vec<Value>, AllocError>
-    ensures { IfOk result (λ more. map pure_value more.items ≡ map pure_value keys.items ++ pure_value key ∷ []) }
+fn push_key(keys: Keys, key: Value) -> Result<Keys, AllocError>
+    ensures { IfOk result (λ more. map pure_value more ≡ map pure_value keys ++ pure_value key ∷ []) }
 {
     let mut all = keys;
     match all.push(key) {
         Ok(()) => Ok(all),
-        Err(refused) => {
-            discard_value(refused.value);
-            discard_values(all);
-            Err(AllocError)
+        Err(error) => {
+            discard_keys(all);
+            Err(error)
         }
     }
 }
 
 /// A value more, under these keys. Where memory fails, all are let go.
-fn push_last(keys: Vec<Value>, values: Vec<Place>, value: Tree) -> Result<Table, AllocError>
-    ensures { IfOk result (λ more. pure_table more ≡ (record { keys = map pure_value keys.items; values = rows.add_last (pure_tree value) (pure_row values.items) })) }
+fn push_last(keys: Keys, values: Vec<Place>, value: Tree) -> Result<Table, AllocError>
+    ensures { IfOk result (λ more. pure_table more ≡ (record { keys = map pure_value keys; values = rows.add_last (pure_tree value) (pure_row values.items) })) }
 {
     let mut all = values;
     match add_last(&mut all, value) {
         Ok(()) => Ok(Table { keys, values: all }),
         Err(error) => {
-            discard_values(keys);
+            discard_keys(keys);
             discard_row(all);
             Err(error)
         }
@@ -160,19 +159,14 @@ fn push_last(keys: Vec<Value>, values: Vec<Place>, value: Tree) -> Result<Table,
 }
 
 /// A value comes to a place, under these keys. Where memory fails, all are let go.
-fn put_value(
-    keys: Vec<Value>,
-    values: Vec<Place>,
-    i: usize,
-    value: Tree,
-) -> Result<Table, AllocError>
-    ensures { IfOk result (λ more. pure_table more ≡ (record { keys = map pure_value keys.items; values = rows.put i (pure_tree value) (pure_row values.items) })) }
+fn put_value(keys: Keys, values: Vec<Place>, i: usize, value: Tree) -> Result<Table, AllocError>
+    ensures { IfOk result (λ more. pure_table more ≡ (record { keys = map pure_value keys; values = rows.put i (pure_tree value) (pure_row values.items) })) }
 {
     let mut all = values;
     match put(&mut all, i, value) {
         Ok(()) => Ok(Table { keys, values: all }),
         Err(error) => {
-            discard_values(keys);
+            discard_keys(keys);
             discard_row(all);
             Err(error)
         }
@@ -219,7 +213,7 @@ fn with_value(
 ) -> Result<Table, Stop>
     ensures { (k : rows.Tree) → value_of k ≡ pure_value key → CarriesOut pure_table (with_pair (pure_type t.now) (pure_table table) (record { key = k; value = pure_tree value })) state.now state.now result }
 {
-    match key_position(alloc, &key, table.keys.as_slice()) {
+    match table.keys.position(alloc, &key) {
         Ok(None) => or_memory(add_pair(table, key, value)),
         Ok(Some(i)) => {
             discard_value(key);
@@ -288,7 +282,7 @@ fn with_pairs(alloc: Global, state: &RunState, t: &CadType, pairs: Vec<Pair>) ->
     ensures { CarriesOut pure_table (with_all (pure_type t.now) (record { keys = []; values = rows.stop }) (map pure_pair pairs.items)) state.now state.now result }
 {
     let mut done = Ok(Table {
-        keys: Vec::new(alloc),
+        keys: Keys::new(alloc),
         values: Vec::new(alloc),
     });
     let mut left = pairs.into_iter();
@@ -313,7 +307,7 @@ fn dictionary_tree(key: CadType, value: CadType, table: Table) -> Result<Tree, S
     }
     discard_type(key);
     discard_type(value);
-    discard_values(keys);
+    discard_keys(keys);
     discard_row(values);
     Err(Stop::Failed(RunError::TooLarge))
 }

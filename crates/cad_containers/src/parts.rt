@@ -10,9 +10,8 @@ ghost use Rattle.cad_syntax.specs.Types.{pure_type};
 ghost use Rattle.cad_world.specs.Rows.{array};
 ghost use Rattle.cad_world.specs.Trees as trees;
 
-use cad_rows::{Place, Shape, Slot, Tree, discard_row, discard_shape, discard_tree, tree_at};
+use cad_rows::{Keys, Place, Shape, Slot, Tree, discard_row, discard_shape, discard_tree, tree_at};
 use cad_syntax::{CadType, Numbers};
-use cad_values::Value;
 use std::alloc::AllocError;
 use std::mem::replace;
 
@@ -31,7 +30,7 @@ pub(crate) struct Elements<'a> {
 pub(crate) struct Entries<'a> {
     pub key: &'a CadType,
     pub value: &'a CadType,
-    pub keys: &'a [Value],
+    pub keys: &'a Keys,
     pub parts: &'a [Place],
 }
 
@@ -88,7 +87,7 @@ pub(crate) fn entries_of<'a>(
         Shape::Dictionary { key, value, keys } => Some(Entries {
             key,
             value,
-            keys: keys.as_slice(),
+            keys,
             parts,
         }),
         _ => None,

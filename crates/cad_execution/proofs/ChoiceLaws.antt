@@ -12,7 +12,7 @@ use Rattle.cad_evaluation.specs.Terms.{eval}
 use Rattle.cad_execution.proofs.Keeping.{place_keeps}
 use Rattle.cad_execution.proofs.Steps.{Fails, FailsAnyhow, both, both_any, both_given, same_outcome, stops, any_then, any_stops}
 use Rattle.cad_execution.specs.Code.Parts as parts
-use Rattle.cad_expressions.specs.Views.{items_row, tree_in}
+use Rattle.cad_expressions.specs.Passed.{items_row, tree_in}
 use Rattle.cad_labels.proofs.Forms.{keeps_spend}
 use Rattle.cad_labels.specs.Laws.{AnyOne, CalleesKeep}
 use Rattle.cad_expressions.specs.Passed.{content_or_none}

@@ -27,7 +27,7 @@ use Rattle.cad_label_runs.proofs.Statements.{exec_block_keeps}
 use Rattle.cad_label_runs.proofs.Values.{FlowHasNone, MaybeHasNone}
 use Rattle.cad_outcomes.specs.Outcomes.{no_value}
 use Rattle.cad_outcomes.specs.declared.stop.Stop.{Stop}
-use Rattle.cad_expressions.specs.Views.{tree_in}
+use Rattle.cad_expressions.specs.Passed.{tree_in}
 use Rattle.cad_rows.specs.declared.tree.Tree as held
 use Rattle.cad_expressions.proofs.Passed.{casts_first}
 use Rattle.cad_expressions.specs.Passed.{cast_place, if_cast}

@@ -13,7 +13,7 @@ use Rattle.cad_evaluation.specs.Statements.{emits}
 use Rattle.cad_evaluation.specs.Terms.{eval, eval_place, eval_arguments}
 use Rattle.cad_execution.specs.Code.Parts as parts
 use Rattle.cad_execution.proofs.Steps.{Fails, FailsAnyhow, both, both_any, both_given, stops, any_then, any_stops}
-use Rattle.cad_expressions.specs.Views.{items_row, tree_in}
+use Rattle.cad_expressions.specs.Passed.{items_row, tree_in}
 use Rattle.cad_labels.specs.Laws.{AnyOne}
 use Rattle.cad_labels.proofs.Forms.{keeps_spend}
 use Rattle.cad_locations.specs.Views.{location_of}

@@ -1,2 +1,2 @@
 -- What the crates above name of the ones below.
-pub use Rattle.cad_expressions.proofs.Boxing.{carries_boxed, finds_boxed, gives_boxed}
+pub use Rattle.cad_expressions.proofs.Passed.{carries_boxed, finds_boxed, gives_boxed}

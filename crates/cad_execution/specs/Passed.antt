@@ -1,3 +1,3 @@
 -- What the crates above name of the ones below.
-pub use Rattle.cad_expressions.specs.Views.{callee_of, items_row, tree_in}
-pub use Rattle.cad_expressions.specs.declared.callees.Callee.{Callee}
+pub use Rattle.cad_expressions.specs.Passed.{callee_of, items_row, tree_in}
+pub use Rattle.cad_expressions.specs.Passed.{Callee}

@@ -2,7 +2,7 @@
 use Rattle.cad_evaluation.specs.Flows as spec
 use Rattle.cad_execution.specs.declared.flow.Flow.{Flow}
 use Rattle.cad_execution.specs.declared.flow.Flow.TheVariants.{Next, Returned, Broken, Continued}
-use Rattle.cad_expressions.specs.Views.{tree_in}
+use Rattle.cad_expressions.specs.Passed.{tree_in}
 
 abbrev pub flow_of : Flow → spec.Flow
 flow_of Next = spec.next

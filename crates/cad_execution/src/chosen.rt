@@ -3,7 +3,7 @@ ghost use Rattle.std.specs.Prelude.{◌≡◌, ◌||◌, Bool, option_map};
 ghost use Rattle.cad_declarations.specs.Views.{place_of, term_of};
 ghost use Rattle.cad_evaluation.specs.Flows as flows;
 ghost use Rattle.cad_execution.specs.Code.Parts as parts;
-ghost use Rattle.cad_expressions.specs.Views.{items_row, tree_in};
+ghost use Rattle.cad_expressions.specs.Passed.{items_row, tree_in};
 ghost use Rattle.cad_outcomes.specs.Outcomes.{no_value};
 ghost use Rattle.cad_rows.specs.Views.{pure_tree};
 ghost use Rattle.cad_state.specs.Views.{CarriesOut, FindsAndCarriesOut};

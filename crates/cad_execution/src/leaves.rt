@@ -10,7 +10,7 @@ ghost use Rattle.cad_locations.specs.Views.{location_of};
 ghost use Rattle.cad_outcomes.specs.Outcomes.{Gives, no_value};
 ghost use Rattle.cad_rows.specs.Views.{pure_row, pure_tree};
 ghost use Rattle.cad_expressions.specs.Passed.{standing_of};
-ghost use Rattle.cad_expressions.specs.Views.{tree_in};
+ghost use Rattle.cad_expressions.specs.Passed.{tree_in};
 ghost use Rattle.cad_state.specs.Views.{CarriesOut, FindsAndCarriesOut};
 ghost use Rattle.cad_syntax.specs.Types.{pure_type};
 

@@ -6,7 +6,7 @@ ghost use Rattle.cad_evaluation.specs.Ending as ending;
 ghost use Rattle.cad_execution.specs.Code.Parts as parts;
 ghost use Rattle.cad_execution.specs.Code.Results as results;
 ghost use Rattle.cad_expressions.specs.Passed.{cast_place, standing_of};
-ghost use Rattle.cad_expressions.specs.Views.{items_row, tree_in};
+ghost use Rattle.cad_expressions.specs.Passed.{items_row, tree_in};
 ghost use Rattle.cad_locations.specs.Views.{location_of};
 ghost use Rattle.cad_outcomes.specs.Outcomes.{Gives, no_value};
 ghost use Rattle.cad_rows.specs.Views.{pure_place};

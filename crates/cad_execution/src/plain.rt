@@ -7,7 +7,7 @@ ghost use Rattle.cad_evaluation.specs.Statements as spec;
 ghost use Rattle.cad_execution.specs.Code.Parts as parts;
 ghost use Rattle.cad_execution.specs.Views.{flow_of};
 ghost use Rattle.cad_locations.specs.Views.{location_of};
-ghost use Rattle.cad_expressions.specs.Views.{tree_in};
+ghost use Rattle.cad_expressions.specs.Passed.{tree_in};
 ghost use Rattle.cad_outcomes.specs.Outcomes.{Gives, no_value};
 ghost use Rattle.cad_state.specs.Views.{FindsAndCarriesOut};
 ghost use Rattle.cad_syntax.specs.Types.{pure_type};

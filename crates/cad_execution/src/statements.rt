@@ -7,7 +7,7 @@ ghost use Rattle.cad_evaluation.specs.Statements as spec;
 ghost use Rattle.cad_evaluation.specs.Terms as terms;
 ghost use Rattle.cad_execution.specs.Code.Parts as parts;
 ghost use Rattle.cad_execution.specs.Views.{flow_of};
-ghost use Rattle.cad_expressions.specs.Views.{tree_in};
+ghost use Rattle.cad_expressions.specs.Passed.{tree_in};
 ghost use Rattle.cad_labels.specs.Laws.{HasNone, HasNoneInRow};
 ghost use Rattle.cad_outcomes.specs.Outcomes.{Gives};
 ghost use Rattle.cad_rows.specs.Views.{PlaceView, pure_place, pure_row, pure_tree};

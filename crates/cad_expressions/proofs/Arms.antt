@@ -26,16 +26,16 @@ use Rattle.cad_world.specs.Receivers.{Receiver}
 use Rattle.cad_world.specs.State.{◌>>=◌}
 use Rattle.cad_outcomes.specs.declared.stop.Stop.{Stop}
 use Rattle.cad_rows.specs.declared.tree.Tree.{Tree}
-use Rattle.cad_standing.specs.Views.{standing_of}
-use Rattle.cad_standing.specs.declared.standing.Standing.{Standing}
+use Rattle.cad_expression_leaves.specs.Passed.{standing_of}
+use Rattle.cad_expression_leaves.specs.Passed.{Standing}
 use Rattle.cad_state.specs.Views.{state_over, FindsAndCarriesOut}
 use Rattle.cad_state.specs.declared.state.RunState.{RunState}
 use Rattle.cad_state.proofs.Finding.{find_same}
-use Rattle.cad_expressions.specs.Code.Steps.{GoesOn, evaluated, placed, used, led, field_at, content_in, element_at}
-use Rattle.cad_expressions.specs.Views.{tree_in}
+use Rattle.cad_expression_leaves.specs.Code.Steps.{GoesOn, evaluated, placed, used, led, field_at, content_in, element_at}
+use Rattle.cad_expression_leaves.specs.Views.{tree_in}
 use Rattle.cad_expressions.proofs.Forms as law
 use Rattle.cad_expressions.proofs.Forms.{evaluated_keeps, placed_keeps}
-use Rattle.cad_expressions.proofs.Trees as tree
+use Rattle.cad_expression_leaves.proofs.Trees as tree
 
 module _ (front : Front) (calls : Calls) where
   pub copy_arm : (t : Term) (b : Box Place) (p : Place) (x z : RunState) (result : Result (Box Tree) Stop)

@@ -22,7 +22,7 @@ use Rattle.cad_labels.proofs.Keeping.{keeps_bind}
 use Rattle.cad_labels.proofs.Places.{begins_keep, looks_keep}
 use Rattle.cad_label_runs.proofs.Making.{draw_identity_keeps}
 use Rattle.cad_making.specs.Making.{begun}
-use Rattle.cad_expressions.specs.Code.Steps.{built_in_called, method_called, aimed_again, identity_drawn, created, fields_set, made_from, is_written}
+use Rattle.cad_expression_leaves.specs.Code.Steps.{built_in_called, method_called, aimed_again, identity_drawn, created, fields_set, made_from, is_written}
 
 -- ---- built-in functions
 

@@ -17,7 +17,7 @@ use Rattle.cad_declarations.specs.declared.term.TermEntry.{TermEntry}
 use Rattle.cad_declarations.specs.declared.term.Term.{Term}
 use Rattle.cad_declarations.specs.declared.term.Place.{Place}
 use Rattle.cad_declarations.specs.declared.term.Use.{Use}
-use Rattle.cad_members.specs.Passed.{Pair}
+use Rattle.cad_expression_leaves.specs.Passed.{Pair}
 use Rattle.cad_evaluation.specs.Builtins.{may_use}
 use Rattle.cad_evaluation.specs.Callees.{Calls, Front}
 use Rattle.cad_evaluation.specs.Casts.{cast}
@@ -40,15 +40,15 @@ use Rattle.cad_outcomes.specs.Outcomes.{no_value}
 use Rattle.cad_outcomes.specs.declared.stop.Stop.{Stop}
 use Rattle.cad_rows.specs.declared.tree.Tree.{Tree}
 use Rattle.cad_rows.specs.declared.tree.Place as row
-use Rattle.cad_receivers.specs.Views.{receiver_of}
-use Rattle.cad_receivers.specs.declared.receivers.Receiver as code
-use Rattle.cad_standing.specs.Views.{standing_of}
-use Rattle.cad_standing.specs.declared.standing.Standing.{Standing}
+use Rattle.cad_expression_leaves.specs.Passed.{receiver_of}
+use Rattle.cad_expression_leaves.specs.Passed as code
+use Rattle.cad_expression_leaves.specs.Passed.{standing_of}
+use Rattle.cad_expression_leaves.specs.Passed.{Standing}
 use Rattle.cad_state.specs.Views.{state_over, FindsAndCarriesOut}
 use Rattle.cad_state.specs.declared.state.RunState.{RunState}
 use Rattle.cad_state.proofs.Finding.{find_same}
-use Rattle.cad_expressions.specs.Views.{items_row, pairs_of, tree_in}
-use Rattle.cad_expressions.specs.Code.Steps.{GoesOn, evaluated, placed, used, elements, arguments, entries, copied_from, nil_told_of, index_read, chained_use, constructed, created, called, built_in_called, method_called, member_called, received, received_in_chain, put_aside, taken_down, ended_by, combined_with, coalesced_with, truth_told, chosen}
+use Rattle.cad_expression_leaves.specs.Views.{items_row, pairs_of, tree_in}
+use Rattle.cad_expression_leaves.specs.Code.Steps.{GoesOn, evaluated, placed, used, elements, arguments, entries, copied_from, nil_told_of, index_read, chained_use, constructed, created, called, built_in_called, method_called, member_called, received, received_in_chain, put_aside, taken_down, ended_by, combined_with, coalesced_with, truth_told, chosen}
 use Rattle.cad_expressions.proofs.Forms as law
 use Rattle.cad_expressions.proofs.Forms.{evaluated_keeps, placed_keeps, elements_keep, arguments_keep, entries_keep}
 

@@ -20,11 +20,11 @@ use Rattle.cad_world.specs.Rows.{stop, Tree}
 use Rattle.cad_world.specs.State.{State, Outcome, ok, failed, limit, ill, bind, Action, ◌>>=◌, ◌>>◌, give}
 use Rattle.cad_world.specs.Transfers.{charged}
 use Rattle.cad_expressions.specs.Code.Ending.{made_behind, told_and_gone, ended_from, HasEmitted}
-use Rattle.cad_expressions.specs.Code.Steps.{ended_by}
+use Rattle.cad_expression_leaves.specs.Code.Steps.{ended_by}
 use Rattle.cad_expressions.proofs.Forms.{bind_assoc}
-use Rattle.cad_expressions.proofs.Going.{any_on, any_stopped}
+use Rattle.cad_expression_leaves.proofs.Going.{any_on, any_stopped}
 use Rattle.cad_expressions.proofs.Turns.{cons_at}
-use Rattle.cad_expressions.specs.Views.{tree_in}
+use Rattle.cad_expression_leaves.specs.Views.{tree_in}
 use Rattle.std.specs.Global.{Box}
 
 -- ---- labels

@@ -27,7 +27,7 @@ use Rattle.cad_evaluation.specs.Uses.{array_of, callable, dictionary_of, forced,
 use Rattle.cad_labels.specs.Laws.{AnyOne, CalleesKeep, HasNone, HasNoneInRow, Keeps}
 use Rattle.cad_label_runs.proofs.Terms.{eval_keeps, eval_place_keeps, eval_use_keeps, eval_terms_keeps, eval_arguments_keeps, eval_entries_keeps}
 use Rattle.cad_label_runs.proofs.Values.{PairsHaveNone}
-use Rattle.cad_expressions.specs.Code.Steps.{evaluated, placed, used, elements, arguments, entries, copied_from, nil_told_of, led, field_at, content_in, element_at, element_in, element_with, index_of, index_read, chained_use, constructed, created, called, built_in_called, method_called, member_called, put_aside, taken_down, ended_by, combined_with, coalesced_with, truth_told, chosen}
+use Rattle.cad_expression_leaves.specs.Code.Steps.{evaluated, placed, used, elements, arguments, entries, copied_from, nil_told_of, led, field_at, content_in, element_at, element_in, element_with, index_of, index_read, chained_use, constructed, created, called, built_in_called, method_called, member_called, put_aside, taken_down, ended_by, combined_with, coalesced_with, truth_told, chosen}
 
 pub bind_assoc : {A B C : Type 0} (o : Outcome A) (f : A → Action B) (g : B → Action C) → bind (bind o f) g ≡ bind o (λ a s. bind (f a s) g)
 bind_assoc (ok a s) f g = refl

@@ -1,17 +1,10 @@
-pub mod Adding
 pub mod Arms
-pub mod Boxing
 pub mod Calls
 pub mod Composed
 pub mod Destroying
 pub mod Forms
-pub mod Going
 pub mod Pairs
-pub mod Plain
-pub mod Rights
 pub mod Seconds
 pub mod Standings
-pub mod Trees
 pub mod Turns
 pub mod Passed
-pub mod Told

@@ -23,8 +23,8 @@ use Rattle.cad_state.proofs.Finding.{find_same, find_then, find_stopped}
 use Rattle.cad_world.specs.Rows.{Tree}
 use Rattle.cad_world.specs.State.{State, Outcome, ok, failed, limit, ill, bind, Action, ◌>>=◌, give}
 use Rattle.cad_world.specs.Transfers.{transferred}
-use Rattle.cad_expressions.specs.Code.Steps.{GoesOn, after, entries, evaluated, pair_of as appended, pair_with, typed}
-use Rattle.cad_expressions.specs.Views.{tree_in}
+use Rattle.cad_expression_leaves.specs.Code.Steps.{GoesOn, after, entries, evaluated, pair_of as appended, pair_with, typed}
+use Rattle.cad_expression_leaves.specs.Views.{tree_in}
 use Rattle.cad_expressions.proofs.Forms.{evaluated_keeps}
 use Rattle.cad_expressions.proofs.Turns.{cons_at}
 

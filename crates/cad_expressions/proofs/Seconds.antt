@@ -19,25 +19,25 @@ use Rattle.cad_evaluation.specs.Standing.{Standing, here, led_by, nowhere, recei
 use Rattle.cad_evaluation.specs.Reading.{read_field}
 use Rattle.cad_evaluation.specs.Changing.{Content, nothing, content, no_optional, content_of, by_content}
 use Rattle.cad_evaluation.specs.Uses.{taken_if, truth_only}
-use Rattle.cad_members.specs.Optionals.{left_or_none}
+use Rattle.cad_expression_leaves.specs.Passed.{left_or_none}
 use Rattle.cad_world.specs.Transfers.{rounded}
 use Rattle.cad_labels.proofs.Forms.{keeps_give}
 use Rattle.cad_labels.specs.Laws.{AnyOne, HasNone, Keeps}
 use Rattle.cad_labels.proofs.Keeping.{keeps_bind}
 use Rattle.cad_outcomes.specs.declared.stop.Stop.{Stop}
 use Rattle.cad_rows.specs.declared.tree.Tree as code
-use Rattle.cad_standing.specs.Views.{is_nowhere}
+use Rattle.cad_expression_leaves.specs.Passed.{is_nowhere}
 use Rattle.cad_state.specs.Views.{state_over, FindsAndCarriesOut}
 use Rattle.cad_state.specs.declared.state.RunState.{RunState}
 use Rattle.cad_world.specs.Receivers.{Receiver, look_at}
 use Rattle.cad_world.specs.Rows.{Tree}
 use Rattle.cad_world.specs.State.{State, Outcome, ok, failed, limit, ill, bind, Action, ◌>>=◌, give, choose, by_truth, with_some}
-use Rattle.cad_expressions.specs.Code.Steps.{GoesOn, evaluated, element_at, element_in, coalesced_with, combined_with, conjoined, disjoined, filled_by, member_read, rounded_to, truth_told, used}
-use Rattle.cad_expressions.specs.Views.{tree_in}
+use Rattle.cad_expression_leaves.specs.Code.Steps.{GoesOn, evaluated, element_at, element_in, coalesced_with, combined_with, conjoined, disjoined, filled_by, member_read, rounded_to, truth_told, used}
+use Rattle.cad_expression_leaves.specs.Views.{tree_in}
 use Rattle.cad_expressions.proofs.Composed.{truth_told_keeps}
 use Rattle.cad_expressions.proofs.Forms.{get_is}
-use Rattle.cad_expressions.proofs.Going.{goes_twice}
-use Rattle.cad_expressions.proofs.Trees as tree
+use Rattle.cad_expression_leaves.proofs.Going.{goes_twice}
+use Rattle.cad_expression_leaves.proofs.Trees as tree
 use Rattle.cad_state.proofs.Finding.{find_same}
 
 module _ (front : Front) (calls : Calls) where

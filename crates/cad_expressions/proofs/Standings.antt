@@ -10,15 +10,15 @@ use Rattle.cad_evaluation.specs.Standing as spec
 use Rattle.cad_evaluation.specs.Terms.{own_self}
 use Rattle.cad_outcomes.specs.Outcomes.{Gives}
 use Rattle.cad_outcomes.specs.declared.stop.Stop.{Stop}
-use Rattle.cad_standing.specs.Views.{standing_of}
-use Rattle.cad_standing.specs.declared.standing.Standing.{Standing}
+use Rattle.cad_expression_leaves.specs.Passed.{standing_of}
+use Rattle.cad_expression_leaves.specs.Passed.{Standing}
 use Rattle.cad_state.specs.Views.{state_over, CarriesOut, FindsAndCarriesOut}
 use Rattle.cad_state.specs.declared.state.RunState.{RunState}
 use Rattle.cad_state.proofs.Finding.{find_any, find_given, find_same}
 use Rattle.cad_world.specs.Locations.{variable, contract}
 use Rattle.cad_world.specs.State.{State, ok, Action, give}
-use Rattle.cad_expressions.specs.Code.Steps.{placed}
-use Rattle.cad_expressions.proofs.Trees as tree
+use Rattle.cad_expression_leaves.specs.Code.Steps.{placed}
+use Rattle.cad_expression_leaves.proofs.Trees as tree
 
 module _ (front : Front) (calls : Calls) (writes : Bool) (t : Place) (x : RunState) (r : Result Standing Stop) where
   plain : (u : e.PlaceTree) (q : Action spec.Standing) → place_of t ≡ u → ((s : State) → placed front calls u writes s ≡ q s) → FindsAndCarriesOut standing_of q x x r

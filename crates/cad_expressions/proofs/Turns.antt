@@ -24,8 +24,8 @@ use Rattle.cad_state.proofs.Finding.{find_same, find_then, find_stopped}
 use Rattle.cad_world.specs.Rows.{Row, stop, gap, node, first, join, add_last, Tree}
 use Rattle.cad_world.specs.State.{State, Outcome, ok, failed, limit, ill, bind, Action, ◌>>=◌, give}
 use Rattle.cad_world.specs.Transfers.{transferred}
-use Rattle.cad_expressions.specs.Code.Steps.{GoesOn, evaluated, elements, arguments, behind, row_with}
-use Rattle.cad_expressions.specs.Views.{tree_in}
+use Rattle.cad_expression_leaves.specs.Code.Steps.{GoesOn, evaluated, elements, arguments, behind, row_with}
+use Rattle.cad_expression_leaves.specs.Views.{tree_in}
 use Rattle.cad_expressions.proofs.Forms.{evaluated_keeps}
 
 -- what stands at an index, before the rest

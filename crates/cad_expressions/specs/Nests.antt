@@ -6,8 +6,8 @@ use denote.Ref.{Bor, MutBor}
 use Rattle.cad_declarations.specs.Views.{term_of}
 use Rattle.cad_declarations.specs.declared.term.Term.{Term}
 use Rattle.cad_evaluation.specs.Callees.{Calls, Front}
-use Rattle.cad_expressions.specs.Code.Steps.{evaluated}
-use Rattle.cad_expressions.specs.Views.{tree_in}
+use Rattle.cad_expression_leaves.specs.Code.Steps.{evaluated}
+use Rattle.cad_expression_leaves.specs.Views.{tree_in}
 use Rattle.cad_outcomes.specs.declared.stop.Stop.{Stop}
 use Rattle.cad_rows.specs.declared.tree.Tree.{Tree}
 use Rattle.cad_state.specs.Views.{FindsAndCarriesOut}

@@ -2,20 +2,17 @@
 ghost use Rattle.std.specs.Prelude.{map};
 ghost use Rattle.cad_declarations.specs.Typed.{entries_of};
 ghost use Rattle.cad_declarations.specs.Views.{pair_of, term_of};
-ghost use Rattle.cad_expressions.specs.Code.Steps as steps;
-ghost use Rattle.cad_expressions.specs.Code.Steps.{GoesOn};
-ghost use Rattle.cad_expressions.specs.Views.{pairs_of, tree_in};
+ghost use Rattle.cad_expression_leaves.specs.Code.Steps as steps;
+ghost use Rattle.cad_expression_leaves.specs.Code.Steps.{GoesOn};
+ghost use Rattle.cad_expression_leaves.specs.Views.{pairs_of, tree_in};
 ghost use Rattle.cad_labels.specs.Laws.{HasNone};
 ghost use Rattle.cad_state.specs.Views.{FindsAndCarriesOut};
 ghost use Rattle.cad_syntax.specs.Types.{pure_type};
 
-use crate::apart::discard_pairs;
-use crate::boxes::discard_boxed;
-use crate::evaluator::Evaluator;
-use crate::growth::push_pair;
-use crate::values::{hand_over, memory};
 use cad_declarations::{Term, TermEntry};
-use cad_members::Pair;
+use cad_expression_leaves::{
+    Evaluator, Pair, discard_boxed, discard_pairs, hand_over, memory, push_pair,
+};
 use cad_outcomes::Stop;
 use cad_rows::Tree;
 use cad_state::RunState;

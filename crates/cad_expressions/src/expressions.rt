@@ -3,22 +3,21 @@ ghost use Rattle.std.specs.Prelude.{map};
 ghost use Rattle.cad_declarations.specs.Typed.{arguments_of};
 ghost use Rattle.cad_declarations.specs.Views.{argument_of, place_of, term_of};
 ghost use Rattle.cad_evaluation.specs.Terms as spec;
-ghost use Rattle.cad_expressions.specs.Views.{items_row, tree_in};
-ghost use Rattle.cad_standing.specs.Views.{standing_of};
+ghost use Rattle.cad_expression_leaves.specs.Views.{items_row, tree_in};
+ghost use Rattle.cad_expression_leaves.specs.Passed.{standing_of};
 ghost use Rattle.cad_state.specs.Views.{FindsAndCarriesOut};
 
-use crate::callees::Callees;
 use crate::nesting::{Nesting, evaluate_to};
 use crate::places::evaluate_place;
 use crate::rows::evaluate_arguments;
 use cad_declarations::{Argument, Place as TypedPlace, Term};
+use cad_expression_leaves::{Callees, Standing};
 use cad_outcomes::Stop;
 use cad_rows::{Place, Tree};
-use cad_standing::Standing;
 use cad_state::RunState;
 
 /// The value of an expression. Errors are those of its parts.
-#[tactic(auto, unfolding(crate::specs::Code::Steps::evaluated))]
+#[tactic(auto, unfolding(cad_expression_leaves::specs::Code::Steps::evaluated))]
 pub fn eval<C: Callees>(term: &Term, callees: &C, state: &mut RunState) -> Result<Box<Tree>, Stop>
     requires { C.is_ready callees.now }
     ensures { FindsAndCarriesOut tree_in (spec.eval (C.front callees.now) (C.calls callees.now) (term_of term.now)) state.old state.new result }
@@ -27,7 +26,7 @@ pub fn eval<C: Callees>(term: &Term, callees: &C, state: &mut RunState) -> Resul
 }
 
 /// What the place of an expression comes to; whether it is written. Errors are those of its parts.
-#[tactic(auto, unfolding(crate::specs::Code::Steps::placed))]
+#[tactic(auto, unfolding(cad_expression_leaves::specs::Code::Steps::placed))]
 pub fn eval_place<C: Callees>(
     place: &TypedPlace,
     writes: bool,
@@ -46,7 +45,7 @@ pub fn eval_place<C: Callees>(
 }
 
 /// Arguments, each come to the type of its place. Errors are those of their evaluation and of their transfer.
-#[tactic(auto, unfolding(crate::specs::Code::Steps::arguments))]
+#[tactic(auto, unfolding(cad_expression_leaves::specs::Code::Steps::arguments))]
 pub fn eval_arguments<C: Callees>(
     all: &[Argument],
     callees: &C,

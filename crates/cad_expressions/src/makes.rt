@@ -2,20 +2,17 @@
 ghost use Rattle.std.specs.Prelude.{◌≡◌, ℕ};
 ghost use Rattle.cad_access.specs.RunContracts.{run_of};
 ghost use Rattle.cad_evaluation.specs.Making as making;
-ghost use Rattle.cad_expressions.specs.Code.Steps as steps;
-ghost use Rattle.cad_expressions.specs.Code.Steps.{GoesOn};
-ghost use Rattle.cad_expressions.specs.Views.{items_row, tree_in};
+ghost use Rattle.cad_expression_leaves.specs.Code.Steps as steps;
+ghost use Rattle.cad_expression_leaves.specs.Code.Steps.{GoesOn};
+ghost use Rattle.cad_expression_leaves.specs.Views.{items_row, tree_in};
 ghost use Rattle.cad_labels.specs.Laws.{HasNoneInRow};
 ghost use Rattle.cad_outcomes.specs.Outcomes.{no_value};
 ghost use Rattle.cad_rows.specs.Views.{pure_row};
 ghost use Rattle.cad_state.specs.Views.{CarriesOut, FindsAndCarriesOut};
 ghost use Rattle.cad_world.specs.Declared as declared;
 
-use crate::apart::discard_row;
-use crate::boxes::{boxed, discard_boxed};
-use crate::callees::Callee;
-use crate::evaluator::Evaluator;
 use cad_access::bodies_of;
+use cad_expression_leaves::{Callee, Evaluator, boxed, discard_boxed, discard_row};
 use cad_making::{begin, draw_identity, finish};
 use cad_outcomes::Stop;
 use cad_rows::{Place, Tree};

@@ -4,23 +4,22 @@ ghost use Rattle.cad_declarations.specs.Typed as e;
 ghost use Rattle.cad_declarations.specs.Typed.{arguments_of};
 ghost use Rattle.cad_declarations.specs.Views.{argument_of, use_of};
 ghost use Rattle.cad_evaluation.specs.Reading.{read_field};
-ghost use Rattle.cad_expressions.specs.Code.Steps as steps;
-ghost use Rattle.cad_expressions.specs.Code.Steps.{GoesOn};
-ghost use Rattle.cad_expressions.specs.Views.{items_row, tree_in};
+ghost use Rattle.cad_expression_leaves.specs.Code.Steps as steps;
+ghost use Rattle.cad_expression_leaves.specs.Code.Steps.{GoesOn};
+ghost use Rattle.cad_expression_leaves.specs.Views.{items_row, tree_in};
 ghost use Rattle.cad_labels.specs.Laws.{AnyOne};
 ghost use Rattle.cad_outcomes.specs.Outcomes.{no_value};
-ghost use Rattle.cad_receivers.specs.Views.{at_spot, receiver_of};
+ghost use Rattle.cad_expression_leaves.specs.Passed.{at_spot, receiver_of};
 ghost use Rattle.cad_state.specs.Views.{FindsAndCarriesOut};
 ghost use Rattle.cad_syntax.specs.Types.{pure_type};
 
-use crate::boxes::boxed;
-use crate::evaluator::Evaluator;
-use crate::reads::read_member;
 use crate::rows::evaluate_arguments;
 use crate::uses::{call_member, call_method};
 use cad_declarations::{Argument, Use};
+use cad_expression_leaves::{
+    Evaluator, Receiver, boxed, check_callable, check_use, get, read_member,
+};
 use cad_outcomes::Stop;
-use cad_receivers::{Receiver, check_callable, check_use, get};
 use cad_rows::{Place, Tree};
 use cad_state::RunState;
 use cad_syntax::{Authorization, CadType, Name};

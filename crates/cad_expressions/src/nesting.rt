@@ -1,14 +1,12 @@
 // The knot: an expression is evaluated by its form, and the parts of the form by this again.
 ghost use Rattle.cad_declarations.specs.Views.{term_of};
-ghost use Rattle.cad_expressions.specs.Code.Steps as steps;
-ghost use Rattle.cad_expressions.specs.Views.{tree_in};
+ghost use Rattle.cad_expression_leaves.specs.Code.Steps as steps;
+ghost use Rattle.cad_expression_leaves.specs.Views.{tree_in};
 ghost use Rattle.cad_state.specs.Views.{FindsAndCarriesOut};
 
-use crate::at_once::{boxed_number, number_at_once};
-use crate::callees::{Callee, Callees};
-use crate::evaluator::Evaluator;
 use crate::terms::evaluate;
 use cad_declarations::Term;
+use cad_expression_leaves::{Callee, Callees, Evaluator, boxed_number, number_at_once};
 use cad_outcomes::Stop;
 use cad_rows::{Place, Tree};
 use cad_state::RunState;
@@ -59,7 +57,7 @@ impl<C: Callees, F: Fn(u64, &C, &mut RunState, &Term) -> Result<Box<Tree>, Stop>
 
 /// The value of an expression that is nested at most so deep; no memory of any other.
 #[inline(never)]
-#[tactic(auto, using(crate::proofs::Told::told))]
+#[tactic(auto, using(cad_expression_leaves::proofs::Told::told))]
 pub(crate) fn evaluate_to<C: Callees>(
     depth: u64,
     callees: &C,

@@ -1,26 +1,23 @@
 // What is done with the value of a first part by a second one, in the recursion over expressions.
 ghost use Rattle.std.specs.Prelude.{Bool, option_map};
 ghost use Rattle.cad_declarations.specs.Views.{term_of, use_of};
-ghost use Rattle.cad_expressions.specs.Code.Steps as steps;
-ghost use Rattle.cad_expressions.specs.Code.Steps.{GoesOn};
-ghost use Rattle.cad_expressions.specs.Views.{tree_in};
+ghost use Rattle.cad_expression_leaves.specs.Code.Steps as steps;
+ghost use Rattle.cad_expression_leaves.specs.Code.Steps.{GoesOn};
+ghost use Rattle.cad_expression_leaves.specs.Views.{tree_in};
 ghost use Rattle.cad_labels.specs.Laws.{AnyOne, HasNone};
 ghost use Rattle.cad_outcomes.specs.Outcomes.{no_value};
-ghost use Rattle.cad_receivers.specs.Views.{receiver_of};
+ghost use Rattle.cad_expression_leaves.specs.Passed.{receiver_of};
 ghost use Rattle.cad_state.specs.Views.{FindsAndCarriesOut};
 ghost use Rattle.cad_syntax.specs.Types.{pure_type};
 
-use crate::apart::discard_receiver;
-use crate::evaluator::Evaluator;
 use crate::members::evaluate_use;
-use crate::values::{
-    binary_of, boxed_nil, boxed_truth, content_or_whole, read_index, round_to, truth_of,
-    truth_only_of, wrap_if,
-};
 use cad_declarations::{Term, Use};
+use cad_expression_leaves::{
+    Evaluator, Receiver, binary_of, boxed_nil, boxed_truth, content_or_whole, discard_receiver,
+    read_index, round_to, truth_of, truth_only_of, wrap_if,
+};
 use cad_grammar::BinaryOperator;
 use cad_outcomes::Stop;
-use cad_receivers::Receiver;
 use cad_rows::Tree;
 use cad_state::RunState;
 use cad_syntax::CadType;

@@ -3,19 +3,19 @@
 ghost use Rattle.std.specs.Prelude.{option_map};
 ghost use Rattle.cad_declarations.specs.Typed as e;
 ghost use Rattle.cad_declarations.specs.Views.{place_of, term_of, use_of};
-ghost use Rattle.cad_expressions.specs.Code.Steps as steps;
-ghost use Rattle.cad_expressions.specs.Views.{tree_in};
-ghost use Rattle.cad_receivers.specs.Views.{receiver_of};
+ghost use Rattle.cad_expression_leaves.specs.Code.Steps as steps;
+ghost use Rattle.cad_expression_leaves.specs.Views.{tree_in};
+ghost use Rattle.cad_expression_leaves.specs.Passed.{receiver_of};
 ghost use Rattle.cad_state.specs.Views.{FindsAndCarriesOut};
 ghost use Rattle.cad_syntax.specs.Types.{PureType};
 
-use crate::evaluator::Evaluator;
 use crate::operands::{index_on, use_in_chain, use_on};
 use crate::places::evaluate_place;
-use crate::stands::{borrow_at, chain_at, copy_at, nil_at, receive_at, take_at};
 use cad_declarations::{Place, Term, Use};
+use cad_expression_leaves::{
+    Evaluator, Receiver, borrow_at, chain_at, copy_at, nil_at, receive_at, take_at,
+};
 use cad_outcomes::Stop;
-use cad_receivers::Receiver;
 use cad_rows::Tree;
 use cad_state::RunState;
 use cad_syntax::Authorization;

@@ -1,19 +1,18 @@
 // Places, in the recursion over expressions.
 ghost use Rattle.cad_declarations.specs.Views.{place_of, term_of};
-ghost use Rattle.cad_expressions.specs.Code.Steps as steps;
-ghost use Rattle.cad_expressions.specs.Code.Steps.{GoesOn};
+ghost use Rattle.cad_expression_leaves.specs.Code.Steps as steps;
+ghost use Rattle.cad_expression_leaves.specs.Code.Steps.{GoesOn};
 ghost use Rattle.cad_labels.specs.Laws.{AnyOne};
-ghost use Rattle.cad_receivers.specs.Views.{receiver_of};
-ghost use Rattle.cad_standing.specs.Views.{standing_of};
+ghost use Rattle.cad_expression_leaves.specs.Passed.{receiver_of};
+ghost use Rattle.cad_expression_leaves.specs.Passed.{standing_of};
 ghost use Rattle.cad_state.specs.Views.{FindsAndCarriesOut};
 
-use crate::apart::discard_receiver;
-use crate::evaluator::Evaluator;
-use crate::stands::{content_at, element_with, field_at, lead};
 use cad_declarations::{Place, Term};
+use cad_expression_leaves::{
+    Evaluator, Receiver, Standing, content_at, discard_receiver, element_with, field_at,
+    here_contract, here_variable, is_nowhere, lead, own_self, receiver,
+};
 use cad_outcomes::Stop;
-use cad_receivers::Receiver;
-use cad_standing::{Standing, here_contract, here_variable, is_nowhere, own_self, receiver};
 use cad_state::RunState;
 
 /// Where the value of a place stands; whether it is written.

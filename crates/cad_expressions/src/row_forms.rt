@@ -3,18 +3,17 @@
 ghost use Rattle.std.specs.Prelude.{Bool, map};
 ghost use Rattle.cad_declarations.specs.Typed as e;
 ghost use Rattle.cad_declarations.specs.Views.{argument_of, pair_of, term_of};
-ghost use Rattle.cad_expressions.specs.Code.Steps as steps;
-ghost use Rattle.cad_expressions.specs.Views.{tree_in};
+ghost use Rattle.cad_expression_leaves.specs.Code.Steps as steps;
+ghost use Rattle.cad_expression_leaves.specs.Views.{tree_in};
 ghost use Rattle.cad_state.specs.Views.{FindsAndCarriesOut};
 ghost use Rattle.cad_syntax.specs.Types.{pure_type};
 
 use crate::entries::evaluate_entries;
-use crate::evaluator::Evaluator;
 use crate::makes::{construct_with, create_with};
 use crate::rows::{evaluate_arguments, evaluate_terms};
 use crate::uses::{builtin_with, call_with};
-use crate::values::{array_with, dictionary_with};
 use cad_declarations::{Argument, Term, TermEntry};
+use cad_expression_leaves::{Evaluator, array_with, dictionary_with};
 use cad_outcomes::Stop;
 use cad_rows::Tree;
 use cad_state::RunState;

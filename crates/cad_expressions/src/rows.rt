@@ -2,17 +2,14 @@
 ghost use Rattle.std.specs.Prelude.{map};
 ghost use Rattle.cad_declarations.specs.Typed.{arguments_of, terms_of};
 ghost use Rattle.cad_declarations.specs.Views.{argument_of, term_of};
-ghost use Rattle.cad_expressions.specs.Code.Steps as steps;
-ghost use Rattle.cad_expressions.specs.Views.{items_row};
+ghost use Rattle.cad_expression_leaves.specs.Code.Steps as steps;
+ghost use Rattle.cad_expression_leaves.specs.Views.{items_row};
 ghost use Rattle.cad_rows.specs.Views.{pure_row};
 ghost use Rattle.cad_state.specs.Views.{FindsAndCarriesOut};
 ghost use Rattle.cad_syntax.specs.Types.{pure_type};
 
-use crate::apart::discard_row;
-use crate::evaluator::Evaluator;
-use crate::growth::push_value;
-use crate::values::memory;
 use cad_declarations::{Argument, Term};
+use cad_expression_leaves::{Evaluator, discard_row, memory, push_value};
 use cad_outcomes::Stop;
 use cad_rows::Place;
 use cad_state::RunState;

@@ -1,11 +1,9 @@
 // The value of an expression: a table of its forms, each of which is a function by itself.
 ghost use Rattle.cad_declarations.specs.Views.{term_of};
-ghost use Rattle.cad_expressions.specs.Code.Steps as steps;
-ghost use Rattle.cad_expressions.specs.Views.{tree_in};
+ghost use Rattle.cad_expression_leaves.specs.Code.Steps as steps;
+ghost use Rattle.cad_expression_leaves.specs.Views.{tree_in};
 ghost use Rattle.cad_state.specs.Views.{FindsAndCarriesOut};
 
-use crate::evaluator::Evaluator;
-use crate::literals::{call_type, literal};
 use crate::place_forms::{
     borrow_form, chain_form, copy_form, index_form, nil_form, take_form, use_form,
 };
@@ -17,6 +15,7 @@ use crate::value_forms::{
     unary_form,
 };
 use cad_declarations::Term;
+use cad_expression_leaves::{Evaluator, call_type, literal};
 use cad_outcomes::Stop;
 use cad_rows::Tree;
 use cad_state::RunState;

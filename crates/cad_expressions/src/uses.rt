@@ -5,25 +5,23 @@ ghost use Rattle.cad_evaluation.specs.Adding as adding;
 ghost use Rattle.cad_evaluation.specs.Builtins as members;
 ghost use Rattle.cad_evaluation.specs.Callees.{Calls, Front};
 ghost use Rattle.cad_evaluation.specs.Texts.{in_tree};
-ghost use Rattle.cad_expressions.specs.Code.Steps as steps;
-ghost use Rattle.cad_expressions.specs.Code.Steps.{GoesOn};
-ghost use Rattle.cad_expressions.specs.Views.{items_row, tree_in};
+ghost use Rattle.cad_expression_leaves.specs.Code.Steps as steps;
+ghost use Rattle.cad_expression_leaves.specs.Code.Steps.{GoesOn};
+ghost use Rattle.cad_expression_leaves.specs.Views.{items_row, tree_in};
 ghost use Rattle.cad_labels.specs.Laws.{HasNoneInRow};
-ghost use Rattle.cad_receivers.specs.Uses.{aimed};
-ghost use Rattle.cad_receivers.specs.Views.{at_spot, receiver_of};
+ghost use Rattle.cad_expression_leaves.specs.Passed.{aimed};
+ghost use Rattle.cad_expression_leaves.specs.Passed.{at_spot, receiver_of};
 ghost use Rattle.cad_rows.specs.Views.{pure_row, pure_tree};
 ghost use Rattle.cad_state.specs.Views.{CarriesOut, FindsAndCarriesOut};
 ghost use Rattle.cad_syntax.specs.Types.{pure_type};
 ghost use Rattle.cad_world.specs.State.{give, with_some};
 
-use crate::apart::discard_row;
-use crate::boxes::boxed;
-use crate::callees::Callee;
-use crate::evaluator::Evaluator;
 use cad_builtins::is_read;
-use cad_members::{contracts_account, function, member};
+use cad_expression_leaves::{
+    Callee, Evaluator, Receiver, aim, boxed, contracts_account, discard_row, function, member,
+    settle_receiver,
+};
 use cad_outcomes::Stop;
-use cad_receivers::{Receiver, aim, settle_receiver};
 use cad_rows::{Place, Tree};
 use cad_state::RunState;
 use cad_syntax::{Address, Basic, CadType, Name, TypeId};

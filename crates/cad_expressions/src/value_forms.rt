@@ -2,17 +2,17 @@
 // own values alone.
 ghost use Rattle.cad_declarations.specs.Typed as e;
 ghost use Rattle.cad_declarations.specs.Views.{term_of};
-ghost use Rattle.cad_expressions.specs.Code.Steps as steps;
-ghost use Rattle.cad_expressions.specs.Views.{tree_in};
+ghost use Rattle.cad_expression_leaves.specs.Code.Steps as steps;
+ghost use Rattle.cad_expression_leaves.specs.Views.{tree_in};
 ghost use Rattle.cad_state.specs.Views.{FindsAndCarriesOut};
 ghost use Rattle.cad_syntax.specs.Types.{PureType, pure_type};
 
-use crate::at_once::binary_at_once;
 use crate::ends::destroy_found;
-use crate::evaluator::Evaluator;
 use crate::operands::{choose_branch, coalesce, combine, evaluate_behind};
-use crate::values::{cast_of, force_of, put_aside, take_down, truth_of, unary_of};
 use cad_declarations::Term;
+use cad_expression_leaves::{
+    Evaluator, binary_at_once, cast_of, force_of, put_aside, take_down, truth_of, unary_of,
+};
 use cad_grammar::{BinaryOperator, CastKind, UnaryOperator};
 use cad_outcomes::Stop;
 use cad_rows::Tree;

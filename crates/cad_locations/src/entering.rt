@@ -14,7 +14,6 @@ use crate::opened::{Opened, open_optional};
 use crate::places::entry_place;
 use crate::reading::Seen;
 use cad_nodes::{add_key, drop_key, find, put_in};
-use cad_operators::key_position;
 use cad_outcomes::{RunError, Stop};
 use cad_rows::{Shape, Tree, copy_value, count_places, discard_tree};
 use cad_state::RunState;
@@ -26,7 +25,7 @@ fn position_in(alloc: Global, node: Seen<'_>, key: &Value) -> Result<Option<usiz
     ensures { Gives (λ o. o) (code.position_in (pure_value key.now) (tree_seen node.entry).shape) result }
 {
     match node.shape {
-        Shape::Dictionary { keys, .. } => match key_position(alloc, key, keys.as_slice()) {
+        Shape::Dictionary { keys, .. } => match keys.position(alloc, key) {
             Ok(place) => Ok(place),
             Err(_) => Err(Stop::Memory),
         },

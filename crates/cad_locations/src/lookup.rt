@@ -17,7 +17,6 @@ ghost use Rattle.cad_locations.specs.Views.{location_of, tree_seen};
 use crate::location::Location;
 use crate::reading::Seen;
 use cad_access::contract_in;
-use cad_operators::key_position;
 use cad_outcomes::{RunError, Stop};
 use cad_rows::{Place, Shape, Slot, Tree, tree_at};
 use cad_state::RunState;
@@ -97,7 +96,7 @@ fn entry_in<'a>(alloc: Global, tree: &'a Tree, key: &Value) -> Result<SeenSlot<'
     ensures { Gives slot_seen (spec.entry_of_key (pure_value key.now) (pure_tree tree.now).shape (pure_tree tree.now).parts) result }
 {
     match &tree.shape {
-        Shape::Dictionary { keys, .. } => match key_position(alloc, key, keys.as_slice()) {
+        Shape::Dictionary { keys, .. } => match keys.position(alloc, key) {
             Ok(Some(i)) => Ok(seen_slot(tree_at(tree.parts.as_slice(), i))),
             Ok(None) => Ok(SeenSlot::Out),
             Err(_) => Err(Stop::Memory),

@@ -12,7 +12,6 @@ ghost use Rattle.cad_locations.specs.Views.{location_of, tree_seen};
 use crate::location::Location;
 use crate::lookup::{index_in, seen};
 use crate::reading::Seen;
-use cad_operators::key_position;
 use cad_rows::{Shape, Tree};
 use cad_state::RunState;
 use cad_syntax::Num;
@@ -37,7 +36,7 @@ fn place_of_key(alloc: Global, tree: &Tree, key: &Value) -> Result<Option<usize>
     ensures { IfOk result (λ o. IfSome o (λ i. IsKey (pure_value key.now) i (pure_tree tree.now))) }
 {
     match &tree.shape {
-        Shape::Dictionary { keys, .. } => key_position(alloc, key, keys.as_slice()),
+        Shape::Dictionary { keys, .. } => keys.position(alloc, key),
         _ => Ok(None),
     }
 }

@@ -137,6 +137,13 @@ fn containers_keep_their_types(rt: HostRuntime) {
             Err(RunError::CastFailed),
         ),
         (
+            "let d: {Int: Int} = {}; var i = 0; while i < 40 { d[7 * i] = i; i = i + 1 }
+            d[0] = 1000; d[7] = nil; d.remove(key: 273); d[273] = 5; var sum = 0; i = 0
+            while i < 40 { sum = sum + (d[7 * i] ?? 0); i = i + 1 }
+            return sum * 100 + d.length",
+            Ok(174_539),
+        ),
+        (
             "let d = {3: 1, 2: 2, 1: 4}; d.remove(key: 2); d[9] = 5; let k = d.keys; return k[0] * 100 + k[1] * 10 + k[2]",
             Ok(319),
         ),

@@ -18,14 +18,12 @@ use crate::charges::pay;
 use crate::groups::{Called, called_of};
 use crate::homes::any_account;
 use cad_making::case_from;
-use cad_operators::{
-    address_in, converted, greatest, least, number_read, plain_tree, text_encoded, text_from_bytes,
-    truth_in,
-};
+use cad_operators::{converted, greatest, least, plain_tree, truth_in};
 use cad_outcomes::{RunError, Stop};
 use cad_rows::{Place, Tree, discard_row};
 use cad_state::RunState;
 use cad_syntax::{CadType, Kind, TypeId};
+use cad_text_operators::{address_in, number_read, text_encoded, text_from_bytes};
 use cad_types::Builtin;
 use cad_values::Value;
 use std::alloc::Global;

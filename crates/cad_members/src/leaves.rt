@@ -12,14 +12,14 @@ ghost use Rattle.cad_world.specs.Rows.{Row};
 use crate::arguments::argument;
 use crate::groups::{AddressMember, Group, NumberMember, TextMember};
 use cad_num::Op;
-use cad_operators::{
-    Operation, address_bytes, address_in, address_text, character_in, identifier, number_bytes,
-    number_text, on_numbers, text_bytes, text_copy, text_decoded, text_in, text_joined,
-    text_length, text_slice, type_in,
-};
+use cad_operators::{Operation, on_numbers};
 use cad_outcomes::Stop;
 use cad_rows::{Place, Shape, Tree};
 use cad_syntax::Address;
+use cad_text_operators::{
+    address_bytes, address_in, address_text, character_in, identifier, number_bytes, number_text,
+    text_bytes, text_copy, text_decoded, text_in, text_joined, text_length, text_slice, type_in,
+};
 use std::alloc::Global;
 
 /// How many optionals a tree is in.

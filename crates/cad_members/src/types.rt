@@ -16,12 +16,13 @@ use crate::arguments::argument;
 use crate::spots::leaf_of;
 use cad_casts::{is_instance, own_type_of};
 use cad_declarations::discard_type;
-use cad_operators::{bool_tree, plain_tree, type_in};
+use cad_operators::{bool_tree, plain_tree};
 use cad_outcomes::{RunError, Stop};
 use cad_receivers::{Settled, Spot, look};
 use cad_rows::{Place, Shape, Tree, discard_tree};
 use cad_state::RunState;
 use cad_syntax::CadType;
+use cad_text_operators::type_in;
 use cad_values::Value;
 use std::alloc::Global;
 

@@ -63,10 +63,7 @@ fn add_key(shape: &mut Shape, key: Value) -> Result<(), AllocError>
     match shape {
         Shape::Dictionary { keys, .. } => match keys.push(key) {
             Ok(()) => Ok(()),
-            Err(refused) => {
-                discard_value(refused.value);
-                Err(AllocError)
-            }
+            Err(error) => Err(error),
         },
         _ => {
             discard_value(key);

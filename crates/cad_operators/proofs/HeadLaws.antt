@@ -14,11 +14,11 @@ use Rattle.cad_world.specs.Same.{same_key, equal}
 use Rattle.cad_world.specs.Trees.{in_optionals, shaped, keyed, values_in, named_values, value_of}
 use Rattle.cad_evaluation.specs.Numbers.{number_in, number_in_value}
 use Rattle.cad_evaluation.specs.Operators.{same}
-use Rattle.cad_operators.specs.Sameness.{case_number, same_as_case}
+use Rattle.cad_keys.specs.Sameness.{case_number, number_in_key, same_as_case}
 use Rattle.cad_operators.specs.Heads.{is_nil, is_some_value, is_composite, is_parted, is_lean_value, is_lean, keys_in, head, Says, IsHead, IsNumberThere}
 use Rattle.cad_operators.specs.declared.heads.Head.{Head}
 use Rattle.cad_operators.specs.declared.heads.Head.TheVariants as h
-use Rattle.cad_operators.proofs.Tests.{two_composites, composite_key}
+use Rattle.cad_keys.proofs.Tests.{two_composites, composite_key}
 
 -- ---- values without parts
 
@@ -189,15 +189,19 @@ apart_is a b other f g = apart a.optionals b.optionals _ _ (lean_content a.shape
 
 -- ---- cases of enums
 
-number_in_is : (n : ℕ) (s : NodeShape) (r : Row) → number_in (record { optionals = n; shape = s; parts = r }) ≡ number_in_value (in_optionals n (shaped s (values_in r)))
-number_in_is zero (plain x) r = refl
+one_number : (x : PureValue) → number_in_value x ≡ number_in_key x
+one_number (v.number x) = refl
+one_number _ = refl
+
+number_in_is : (n : ℕ) (s : NodeShape) (r : Row) → number_in (record { optionals = n; shape = s; parts = r }) ≡ number_in_key (in_optionals n (shaped s (values_in r)))
+number_in_is zero (plain x) r = one_number x
 number_in_is zero (link a l n) r = refl
 number_in_is zero (array t) r = refl
 number_in_is zero (dictionary k t ks) r = refl
 number_in_is zero (composite id i ns) r = refl
 number_in_is (suc n) s r = refl
 
-pub number_there : (t : Tree) → number_in t ≡ number_in_value (value_of t)
+pub number_there : (t : Tree) → number_in t ≡ number_in_key (value_of t)
 number_there t = number_in_is t.optionals t.shape t.parts
 
 pub case_of_one : {E : Type 0} (names : List Name) (places : List Place) (p : Place) (r : Result (Option Num) E) → length names ≡ 1 → length places ≡ 1 → p ≡ get_or places 0 p

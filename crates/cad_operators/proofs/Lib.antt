@@ -1,11 +1,5 @@
 pub mod Charges
 pub mod HeadLaws
 pub mod Kept
-pub mod Numerals
 pub mod Orders
-pub mod Pushes
-pub mod Rows
 pub mod SameLaws
-pub mod Tests
-pub mod Utf8
-pub mod Cuts

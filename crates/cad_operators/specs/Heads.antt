@@ -8,9 +8,8 @@ use Rattle.cad_rows.specs.Views.{PlaceView, vacant, taken, as_row}
 use Rattle.cad_world.specs.Rows.{NodeShape, plain, link, array, dictionary, composite, Row, Tree, is_full}
 use Rattle.cad_world.specs.Same.{equal, equal_elements, all_under, under, is_so}
 use Rattle.cad_world.specs.Trees.{keyed, values_in, named_values, value_of}
-use Rattle.cad_evaluation.specs.Numbers.{number_in_value}
 use Rattle.cad_evaluation.specs.Operators.{same}
-use Rattle.cad_operators.specs.Sameness.{case_number, same_case}
+use Rattle.cad_keys.specs.Sameness.{case_number, number_in_key, same_case}
 use Rattle.cad_operators.specs.declared.heads.Head.{Head}
 use Rattle.cad_operators.specs.declared.heads.Head.TheVariants as h
 
@@ -60,7 +59,7 @@ is_vacant (taken l t) = false
 
 abbrev pub IsNumberThere : Option Num → PlaceView → Type 0
 IsNumberThere o vacant = ⊥
-IsNumberThere o (taken l t) = o ≡ number_in_value (value_of t)
+IsNumberThere o (taken l t) = o ≡ number_in_key (value_of t)
 
 abbrev pub keys_in : NodeShape → List PureValue
 keys_in (dictionary k t ks) = ks

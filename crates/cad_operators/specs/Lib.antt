@@ -2,7 +2,4 @@ pub mod Answers
 pub mod Bytes
 pub mod Calculations
 pub mod Heads
-pub mod Identifiers
 pub mod Leaves
-pub mod Places
-pub mod Sameness

@@ -2,7 +2,7 @@
 ghost use Rattle.std.specs.Prelude.{◌≡◌, Bool, true, map, IfOk};
 ghost use Rattle.cad_operators.specs.Heads as spec;
 ghost use Rattle.cad_operators.specs.Heads.{IsHead};
-ghost use Rattle.cad_operators.specs.Sameness.{case_number};
+ghost use Rattle.cad_keys.specs.Sameness.{case_number};
 ghost use Rattle.cad_rows.specs.Views.{pure_place, pure_row, pure_shape, pure_tree};
 ghost use Rattle.cad_evaluation.specs.Operators.{same};
 ghost use Rattle.cad_values.specs.Values.{pure_value};
@@ -10,8 +10,8 @@ ghost use Rattle.cad_world.specs.Rows as rows;
 ghost use Rattle.cad_world.specs.Same.{equal};
 ghost use Rattle.cad_world.specs.Trees.{named_values, values_in};
 
-use crate::keys::{is_same_case, same_key};
 use crate::leaves::{number_in, optionals, parts, shape};
+use cad_keys::{is_same_case, same_key};
 use cad_rows::{Place, Shape, Tree};
 use cad_syntax::{Name, Names, Num, TypeId};
 use cad_values::Value;

@@ -53,7 +53,7 @@ pub fn nil_tree(alloc: Global) -> Tree
 }
 
 /// A value in one optional more. It has fewer than 2^64-1 before.
-pub(crate) fn wrapped(tree: Tree) -> Tree
+pub fn wrapped(tree: Tree) -> Tree
     requires { (pure_tree tree).optionals < 2 ^ 64 - 1 }
     ensures { pure_tree result ≡ trees.wrapped (pure_tree tree) }
 {
@@ -98,7 +98,7 @@ pub(crate) fn shape(tree: &Tree) -> &Shape
 }
 
 /// The places in a tree.
-pub(crate) fn parts(tree: &Tree) -> &[Place]
+pub fn parts(tree: &Tree) -> &[Place]
     ensures { pure_row result.now ≡ (pure_tree tree.now).parts }
 {
     tree.parts.as_slice()
@@ -112,7 +112,7 @@ fn is_array_shape(shape: &Shape) -> bool
 }
 
 /// Whether a tree is an array, without optionals.
-pub(crate) fn is_array(tree: &Tree) -> bool
+pub fn is_array(tree: &Tree) -> bool
     ensures { result ≡ bytes.is_array_in (pure_tree tree.now) }
 {
     optionals(tree) == 0 && is_array_shape(shape(tree))

@@ -9,12 +9,12 @@ ghost use Rattle.cad_operators.specs.Calculations.{on_integers};
 ghost use Rattle.cad_outcomes.specs.Outcomes.{Gives};
 ghost use Rattle.cad_syntax.specs.declared.kind.Kind.{Kind};
 
-use crate::keys::is_same_number;
 use crate::kinds::is_same_kind;
 use crate::numbers::{Operation, calculated};
 use crate::operators::calculation;
 use crate::order::number_less;
 use cad_grammar::BinaryOperator;
+use cad_keys::is_same_number;
 use cad_num::NumError;
 use cad_syntax::Num;
 

@@ -1,31 +1,17 @@
 // When two values are the same, by a walk through both. It takes memory for NFC forms alone.
-ghost use Rattle.std.specs.Prelude.{◌≡◌, ◌≢◌, ◌<◌, true, length, map, Some, IfOk, IfSome};
+ghost use Rattle.std.specs.Prelude.{◌≡◌, ◌≢◌, true, length, map, Some, IfOk, IfSome};
 ghost use Rattle.cad_evaluation.specs.Operators as spec;
 ghost use Rattle.cad_operators.specs.Heads as heads;
 ghost use Rattle.cad_rows.specs.Views.{pure_place, pure_row, pure_shape, pure_tree};
 ghost use Rattle.cad_values.specs.Values.{pure_value};
-ghost use Rattle.cad_world.specs.Locations as locations;
 ghost use Rattle.cad_world.specs.Same.{equal_elements};
 ghost use Rattle.cad_world.specs.Trees.{keyed, values_in};
 
 use crate::heads::{Head, are_full, nodes_tell};
-use crate::keys::same_key;
+use cad_keys::Keys;
 use cad_rows::{Place, Shape, Tree};
 use cad_values::Value;
 use std::alloc::{AllocError, Global};
-
-/// Where a key stands among the keys of a dictionary.
-pub fn key_position(alloc: Global, key: &Value, keys: &[Value]) -> Result<Option<usize>, AllocError>
-    ensures value { IfOk result (λ o. o ≡ locations.key_position (pure_value key.now) (map pure_value keys.now)) }
-    ensures bound { IfOk result (λ o. IfSome o (λ i. i < length keys.now)) }
-{
-    for i in 0..keys.len() {
-        if same_key(alloc, key, &keys[i])? {
-            return Ok(Some(i));
-        }
-    }
-    Ok(None)
-}
 
 /// The keys of a dictionary; none of another node.
 fn keys_of(shape: &Shape) -> &[Value]
@@ -37,8 +23,25 @@ fn keys_of(shape: &Shape) -> &[Value]
     }
 }
 
+/// The keys of a dictionary, to look among them; None of another node.
+fn list_of(shape: &Shape) -> Option<&Keys>
+    ensures { IfSome result (λ keys. map pure_value keys.now ≡ heads.keys_in (pure_shape shape.now)) }
+{
+    match shape {
+        Shape::Dictionary { keys, .. } => Some(keys),
+        _ => None,
+    }
+}
+
 /// Whether there is a value for each key.
 fn are_entries(keys: &[Value], row: &[Place]) -> bool
+    ensures { result ≡ heads.are_entries (map pure_value keys.now) (map pure_place row.now) }
+{
+    keys.len() == row.len() && are_full(row)
+}
+
+/// Whether there is a value for each key of a list.
+fn has_entries(keys: &Keys, row: &[Place]) -> bool
     ensures { result ≡ heads.are_entries (map pure_value keys.now) (map pure_place row.now) }
 {
     keys.len() == row.len() && are_full(row)
@@ -67,13 +70,16 @@ pub fn same(alloc: Global, a: &Tree, b: &Tree) -> Result<bool, AllocError>
     match nodes_tell(alloc, a, b) {
         Ok(Head::Told(is)) => Ok(is),
         Ok(Head::Elements) => same_elements(alloc, a.parts.as_slice(), b.parts.as_slice()),
-        Ok(Head::Entries) => same_entries(
-            alloc,
-            a.parts.as_slice(),
-            keys_of(&a.shape),
-            b.parts.as_slice(),
-            keys_of(&b.shape),
-        ),
+        Ok(Head::Entries) => match list_of(&b.shape) {
+            Some(b_keys) => same_entries(
+                alloc,
+                a.parts.as_slice(),
+                keys_of(&a.shape),
+                b.parts.as_slice(),
+                b_keys,
+            ),
+            None => Err(AllocError),
+        },
         Err(error) => Err(error),
     }
 }
@@ -115,12 +121,12 @@ fn same_under(
     a: &Place,
     key: &Value,
     b: &[Place],
-    b_keys: &[Value],
+    b_keys: &Keys,
 ) -> Result<bool, AllocError>
     requires { heads.are_entries (map pure_value b_keys.now) (map pure_place b.now) ≡ true }
     ensures { IfOk result (λ is. heads.Under is (pure_place a.now) (pure_value key.now) (keyed (map pure_value b_keys.now) (values_in (pure_row b.now)))) }
 {
-    match key_position(alloc, key, b_keys) {
+    match b_keys.position(alloc, key) {
         Ok(Some(j)) => same_place(alloc, a, &b[j]),
         Ok(None) => Ok(false),
         Err(error) => Err(error),
@@ -134,11 +140,14 @@ fn same_entries(
     a: &[Place],
     a_keys: &[Value],
     b: &[Place],
-    b_keys: &[Value],
+    b_keys: &Keys,
 ) -> Result<bool, AllocError>
     ensures { IfOk result (λ is. is ≡ heads.equal_entries (map pure_value a_keys.now) (pure_row a.now) (map pure_value b_keys.now) (pure_row b.now)) }
 {
-    if !are_entries(a_keys, a) || !are_entries(b_keys, b) {
+    if !are_entries(a_keys, a) {
+        return Err(AllocError);
+    }
+    if !has_entries(b_keys, b) {
         return Err(AllocError);
     }
     if a.len() != b.len() {

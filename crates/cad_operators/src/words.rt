@@ -7,7 +7,7 @@ use cad_num::BitOp;
 use cad_syntax::{Kind, Num};
 
 /// A number in two's complement, with as many bits as its kind has.
-pub(crate) fn twos_complement(a: Num) -> u128
+pub fn twos_complement(a: Num) -> u128
     ensures value { result ≡ spec.twos_complement a.kind (value_of a) }
     ensures bound { result < count_of a.kind }
 {

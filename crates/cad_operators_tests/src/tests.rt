@@ -7,6 +7,7 @@ use cad_outcomes::RunError::{DivisionByZero, Overflow, Underflow};
 use cad_outcomes::{RunError, Stop};
 use cad_rows::{Tree, discard_tree};
 use cad_syntax::{Address, Kind, Num, Text};
+use cad_text_operators::*;
 use std::alloc::Global;
 use std::process::Abort;
 use std::test::Fail;

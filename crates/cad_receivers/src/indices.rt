@@ -21,9 +21,9 @@ use crate::receivers::{Receiver, Settled, Spot};
 use crate::settle::settle_receiver;
 use crate::trees::{optionals, wrap};
 use cad_locations::Location;
-use cad_operators::{integer_in, key_position, nil_tree};
+use cad_operators::{integer_in, nil_tree};
 use cad_outcomes::{RunError, Stop};
-use cad_rows::{Place, Shape, Slot, Tree, tree_at};
+use cad_rows::{Keys, Place, Shape, Slot, Tree, tree_at};
 use cad_state::{RunState, discard_value};
 use cad_syntax::{Authorization, CadType, Num};
 use cad_value_trees::value_from_tree;
@@ -113,12 +113,12 @@ fn read_in_array(
 fn slot_under<'a>(
     alloc: Global,
     key: &Value,
-    keys: &[Value],
+    keys: &Keys,
     row: &'a [Place],
 ) -> Result<Slot<'a>, AllocError>
     ensures { IfOk result (λ x. pure_slot x ≡ locations.slot_at (locations.key_position (pure_value key.now) (map pure_value keys.now)) (pure_row row.now)) }
 {
-    match key_position(alloc, key, keys)? {
+    match keys.position(alloc, key)? {
         Some(i) => Ok(tree_at(row, i)),
         None => Ok(Slot::Out),
     }
@@ -205,7 +205,7 @@ fn read_under(
     spot: Spot<'_>,
     declared: &CadType,
     label: u64,
-    keys: &[Value],
+    keys: &Keys,
     key: Value,
 ) -> Result<Reading, Stop>
     ensures { (s : State) → Leaves reading_of (spec.read_entry (spot_of spot.entry).rights (pure_type declared.now) (locations.entry label (pure_value key)) (locations.slot_at (locations.key_position (pure_value key) (map pure_value keys.now)) (spot_of spot.entry).tree.parts)) s result }
@@ -225,7 +225,7 @@ fn read_in_dictionary(
     spot: Spot<'_>,
     declared: &CadType,
     label: u64,
-    keys: &[Value],
+    keys: &Keys,
     index: &Tree,
 ) -> Result<Reading, Stop>
     ensures { (s : State) → Leaves reading_of (spec.read_entry (spot_of spot.entry).rights (pure_type declared.now) (locations.entry label (trees.value_of (pure_tree index.now))) (locations.slot_at (locations.key_position (trees.value_of (pure_tree index.now)) (map pure_value keys.now)) (spot_of spot.entry).tree.parts)) s result }
@@ -243,7 +243,7 @@ fn read_in(alloc: Global, spot: Spot<'_>, label: u64, index: &Tree) -> Result<Re
     match spot.shape {
         Shape::Array(element) => read_in_array(alloc, spot, element, label, index),
         Shape::Dictionary { value, keys, .. } => {
-            read_in_dictionary(alloc, spot, value, label, keys.as_slice(), index)
+            read_in_dictionary(alloc, spot, value, label, keys, index)
         }
         _ => Err(Stop::IllTyped),
     }

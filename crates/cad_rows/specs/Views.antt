@@ -27,7 +27,7 @@ abbrev pub pure_shape : Shape → r.NodeShape
 pure_shape (shape.Plain v) = r.plain (pure_value v)
 pure_shape (shape.Link a l n) = r.link a l n
 pure_shape (shape.Array t) = r.array (pure_type t)
-pure_shape (shape.Dictionary k t ks) = r.dictionary (pure_type k) (pure_type t) (map pure_value ks.items)
+pure_shape (shape.Dictionary k t ks) = r.dictionary (pure_type k) (pure_type t) (map pure_value ks)
 pure_shape (shape.Composite id n fs) = r.composite id n fs
 
 abbrev pub tree_step : Tree-F PlaceView r.Tree → r.Tree

@@ -10,6 +10,7 @@ ghost use Rattle.cad_rows.specs.Views.{pure_row, pure_tree, pure_place, pure_sha
 use crate::access::push_place;
 use crate::discard::{discard_row, discard_shape};
 use crate::tree::{Place, Shape, Tree};
+use cad_keys::Keys;
 use cad_syntax::{CadType, Name, Numbers, TypeId};
 use cad_values::{Cap, CompositeField, DictionaryEntry, Reference, Target, Value};
 use std::alloc::{AllocError, Global};
@@ -186,6 +187,15 @@ fn copy_fields(alloc: Global, fields: &[CompositeField]) -> Result<Vec<Composite
     Ok(copies)
 }
 
+/// A copy of keys.
+fn copy_keys(alloc: Global, keys: &Keys) -> Result<Keys, AllocError>
+    ensures { IfOk result (λ ks. map pure_value ks ≡ map pure_value keys.now) }
+{
+    let copies = copy_values(alloc, keys.as_slice())?;
+    let list = Keys::from_vec(alloc, copies)?;
+    Ok(list)
+}
+
 /// A copy of a shape.
 pub fn copy_shape(alloc: Global, shape: &Shape) -> Result<Shape, AllocError>
     ensures { IfOk result (λ x. pure_shape x ≡ pure_shape shape.now) }
@@ -205,7 +215,7 @@ pub fn copy_shape(alloc: Global, shape: &Shape) -> Result<Shape, AllocError>
         Shape::Dictionary { key, value, keys } => {
             let key = key.clone()?;
             let value = value.clone()?;
-            let keys = copy_values(alloc, keys.as_slice())?;
+            let keys = copy_keys(alloc, keys)?;
             Ok(Shape::Dictionary { key, value, keys })
         }
         Shape::Composite {

@@ -1,10 +1,16 @@
 // Trees and rows that are let go. Crates above call these: what they forget doesn't compile.
 use crate::tree::{Place, Shape, Tree};
+use cad_keys::Keys;
 use cad_syntax::Numbers;
 
 /// Lets a shape go.
 pub fn discard_shape(shape: Shape) {
     drop(shape)
+}
+
+/// Lets keys go.
+pub fn discard_keys(keys: Keys) {
+    drop(keys)
 }
 
 /// Lets labels go.

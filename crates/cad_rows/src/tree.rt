@@ -1,4 +1,5 @@
 // Values as nodes in rows of places.
+use cad_keys::Keys;
 use cad_syntax::{Authorization, CadType, Names, Numbers, TypeId};
 use cad_values::Value;
 
@@ -19,7 +20,7 @@ pub enum Shape {
     Dictionary {
         key: CadType,
         value: CadType,
-        keys: Vec<Value>,
+        keys: Keys,
     },
     /// The type, the identity (0 of what is no resource), and the names of the fields in order.
     Composite {

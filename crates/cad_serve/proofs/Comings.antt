@@ -1,5 +1,5 @@
 -- What the program's values say of requests.
-use Rattle.std.proofs.Common.{◌≡◌, ℕ, List, map, Result, Ok, Err, IfOk, sym, subst}
+use Rattle.std.proofs.Common.{◌≡◌, ℕ, List, map, Result, IfOk, sym, subst}
 use Rattle.serde_json.specs.Data.{Data}
 use Rattle.serde_json.specs.View.{view}
 use Rattle.serde_json.specs.declared.value.Value.{Value as Json}
@@ -17,10 +17,6 @@ use Rattle.cad_serve.specs.Answer.{Does}
 use Rattle.cad_serve.specs.Code.Outcomes.{ComesBy, Comes}
 use Rattle.cad_serve.specs.declared.outcome.Outcome.{Outcome}
 use Rattle.cad_serve.specs.declared.outcome.Outcome.TheVariants.{Stays, Leads as Leading}
-
-pub if_ok : {A E : Type 0} {P Q : A → Type 0} (r : Result A E) → ((a : A) → P a → Q a) → IfOk r P → IfOk r Q
-if_ok (Ok a) f h = f a h
-if_ok (Err e) f h = tt
 
 -- what comes may be allowed by more
 pub comes_as : {P Q : spec.Outcome → Type 0} (o : Outcome) (base : Map) → ((x : spec.Outcome) → P x → Q x) → ComesBy o base P → ComesBy o base Q

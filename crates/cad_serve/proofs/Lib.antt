@@ -1,4 +1,3 @@
-pub mod Holding
 pub mod Splits
 pub mod Batches
 pub mod Writings
@@ -7,22 +6,18 @@ pub mod Lines_of
 pub mod Prefixes
 pub mod Saids
 pub mod Comings
-pub mod Standings
 pub mod Readies
 pub mod Judgements
 pub mod Receipts
 pub mod Replying
 pub mod Transacting
-pub mod PartLaws
 pub mod OneMoreAccount
-pub mod LeftWorlds
 pub mod Tellings
 pub mod Runs
 pub mod Openings
 pub mod Uniques
 pub mod Leaving
 pub mod Orders
-pub mod Numerals
 pub mod Countings
 pub mod Generatings
 pub mod Sessions

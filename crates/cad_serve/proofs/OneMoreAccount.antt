@@ -11,7 +11,7 @@ use Rattle.cad_world_reading.specs.Wanted.{IsPartOf}
 use Rattle.cad_worlds.specs.Parts.{world_over}
 use Rattle.cad_worlds.specs.declared.part.WorldPart.{WorldPart}
 use Rattle.cad_serve.specs.Answer.{one_more}
-use Rattle.cad_serve.specs.Code.Parts.{HasOneMore}
+use Rattle.cad_serve_parts.specs.Code.Parts.{HasOneMore}
 
 -- how many accounts there are
 pub counted : (w : World) (x : WorldPart) → world_over w.accounts x ≡ w → length w.accounts ≡ x.count

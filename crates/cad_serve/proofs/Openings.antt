@@ -14,7 +14,7 @@ use Rattle.cad_store.specs.Stops.{BlamesDisk}
 use Rattle.cad_store.specs.Opening.{in_use, opened, Opens, BreaksOpening, at_pick, at_tape, at_sync, at_second_sync, IsOpening}
 use Rattle.cad_store.specs.Stores.{DiskHolds, held}
 use Rattle.cad_store.proofs.Holding.{one_map}
-use Rattle.cad_serve.specs.Lines.{commands}
+use Rattle.cad_serve_parts.specs.Lines.{commands}
 use Rattle.cad_serve.specs.Served.{Begun}
 use Rattle.cad_serve.specs.Crashes.{DiskStands, KeepsPrefix, Survives, in_opening, after_opening}
 use Rattle.cad_serve.specs.declared.status.Status.{Status}

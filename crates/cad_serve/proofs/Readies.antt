@@ -17,11 +17,11 @@ use Rattle.cad_transaction_replies.specs.Replies as spec
 use Rattle.serde_json.specs.Data.{Data}
 use Rattle.cad_store.specs.declared.store.Store.{Store}
 use Rattle.cad_serve.specs.Answer.{Answers, too_long, answered, Does, Commits, unchanged, fits, full, most_bytes}
-use Rattle.cad_serve.specs.Held.{longest}
-use Rattle.cad_serve.specs.Code.Held.{Holds}
+use Rattle.cad_serve_parts.specs.Held.{longest}
+use Rattle.cad_serve_parts.specs.Code.Held.{Holds}
 use Rattle.cad_serve.specs.Code.Outcomes.{Comes, IsReady, IsSettled, RunsTo}
 use Rattle.cad_serve.specs.Code.Views.{Tells}
-use Rattle.cad_serve.specs.declared.line.Line.{Line}
+use Rattle.cad_serve_parts.specs.declared.line.Line.{Line}
 use Rattle.cad_serve.specs.declared.reply.Reply as own
 use Rattle.cad_serve.specs.declared.outcome.Outcome.{Outcome}
 use Rattle.cad_serve.specs.declared.outcome.Outcome.TheVariants.{Stays as Staying, Leads as Leading}

@@ -8,14 +8,14 @@ use Rattle.cad_world.specs.State.{World}
 use Rattle.cad_worlds.specs.Standing.{StandsFor}
 use Rattle.cad_store.specs.declared.store.Store.{Store}
 use Rattle.cad_store.specs.Stores.{held, IsOn}
-use Rattle.cad_serve.specs.Lines.{commands_among, is_command, commands, lines, ended}
-use Rattle.cad_serve.specs.Code.Held.{Holds}
+use Rattle.cad_serve_parts.specs.Lines.{commands_among, is_command, commands, lines, ended}
+use Rattle.cad_serve_parts.specs.Code.Held.{Holds}
 use Rattle.cad_serve.specs.Served.{Served, Begun, Finished}
 use Rattle.cad_serve.specs.Writing.{Wrote}
 use Rattle.cad_serve.specs.Replied.{taken_since, HasReplied}
 use Rattle.cad_serve.specs.Crashes.{DiskStands, KeepsPrefix}
 use Rattle.cad_serve.specs.Code.Progress.{Said, Halts, Halted, Going, Between, Goes, Stops}
-use Rattle.cad_serve.specs.declared.line.Line.{Line}
+use Rattle.cad_serve_parts.specs.declared.line.Line.{Line}
 use Rattle.cad_serve.specs.declared.status.Status.{Status}
 use Rattle.cad_serve.specs.declared.status.Status.TheVariants.{Done, Usage, ReadFault, WriteFault, DiskFault, Memory, BadStore, InputBound}
 use Rattle.cad_serve.specs.Code.Ending.{Leaves, Ends, HasCause, StopCause}

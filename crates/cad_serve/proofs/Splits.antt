@@ -1,7 +1,7 @@
 -- The lines of an input that grows.
 use Rattle.std.proofs.Common.{◌≡◌, ℕ, Bool, true, false, ◌==◌, if◌then◌else◌, List, [], ◌∷◌, ◌++◌, refl, sym, ◌∙◌, ap, append_assoc}
 use Rattle.std.proofs.lemmas.List.{append-nil}
-use Rattle.cad_serve.specs.Lines.{lines, before_first_line}
+use Rattle.cad_serve_parts.specs.Lines.{lines, before_first_line}
 
 abbrev IsSome : List (List ℕ) → Type 0
 IsSome [] = ⊥

@@ -8,7 +8,7 @@ use Rattle.cad_world.specs.State.{World}
 use Rattle.cad_worlds.specs.Standing.{StandsFor}
 use Rattle.serde_json.specs.Data.{Data}
 use Rattle.cad_runs.specs.Commands.{Reply}
-use Rattle.cad_serve.specs.Code.Worlds.{AreSound}
+use Rattle.cad_serve_parts.specs.Code.Worlds.{AreSound}
 use Rattle.cad_store.specs.declared.store.Store.{Store}
 use Rattle.cad_store.specs.Stores.{held, IsOn, Keeps, recorded}
 use Rattle.cad_serve.specs.Answer.{Answers, answer_line}
@@ -16,9 +16,9 @@ use Rattle.cad_serve.specs.Writing.{Written, one_record}
 use Rattle.cad_serve.specs.Code.Progress.{Said, Halted}
 use Rattle.cad_serve.specs.declared.status.Status.{Status}
 use Rattle.cad_serve.specs.declared.status.Status.TheVariants.{WriteFault}
-use Rattle.cad_serve.specs.Lines.{is_command}
-use Rattle.cad_serve.specs.Code.Held.{Holds}
-use Rattle.cad_serve.specs.declared.line.Line.{Line}
+use Rattle.cad_serve_parts.specs.Lines.{is_command}
+use Rattle.cad_serve_parts.specs.Code.Held.{Holds}
+use Rattle.cad_serve_parts.specs.declared.line.Line.{Line}
 use Rattle.cad_serve.proofs.Saids.{said_none, commit_said, commit_told}
 
 -- the reply was put, or it broke

@@ -20,7 +20,7 @@ use Rattle.cad_worlds.specs.Standing.{world_of}
 use Rattle.cad_worlds.specs.declared.kept.World.{World}
 use Rattle.cad_serve.specs.Code.Outcomes.{ComesBy}
 use Rattle.cad_serve.specs.Code.Views.{Tells}
-use Rattle.cad_serve.specs.Code.Worlds.{LeadsOn}
+use Rattle.cad_serve_parts.specs.Code.Worlds.{LeadsOn}
 use Rattle.cad_serve.specs.declared.outcome.Outcome.TheVariants.{Stays, Leads as Leading}
 use Rattle.cad_serve.specs.declared.reply.Reply.{Reply}
 use Rattle.cad_serve.specs.declared.reply.Reply.TheVariants as reply

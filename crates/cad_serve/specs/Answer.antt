@@ -29,7 +29,7 @@ use Rattle.cad_world.specs.Registers.{size}
 use Rattle.cad_world.specs.Sound.{most_accounts}
 use Rattle.cad_world.specs.State.{World}
 use Rattle.cad_worlds.specs.Standing.{coding, Becomes}
-use Rattle.cad_serve.specs.Held.{longest}
+use Rattle.cad_serve_parts.specs.Held.{longest}
 
 -- ---- code, which is checked beside the contracts of the World
 

@@ -1,9 +1,6 @@
 pub mod Views
-pub mod Worlds
-pub mod Parts
 pub mod Outcomes
 pub mod Programs
-pub mod Held
 pub mod Progress
 pub mod Ending
 pub mod Counted

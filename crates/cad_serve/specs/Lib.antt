@@ -1,6 +1,3 @@
-pub mod Lines
-pub mod Words
-pub mod Held
 pub mod Answer
 pub mod Replied
 pub mod Served

@@ -1,7 +1,7 @@
 -- How many replies were put, and how many are owed.
 use Rattle.std.specs.Prelude.{◌≡◌, ℕ, suc, ◌-◌, ◌==◌, List, [], ◌∷◌, length, drop, if◌then◌else◌}
 use Rattle.cad_host.specs.Disk.{Event, output, taken}
-use Rattle.cad_serve.specs.Lines.{ended}
+use Rattle.cad_serve_parts.specs.Lines.{ended}
 
 abbrev pub line_feeds : List ℕ → ℕ
 line_feeds [] = 0

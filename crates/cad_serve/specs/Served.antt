@@ -3,7 +3,7 @@ use Rattle.std.specs.Prelude.{◌≡◌, ℕ, suc, ◌≤◌, List, [], ◌∷�
 use Rattle.std.specs.List.{flat_map}
 use Rattle.cad_host.specs.Disk.{Event, output}
 use Rattle.cad_world.specs.State.{World}
-use Rattle.cad_serve.specs.Lines.{lines, commands_among}
+use Rattle.cad_serve_parts.specs.Lines.{lines, commands_among}
 use Rattle.serde_json.specs.Data.{Data}
 use Rattle.cad_runs.specs.Commands.{Reply}
 use Rattle.cad_serve.specs.Answer.{Answers, answer_line}

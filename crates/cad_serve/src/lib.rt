@@ -8,12 +8,9 @@ mod deploys;
 mod generating;
 mod judging;
 mod laws;
-mod line;
 mod making;
 mod outcome;
-mod parts;
 mod prepare;
-mod reach;
 mod reply;
 mod scripts;
 mod serving;
@@ -21,8 +18,6 @@ mod session_laws;
 mod settling;
 mod status;
 mod transactions;
-mod words;
-mod worlds;
 
 pub use laws::{
     failures_leave_the_world, one_reply, one_state_a_disk, reply_before_commit,

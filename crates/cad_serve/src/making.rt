@@ -7,14 +7,14 @@ ghost use Rattle.cad_world.specs.Begin.{new_account};
 ghost use Rattle.cad_world.specs.State as definition;
 ghost use Rattle.cad_worlds.specs.Standing.{StandsFor};
 ghost use Rattle.cad_serve.specs.Code.Outcomes.{Comes};
-ghost use Rattle.cad_serve.specs.Code.Parts.{HasOneMore};
+ghost use Rattle.cad_serve_parts.specs.Code.Parts.{HasOneMore};
 
 use crate::outcome::Outcome;
-use crate::parts::{part_changes_to, part_in};
 use crate::reply::Reply;
 use cad_loading::Programs;
 use cad_rows::Place;
 use cad_script_replies::Unfinished;
+use cad_serve_parts::{part_changes_to, part_in};
 use cad_state::{Account, Controller, Known, Publication, discard_account};
 use cad_store::Store;
 use cad_syntax::{Address, Name};

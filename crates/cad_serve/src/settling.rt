@@ -5,7 +5,7 @@ ghost use Rattle.cad_host.specs.Disk.{Event};
 ghost use Rattle.cad_accounts.specs.Registers.{Map, Leads};
 ghost use Rattle.cad_world.specs.State.{World};
 ghost use Rattle.cad_worlds.specs.Standing.{StandsFor, Becomes};
-ghost use Rattle.cad_serve.specs.Code.Worlds.{AreSound};
+ghost use Rattle.cad_serve_parts.specs.Code.Worlds.{AreSound};
 ghost use Rattle.cad_runs.specs.Commands as runs;
 ghost use Rattle.cad_store.specs.Stores.{held, room_of, IsOn};
 ghost use Rattle.cad_transaction_replies.specs.Replies as spec;

@@ -8,7 +8,7 @@ ghost use Rattle.cad_world.specs.Trees as spec;
 ghost use Rattle.cad_rows.specs.Views.{pure_row, pure_tree, pure_shape};
 
 use cad_rows::{
-    Place, Shape, Tree, add_last, copy_value, discard_row, discard_shape, discard_tree,
+    Keys, Place, Shape, Tree, add_last, copy_value, discard_row, discard_shape, discard_tree,
 };
 use cad_syntax::{CadType, Names, TypeId};
 use cad_values::{CompositeField, DictionaryEntry, Value};
@@ -108,7 +108,8 @@ fn dictionary_shape(
 {
     let key = key.clone()?;
     let value = value.clone()?;
-    let keys = copy_keys(alloc, entries)?;
+    let copies = copy_keys(alloc, entries)?;
+    let keys = Keys::from_vec(alloc, copies)?;
     Ok(Shape::Dictionary { key, value, keys })
 }
 

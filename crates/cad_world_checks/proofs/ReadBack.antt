@@ -16,7 +16,7 @@ use Rattle.cad_world.specs.Registers.{row_values}
 use Rattle.cad_world.specs.Rows.{Row}
 use Rattle.cad_world.specs.State as s
 use Rattle.cad_world_checks.specs.Checks.{PlaceHasBytes, LentHasBytes, BorrowedHasBytes}
-use Rattle.cad_worlds.specs.Standing.{AccountHasBytes, AreOneText, ContractHasBytes, WorldHasBytes}
+use Rattle.cad_worlds.specs.Standing.{AccountHasBytes, AreOneText, ContractHasBytes}
 
 -- ---- no reference is in what has bytes
 
@@ -72,9 +72,6 @@ not_lent a refuses = ((λ h. absurd (false≢true h)), (λ has. absurd (refuses 
 
 pub contract_has : (b : Bool) (c : s.Contract) → AreOneText c.id.names → (IsTrue b ↔ AllByRecursion HasBytes (row_values c.value)) → IsTrue b ↔ ContractHasBytes c
 contract_has b c name tells = ((λ h. record { name = name; value = tells.0 h }), (λ has. tells.1 has.value))
-
-pub world_has : (b : Bool) (w : s.World) → AllByRecursion AccountHasBytes w.accounts → (IsTrue b ↔ AllByRecursion ContractHasBytes w.contracts) → IsTrue b ↔ WorldHasBytes w
-world_has b w accounts tells = ((λ h. record { accounts = accounts; contracts = tells.0 h }), (λ has. tells.1 has.contracts))
 
 pub one_text : (ns : List Name) → AreOneText ns → length ns ≡ 1
 one_text [] t = absurd t

@@ -1,24 +1,26 @@
-// Whether the values of a World have bytes of their own: those from which they are read again.
-ghost use Rattle.std.specs.Prelude.{◌≡◌, ◌↔◌, IsTrue, IfOk, map};
+// Whether what accounts and contracts have has bytes of its own: those from which it is read again.
+ghost use Rattle.std.specs.Prelude.{◌≡◌, ◌≢◌, ◌↔◌, IsTrue, IfOk, IfSome, map};
 ghost use Rattle.std.specs.List.{AllByRecursion};
 ghost use Rattle.cad_codec.specs.Forms.{HasBytes, TypeHasBytes};
+ghost use Rattle.cad_codec.specs.Ranges.{TextInRange};
 ghost use Rattle.cad_rows.specs.Views.{pure_place, pure_row, pure_tree};
 ghost use Rattle.cad_state.specs.Views.{account_of, contract_of, controller_of, publication_of};
 ghost use Rattle.cad_syntax.specs.Types.{pure_type};
+ghost use Rattle.cad_syntax.specs.declared.kind.Kind.TheVariants as kind;
 ghost use Rattle.cad_values.specs.Values.{pure_value};
 ghost use Rattle.cad_world.specs.Registers.{row_values};
 ghost use Rattle.cad_world.specs.Trees.{value_of};
 ghost use Rattle.cad_world_checks.specs.Checks.{PlaceHasBytes, LentHasBytes, BorrowedHasBytes};
-ghost use Rattle.cad_worlds.specs.Standing.{AccountHasBytes, AreOneText, ContractHasBytes, WorldHasBytes, world_of};
+ghost use Rattle.cad_worlds.specs.Standing.{AccountHasBytes, AreOneText, ContractHasBytes};
 
+use crate::of_values::plain_value;
 use cad_codec::{DecodeError, decode, decode_type, encode, encode_type};
 use cad_declarations::discard_type;
 use cad_rows::{Place, Tree};
 use cad_state::{Account, Contract, Controller, Publication, discard_value};
-use cad_syntax::{CadType, Name};
+use cad_syntax::{CadType, Kind, Name, Num, Text};
 use cad_value_trees::value_from_tree;
 use cad_values::{Value, has_no_reference, same};
-use cad_worlds::World;
 use std::alloc::{AllocError, Global};
 
 const MOST_LETTERS: usize = 4_294_967_295;
@@ -34,10 +36,49 @@ fn is_value(again: Value, value: &Value) -> bool
     is
 }
 
-/// Whether a value is read again from its bytes.
+/// Whether a text isn't too long for its bytes. It is UTF-8 by its type.
+fn text_has_bytes(text: &Text) -> bool
+    ensures { IsTrue result ↔ TextInRange text.now }
+{
+    let content = text.as_str();
+    content.len() <= MOST_LETTERS
+}
+
+/// Whether a number is of a kind of numbers.
+fn number_has_bytes(number: &Num) -> bool
+    ensures { IsTrue result ↔ (number.now.kind ≢ kind.Address) }
+{
+    match number.kind {
+        Kind::Address => false,
+        _ => true,
+    }
+}
+
+/// Whether a value without parts has bytes of its own, told without them: nothing, a truth, a number, a text, an address or a
+/// path. None of others.
+fn alone_has_bytes(value: &Value) -> Option<bool>
+    ensures { IfSome result (λ b. IsTrue b ↔ HasBytes (pure_value value.now)) }
+{
+    match value {
+        Value::Void | Value::Nil | Value::Bool(_) => Some(true),
+        Value::Number(number) => Some(number_has_bytes(number)),
+        Value::String(text) => Some(text_has_bytes(text)),
+        Value::Address(address) => {
+            let _number = address.0;
+            Some(true)
+        }
+        Value::Path(path) => Some(text_has_bytes(&path.identifier.0)),
+        _ => None,
+    }
+}
+
+/// Whether a value has bytes of its own: it is read again from its bytes, where it can't be told without them.
 fn value_has_bytes(alloc: Global, value: &Value) -> Result<bool, AllocError>
     ensures { IfOk result (λ b. IsTrue b ↔ HasBytes (pure_value value.now)) }
 {
+    if let Some(has) = alone_has_bytes(value) {
+        return Ok(has);
+    }
     if !has_no_reference(value) {
         return Ok(false);
     }
@@ -72,10 +113,13 @@ fn type_has_bytes(alloc: Global, t: &CadType) -> Result<bool, AllocError>
 
 // ---- what an account has
 
-/// Whether the value of a tree has bytes of its own.
+/// Whether the value of a tree has bytes of its own. It is made anew where it has parts.
 fn tree_has_bytes(alloc: Global, tree: &Tree) -> Result<bool, AllocError>
     ensures { IfOk result (λ b. IsTrue b ↔ HasBytes (value_of (pure_tree tree.now))) }
 {
+    if let Some(value) = plain_value(tree) {
+        return value_has_bytes(alloc, value);
+    }
     let value = value_from_tree(alloc, tree)?;
     let has = value_has_bytes(alloc, &value);
     discard_value(value);
@@ -166,18 +210,6 @@ pub(crate) fn account_has_bytes(alloc: Global, account: &Account) -> Result<bool
     controllers_have_bytes(alloc, controllers)
 }
 
-/// Whether all accounts have.
-fn accounts_have_bytes(alloc: Global, accounts: &[Account]) -> Result<bool, AllocError>
-    ensures { IfOk result (λ b. IsTrue b ↔ AllByRecursion AccountHasBytes (map account_of accounts.now)) }
-{
-    for account in accounts {
-        if !account_has_bytes(alloc, account)? {
-            return Ok(false);
-        }
-    }
-    Ok(true)
-}
-
 /// Whether there is one name, which is a text.
 fn are_one_text(names: &[Name]) -> bool
     ensures { IsTrue result ↔ AreOneText names.now }
@@ -215,18 +247,4 @@ pub(crate) fn contracts_have_bytes(
         }
     }
     Ok(true)
-}
-
-/// Whether the values and types in a World have bytes that no others have. AllocError where memory runs out, or where a text
-/// or a list has 2^32 items or more.
-pub fn has_bytes(alloc: Global, world: &World) -> Result<bool, AllocError>
-    ensures { IfOk result (λ b. IsTrue b ↔ WorldHasBytes (world_of world.now)) }
-{
-    let accounts = world.accounts.as_slice();
-    let held = accounts_have_bytes(alloc, accounts)?;
-    if !held {
-        return Ok(false);
-    }
-    let contracts = world.contracts.as_slice();
-    contracts_have_bytes(alloc, contracts)
 }

@@ -10,7 +10,6 @@ mod part_soundness;
 mod part_summary;
 mod sound;
 
-pub use bytes::has_bytes;
 pub use identities::live_identities;
 pub use part_bytes::part_has_bytes;
 pub use part_soundness::stays_sound;

@@ -1,8 +1,9 @@
 // Which trees are those of values. The walk goes as deep as the tree is high.
-ghost use Rattle.std.specs.Prelude.{◌≡◌, ◌↔◌, IsTrue};
+ghost use Rattle.std.specs.Prelude.{◌≡◌, ◌↔◌, IsTrue, IfSome};
 ghost use Rattle.cad_rows.specs.Views.{pure_place, pure_row, pure_shape, pure_tree};
 ghost use Rattle.cad_values.specs.Values.{pure_value};
 ghost use Rattle.cad_world.specs.Fits.{IsOfValue};
+ghost use Rattle.cad_world.specs.Trees.{value_of};
 ghost use Rattle.cad_world_checks.specs.OfValues as spec;
 
 use cad_rows::{Place, Shape, Tree};
@@ -78,4 +79,17 @@ pub(crate) fn is_of_value(tree: &Tree) -> bool
     ensures { IsTrue result ↔ IsOfValue (pure_tree tree.now) }
 {
     tree_is_of_value(tree)
+}
+
+/// The value of a tree that has no optionals and no parts.
+pub(crate) fn plain_value(tree: &Tree) -> Option<&Value>
+    ensures { IfSome result (λ x. pure_value x.now ≡ value_of (pure_tree tree.now)) }
+{
+    if tree.optionals > 0 {
+        return None;
+    }
+    match &tree.shape {
+        Shape::Plain(value) => Some(value),
+        _ => None,
+    }
 }

@@ -23,7 +23,7 @@ fn known_have_bytes(alloc: Global, known: &[Known]) -> Result<bool, AllocError>
 }
 
 /// Whether the values and types in what is known of a World have bytes that no others have: then those in the World have, where
-/// they had before. AllocError where memory runs out, or where a text or a list has 2^32 items or more.
+/// they had before. AllocError where memory runs out, or where a text or a list in what is written has 2^32 items or more.
 pub fn part_has_bytes(alloc: Global, part: &WorldPart) -> Result<bool, AllocError>
     ensures { IfOk result (λ b. IsTrue b → spec.StaysWithBytes part.now) }
 {

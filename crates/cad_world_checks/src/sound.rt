@@ -1,5 +1,5 @@
 // Whether a World is sound.
-ghost use Rattle.std.specs.Prelude.{◌≡◌, ◌↔◌, ◌≤◌, All, IsTrue, IfOk, length, map};
+ghost use Rattle.std.specs.Prelude.{◌≡◌, ◌↔◌, ◌≤◌, All, IsTrue, IfOk, IfSome, length, map};
 ghost use Rattle.cad_rows.specs.Views.{pure_place, pure_row, pure_tree, taken};
 ghost use Rattle.cad_shapes.specs.Held.{shapes_of};
 ghost use Rattle.cad_state.specs.Views.{account_of, controller_of, publication_of};
@@ -11,12 +11,13 @@ ghost use Rattle.cad_world.specs.Orders as orders;
 ghost use Rattle.cad_world.specs.Sound as spec;
 ghost use Rattle.cad_world.specs.Sound.{most_accounts};
 ghost use Rattle.cad_world.specs.Shapes as known;
+ghost use Rattle.cad_world.specs.Trees.{value_of};
 ghost use Rattle.cad_world_checks.specs.Checks as checks;
 ghost use Rattle.cad_worlds.specs.Standing.{IsSoundButCode, world_of};
 
 use crate::contracts::are_sound_contracts;
 use crate::identities::{are_own, has_identities};
-use crate::of_values::is_of_value;
+use crate::of_values::{is_of_value, plain_value};
 use cad_declarations::discard_type;
 use cad_fits::{fits, is_storable};
 use cad_rows::{Place, Tree};
@@ -135,6 +136,19 @@ pub(crate) fn can_stand(shapes: &DeclaredShapes, tree: &Tree) -> bool
     has_identities(tree, shapes)
 }
 
+/// Whether the value of a tree can stand in an account between commands. It is made anew where it has parts.
+fn is_kept_content(alloc: Global, shapes: &DeclaredShapes, tree: &Tree) -> Result<bool, AllocError>
+    ensures { IfOk result (λ b. IsTrue b ↔ checks.LastsAs (shapes_of shapes.now) (value_of (pure_tree tree.now))) }
+{
+    if let Some(value) = plain_value(tree) {
+        return is_kept_value(alloc, shapes, value);
+    }
+    let value = value_from_tree(alloc, tree)?;
+    let kept = is_kept_value(alloc, shapes, &value);
+    discard_value(value);
+    kept
+}
+
 /// Whether a tree is a value that can stand in an account between commands.
 fn is_kept_tree(alloc: Global, shapes: &DeclaredShapes, tree: &Tree) -> Result<bool, AllocError>
     ensures { IfOk result (λ b. IsTrue b ↔ (FitsItself (shapes_of shapes.now) (pure_tree tree.now) × Lasts (shapes_of shapes.now) (pure_tree tree.now))) }
@@ -142,10 +156,7 @@ fn is_kept_tree(alloc: Global, shapes: &DeclaredShapes, tree: &Tree) -> Result<b
     if !can_stand(shapes, tree) {
         return Ok(false);
     }
-    let value = value_from_tree(alloc, tree)?;
-    let kept = is_kept_value(alloc, shapes, &value);
-    discard_value(value);
-    kept
+    is_kept_content(alloc, shapes, tree)
 }
 
 /// Whether a tree without labels is a value that can stand in an account.

@@ -1,8 +1,9 @@
 -- What an item tells is read again as that item, and items of a World make it again.
-use Rattle.std.proofs.Common.{◌≡◌, ℕ, ◌^◌, ◌<◌, Bool, true, false, List, [], ◌∷◌, ◌++◌, map, Option, Some, None, Result, Ok, Err, refl, sym, ap, ◌∙◌, append-nil}
+use Rattle.std.proofs.Common.{◌≡◌, ℕ, ◌^◌, ◌<◌, Bool, true, false, cond, List, [], ◌∷◌, ◌++◌, map, Option, Some, None, Result, Ok, Err, refl, sym, ap, ◌∙◌, append-nil}
 use Rattle.std.specs.Prelude.{IfOk}
 use Rattle.std.specs.List.{AllByRecursion}
 use Rattle.std.specs.Str.{IsUtf8, is_utf8}
+use Rattle.std.proofs.lemmas.Bool.{eq-eqb}
 use Rattle.std.proofs.lemmas.Str.{IsUtf8-from_is_utf8, is_utf8-from_IsUtf8}
 use Rattle.cad_codec.proofs.Decoded.{all_again, all_take}
 use Rattle.cad_codec.proofs.Formats.{IsFormat}
@@ -122,14 +123,14 @@ stored_again n i v a text has =
     (then_is (name_all i text) (λ j. value_in (value_bytes v) >>= λ x. Some (stored n j x))
     (then_is (value_all v has) (λ x. Some (stored n i x)) refl))
 
-lent_again : (n : ℕ) (p : Publication) → HasBytes (capability (record { 0 = n }) p.number p.lent) → lent_in (value_bytes (capability (record { 0 = n }) p.number p.lent)) ≡ Some (p.number, p.lent)
-lent_again n p has = then_is (value_all (capability (record { 0 = n }) p.number p.lent) has) lent_by refl
+lent_again : (n : ℕ) (p : Publication) → HasBytes (capability (record { 0 = n }) p.number p.lent) → lent_in n (value_bytes (capability (record { 0 = n }) p.number p.lent)) ≡ Some (p.number, p.lent)
+lent_again n p has = then_is (value_all (capability (record { 0 = n }) p.number p.lent) has) (lent_by n) (ap (λ (b : Bool). cond b (Some (p.number, p.lent)) None) (eq-eqb n n refl))
 
 published_again : (n : ℕ) (p : Publication) → n < 2 ^ 64 → IsUtf8 p.identifier.0 → HasBytes (capability (record { 0 = n }) p.number p.lent) → published_in (number_field n ++ p.identifier.0) (value_bytes (capability (record { 0 = n }) p.number p.lent)) ≡ Some (published n p)
 published_again n p a text has =
     let bytes = value_bytes (capability (record { 0 = n }) p.number p.lent) in
-    then_is (number_again n p.identifier.0 a) (λ m. name_in m.1 >>= λ j. lent_in bytes >>= λ l. Some (published m.0 (record { identifier = j; number = l.0; lent = l.1 })))
-    (then_is (name_all p.identifier text) (λ j. lent_in bytes >>= λ l. Some (published n (record { identifier = j; number = l.0; lent = l.1 })))
+    then_is (number_again n p.identifier.0 a) (λ m. name_in m.1 >>= λ j. lent_in m.0 bytes >>= λ l. Some (published m.0 (record { identifier = j; number = l.0; lent = l.1 })))
+    (then_is (name_all p.identifier text) (λ j. lent_in n bytes >>= λ l. Some (published n (record { identifier = j; number = l.0; lent = l.1 })))
     (then_is (lent_again n p has) (λ l. Some (published n (record { identifier = p.identifier; number = l.0; lent = l.1 }))) refl))
 
 controller_again : (c : Controller) → TextInRange c.target.0 → TextInRange c.tag → TypeHasBytes c.borrow → controller_in c.number (bytes_field c.target.0 ++ (bytes_field c.tag ++ type_bytes c.borrow)) ≡ Some c

@@ -1,8 +1,13 @@
 pub mod Again
+pub mod Exact
+pub mod Says
+pub mod InOrder
 pub mod Found
 pub mod Made
 pub mod Same
+pub mod Listed
 pub mod ReadBack
+pub mod Judged
 pub mod Joined
 pub mod Loaded
 pub mod OneWorld

@@ -1,5 +1,5 @@
 -- What is read of rows is the World for which they stand.
-use Rattle.std.proofs.Common.{◌≡◌, ◌↔◌, Bool, true, false, IsTrue, List, [], ◌∷◌, map, Option, Some, None, Result, Ok, Err, refl, sym, ap, subst, ◌∙◌}
+use Rattle.std.proofs.Common.{◌≡◌, ◌↔◌, true, false, IsTrue, List, [], ◌∷◌, map, Option, Some, None, Result, Ok, Err, refl, sym, ap, subst, ◌∙◌}
 use Rattle.std.specs.Prelude.{IfOk, IfSome, ◌&&◌, option_map}
 use Rattle.std.proofs.lemmas.Bool.{false≢true}
 use Rattle.cad_accounts.specs.KeyOrder.{before, rise}
@@ -17,7 +17,7 @@ use Rattle.cad_worlds.proofs.OneWorld.{at_rows, rows_are, made_of, told_by}
 use Rattle.cad_worlds.proofs.Rising.{registers_rise_lem}
 use Rattle.cad_worlds.specs.Items.{Draft, empty_draft, draft_of, items_of}
 use Rattle.cad_worlds.specs.Laws.{register_key}
-use Rattle.cad_worlds.specs.Standing.{coding, IsSound, IsSoundButCode, StandsFor, WorldHasBytes, register_of, world_of}
+use Rattle.cad_worlds.specs.Standing.{IsSound, IsSoundButCode, StandsFor, register_of, world_of}
 use Rattle.cad_worlds.specs.declared.kept.World.{World}
 use Rattle.cad_world_reading.proofs.Again.{made_again}
 use Rattle.cad_world_reading.specs.Meaning.{Stands, parts_of}
@@ -44,12 +44,12 @@ there rows w st loads = record {
 
 -- ---- registers of a sound World rise
 
-rise_as : (rows : List Row) → are_rising rows ≡ rise register_key (map register_of rows)
+pub rise_as : (rows : List Row) → are_rising rows ≡ rise register_key (map register_of rows)
 rise_as [] = refl
 rise_as (x ∷ []) = refl
 rise_as (x ∷ y ∷ rows) = ap (λ b. before x.key.0 y.key.0 && b) (rise_as (y ∷ rows))
 
-rise_there : (rows : List Row) (w : s.World) → Stands rows w → are_rising rows ≡ true
+pub rise_there : (rows : List Row) (w : s.World) → Stands rows w → are_rising rows ≡ true
 rise_there rows w st = rise_as rows ∙ ap (rise register_key) st.are ∙ registers_rise_lem w st.sound
 
 -- ---- what is read
@@ -90,11 +90,5 @@ none_made rows v e is gives a st =
 
 -- ---- the test of what was made
 
-pub judged : (b : Bool) (rows : List Row) (w : s.World) → IsSoundButCode w → WorldHasBytes w → (IsTrue b ↔ (map register_of rows ≡ registers coding w)) → IsTrue b ↔ Stands rows w
-judged b rows w sound bytes tells = ((λ h. record { sound = sound; has_bytes = bytes; are = tells.0 h }), (λ st. tells.1 st.are))
-
 pub not_sound : (rows : List Row) (w : s.World) → (IsSoundButCode w → ⊥) → IsTrue false ↔ Stands rows w
 not_sound rows w not = ((λ h. absurd (false≢true h)), (λ st. absurd (not st.sound)))
-
-pub no_bytes : (rows : List Row) (w : s.World) → (WorldHasBytes w → ⊥) → IsTrue false ↔ Stands rows w
-no_bytes rows w not = ((λ h. absurd (false≢true h)), (λ st. absurd (not st.has_bytes)))

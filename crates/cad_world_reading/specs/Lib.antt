@@ -1,5 +1,7 @@
 pub mod Told
 pub mod Meaning
+pub mod Exact
+pub mod Listed
 pub mod Laws
 pub mod Wanted
 pub mod Code

@@ -28,13 +28,13 @@ value_in bytes = whole (value_at most_high bytes)
 unfoldable pub type_in : List ℕ → Option PureType
 type_in bytes = whole (whole_type_at bytes)
 
--- the number and the type of a capability
-abbrev pub lent_by : PureValue → Option (ℕ × PureType)
-lent_by (capability a n t) = Some (n, t)
-lent_by _ = None
+-- the number and the type of a capability of the account of this address
+abbrev pub lent_by : ℕ → PureValue → Option (ℕ × PureType)
+lent_by address (capability a n t) = if a.0 == address then Some (n, t) else None
+lent_by address _ = None
 
-abbrev pub lent_in : List ℕ → Option (ℕ × PureType)
-lent_in bytes = value_in bytes >>= lent_by
+abbrev pub lent_in : ℕ → List ℕ → Option (ℕ × PureType)
+lent_in address bytes = value_in bytes >>= lent_by address
 
 -- the contract of an address and a name
 abbrev pub contract_at : List ℕ → Option TypeId
@@ -58,7 +58,7 @@ abbrev pub stored_in : List ℕ → List ℕ → Option Item
 stored_in place bytes = number_at place >>= λ n. name_in n.1 >>= λ i. value_in bytes >>= λ v. Some (stored n.0 i v)
 
 abbrev pub published_in : List ℕ → List ℕ → Option Item
-published_in place bytes = number_at place >>= λ n. name_in n.1 >>= λ i. lent_in bytes >>= λ l. Some (published n.0 (record { identifier = i; number = l.0; lent = l.1 }))
+published_in place bytes = number_at place >>= λ n. name_in n.1 >>= λ i. lent_in n.0 bytes >>= λ l. Some (published n.0 (record { identifier = i; number = l.0; lent = l.1 }))
 
 abbrev pub controller_in : ℕ → List ℕ → Option Controller
 controller_in number bytes = bytes_at bytes >>= λ a. bytes_at a.1 >>= λ b. name_in a.0 >>= λ i. type_in b.1 >>= λ t. Some (record { number = number; borrow = t; tag = b.0; target = i })

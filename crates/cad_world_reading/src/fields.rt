@@ -98,12 +98,15 @@ pub(crate) fn type_in(alloc: Global, bytes: &[u8]) -> Result<CadType, DecodeErro
     decode_type(alloc, bytes)
 }
 
-/// The number and the type of a capability.
-fn lent_by(value: &Value) -> Result<(u64, CadType), DecodeError>
-    ensures { GivesAs {B = ℕ × PureType} (λ p. (p.0, pure_type p.1)) result (spec.lent_by (pure_value value.now)) }
+/// The number and the type of a capability of the account of an address.
+fn lent_by(address: u64, value: &Value) -> Result<(u64, CadType), DecodeError>
+    ensures { GivesAs {B = ℕ × PureType} (λ p. (p.0, pure_type p.1)) result (spec.lent_by address (pure_value value.now)) }
 {
     match value {
         Value::Capability(cap) => {
+            if cap.address.0 != address {
+                return Err(DecodeError::Damaged);
+            }
             let lent = cap.borrow.clone()?;
             Ok((cap.id, lent))
         }
@@ -111,12 +114,16 @@ fn lent_by(value: &Value) -> Result<(u64, CadType), DecodeError>
     }
 }
 
-/// The number and the type of the capability that has these bytes.
-pub(crate) fn lent_in(alloc: Global, bytes: &[u8]) -> Result<(u64, CadType), DecodeError>
-    ensures { GivesAs {B = ℕ × PureType} (λ p. (p.0, pure_type p.1)) result (spec.lent_in bytes.now) }
+/// The number and the type of the capability of an account that has these bytes.
+pub(crate) fn lent_in(
+    alloc: Global,
+    address: u64,
+    bytes: &[u8],
+) -> Result<(u64, CadType), DecodeError>
+    ensures { GivesAs {B = ℕ × PureType} (λ p. (p.0, pure_type p.1)) result (spec.lent_in address bytes.now) }
 {
     let value = value_in(alloc, bytes)?;
-    let lent = lent_by(&value);
+    let lent = lent_by(address, &value);
     discard_value(value);
     lent
 }

@@ -3,6 +3,7 @@
 
 mod comparing;
 mod contracts;
+mod counting;
 mod fields;
 mod laws;
 mod listing;
@@ -11,6 +12,7 @@ mod part;
 mod part_draft;
 mod parts;
 mod reading;
+mod rising;
 mod saying;
 mod selection;
 

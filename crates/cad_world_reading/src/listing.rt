@@ -1,91 +1,166 @@
-// Whether rows are those that stand in parts.
-ghost use Rattle.std.specs.Prelude.{◌≡◌, ◌≤◌, ◌↔◌, ◌++◌, List, length, take, drop, IsTrue, MatchOption};
+// Rows in parts, from the front on.
+ghost use Rattle.std.specs.Prelude.{◌≡◌, ◌↔◌, ◌∷◌, ◌++◌, [], IsTrue, IfOk, MatchOption, map};
 ghost use Rattle.cad_accounts.specs.Memory.{rows_in_blocks};
-ghost use Rattle.cad_accounts.specs.declared.row.Row as r;
-ghost use Rattle.cad_world_reading.specs.Meaning as spec;
+ghost use Rattle.cad_state.specs.Views.{account_of};
+ghost use Rattle.cad_wire.specs.Fields.{number_field};
+ghost use Rattle.cad_world.specs.Registers as registers;
+ghost use Rattle.cad_world_reading.specs.Listed as spec;
+ghost use Rattle.cad_world_reading.specs.Meaning as meaning;
 ghost use Rattle.cad_worlds.specs.RowLists.{rows_listed};
+ghost use Rattle.cad_worlds.specs.Standing.{register_of, world_of};
 
+use crate::saying::NEXT;
 use cad_accounts::{Block, Row};
-use cad_worlds::RowList;
+use cad_state::Account;
+use cad_worlds::{RowList, World, contract_registers, head_registers};
+use std::alloc::{AllocError, Global};
+
+// ---- the first row
+
+/// The first row of blocks, and those behind it.
+fn first_in<'r>(blocks: &'r [Block]) -> Option<(&'r Row, RowList<'r>)>
+    ensures { MatchOption result (rows_in_blocks blocks.now ≡ []) (λ p. rows_in_blocks blocks.now ≡ p.0.now ∷ rows_listed p.1) }
+{
+    for i in 0..blocks.len() {
+        match blocks[i].rows() {
+            [row, rest @ ..] => {
+                return Some((
+                    row,
+                    RowList {
+                        rows: rest,
+                        blocks: &blocks[i + 1..],
+                    },
+                ));
+            }
+            [] => {}
+        }
+    }
+    None
+}
+
+/// The first row in parts, and those behind it.
+fn first_of<'r>(list: RowList<'r>) -> Option<(&'r Row, RowList<'r>)>
+    ensures { MatchOption result (rows_listed list.entry ≡ []) (λ p. rows_listed list.entry ≡ p.0.now ∷ rows_listed p.1) }
+{
+    match list.rows {
+        [row, rest @ ..] => Some((
+            row,
+            RowList {
+                rows: rest,
+                blocks: list.blocks,
+            },
+        )),
+        [] => first_in(list.blocks),
+    }
+}
+
+// ---- rows that are the first ones
 
 /// Whether two rows are the same.
 fn is_same_row(a: &Row, b: &Row) -> bool
-    ensures { result ≡ spec.is_same_row a.now b.now }
+    ensures { result ≡ meaning.is_same_row a.now b.now }
 {
     a.key.0.as_slice() == b.key.0.as_slice() && a.value.as_slice() == b.value.as_slice()
 }
 
-/// Whether rows are the same, one by one.
-fn are_same_rows(a: &[Row], b: &[Row]) -> bool
-    ensures { IsTrue result ↔ (a.now ≡ b.now) }
+/// The rows behind these, where they are the first ones.
+fn behind_rows<'r>(own: &[Row], list: RowList<'r>) -> Option<RowList<'r>>
+    ensures { spec.IsBehind (map register_of own.now) (rows_listed list.entry) result }
 {
-    if a.len() != b.len() {
+    let mut left = list;
+    for row in own {
+        match first_of(left) {
+            Some((first, rest)) => {
+                if !is_same_row(first, row) {
+                    return None;
+                }
+                left = rest;
+            }
+            None => return None,
+        }
+    }
+    Some(left)
+}
+
+// ---- numbers of next controllers
+
+/// Whether bytes are those of a number.
+fn is_number(bytes: &[u8], number: u64) -> bool
+    ensures { IsTrue result ↔ (bytes.now ≡ number_field number) }
+{
+    bytes == number.to_be_bytes().as_slice()
+}
+
+/// Whether a key is that of an account's next controller.
+fn is_next_key(key: &[u8], address: u64) -> bool
+    ensures { IsTrue result ↔ (key.now ≡ registers.next_key address) }
+{
+    match key {
+        [kind, place @ ..] => *kind == NEXT && is_number(place, address),
+        [] => false,
+    }
+}
+
+/// Whether a row says the number of an account's next controller.
+fn is_next(row: &Row, address: u64, number: u64) -> bool
+    ensures { IsTrue result ↔ (register_of row.now ≡ registers.register (registers.next_key address) (number_field number)) }
+{
+    if !is_next_key(row.key.0.as_slice(), address) {
         return false;
     }
-    for i in 0..a.len() {
-        if !is_same_row(&a[i], &b[i]) {
-            return false;
+    is_number(row.value.as_slice(), number)
+}
+
+/// The rows behind those that say the number of each account's next controller, where these are the first ones.
+fn behind_nexts<'r>(accounts: &[Account], list: RowList<'r>) -> Option<RowList<'r>>
+    ensures { spec.IsBehind (registers.of_accounts registers.next_register 1 (map account_of accounts.now)) (rows_listed list.entry) result }
+{
+    let mut left = list;
+    for i in 0..accounts.len() {
+        match first_of(left) {
+            Some((first, rest)) => {
+                if !is_next(first, i as u64 + 1, accounts[i].next_controller) {
+                    return None;
+                }
+                left = rest;
+            }
+            None => return None,
         }
     }
-    true
+    Some(left)
 }
 
-/// The first rows, so many.
-fn front_of(rows: &[Row], count: usize) -> &[Row]
-    requires { count ≤ length rows.now }
-    ensures { result.now ≡ take count rows.now }
-{
-    &rows[..count]
-}
+// ---- a World's registers in front
 
-/// The rows behind those.
-fn back_of(rows: &[Row], count: usize) -> &[Row]
-    requires { count ≤ length rows.now }
-    ensures { result.now ≡ drop count rows.now }
+/// The rows behind those of next controllers and of contracts, where these are the first ones.
+fn behind_both<'r>(
+    accounts: &[Account],
+    contracts: &[Row],
+    list: RowList<'r>,
+) -> Option<RowList<'r>>
+    ensures { spec.IsBehind (registers.of_accounts registers.next_register 1 (map account_of accounts.now) ++ map register_of contracts.now) (rows_listed list.entry) result }
 {
-    &rows[count..]
-}
-
-/// Whether there are as many rows as others, or more.
-fn has_as_many(own: &[Row], rows: &[Row]) -> bool
-    ensures { IsTrue result ↔ (length rows.now ≤ length own.now) }
-{
-    rows.len() <= own.len()
-}
-
-/// The rows behind the first ones, where those are the same as these.
-fn behind_same<'r>(own: &'r [Row], rows: &[Row]) -> Option<&'r [Row]>
-    ensures { MatchOption result ((rest : List r.Row) → own.now ≡ rows.now ++ rest → ⊥) (λ rest. own.now ≡ rows.now ++ rest.now) }
-{
-    if !has_as_many(own, rows) {
-        return None;
+    match behind_nexts(accounts, list) {
+        Some(left) => behind_rows(contracts, left),
+        None => None,
     }
-    if !are_same_rows(front_of(own, rows.len()), rows) {
-        return None;
-    }
-    Some(back_of(own, rows.len()))
 }
 
-/// Whether rows are the same as those of blocks.
-fn are_in_blocks(own: &[Row], blocks: &[Block]) -> bool
-    ensures { IsTrue result ↔ (own.now ≡ rows_in_blocks blocks.now) }
+/// The rows behind a World's registers in front of those of what accounts store, publish and control, where these are the first ones.
+pub(crate) fn behind_front<'r>(
+    alloc: Global,
+    world: &World,
+    list: RowList<'r>,
+) -> Result<Option<RowList<'r>>, AllocError>
+    ensures { IfOk result (λ left. spec.IsBehind (spec.front (world_of world.now)) (rows_listed list.entry) left) }
 {
-    let mut left = own;
-    for block in blocks {
-        match behind_same(left, block.rows()) {
-            Some(rest) => left = rest,
-            None => return false,
+    let head = head_registers(alloc, world)?;
+    let contracts = contract_registers(alloc, world)?;
+    match behind_rows(head.as_slice(), list) {
+        Some(left) => {
+            let accounts = world.accounts.as_slice();
+            Ok(behind_both(accounts, contracts.as_slice(), left))
         }
-    }
-    left.is_empty()
-}
-
-/// Whether rows are the same as those in parts.
-pub(crate) fn are_listed(own: &[Row], list: RowList<'_>) -> bool
-    ensures { IsTrue result ↔ (own.now ≡ rows_listed list.entry) }
-{
-    match behind_same(own, list.rows) {
-        Some(left) => are_in_blocks(left, list.blocks),
-        None => false,
+        None => Ok(None),
     }
 }

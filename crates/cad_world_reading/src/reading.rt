@@ -5,6 +5,7 @@ ghost use Rattle.cad_accounts.specs.Registers.{at, are_rising};
 ghost use Rattle.cad_loading.specs.Views.{programs_of};
 ghost use Rattle.cad_loads.specs.Loads.{Loads, loaded_of};
 ghost use Rattle.cad_world.specs.State as s;
+ghost use Rattle.cad_world_reading.specs.Exact.{AreMade, IsMadeOf};
 ghost use Rattle.cad_world_reading.specs.Meaning.{Stands, parts_of};
 ghost use Rattle.cad_worlds.specs.Items as items;
 ghost use Rattle.cad_worlds.specs.RowLists.{rows_listed};
@@ -25,6 +26,7 @@ use std::rc::Rc;
 
 /// A World, where rows stand for it; else it is let go.
 fn kept(alloc: Global, world: World, list: RowList<'_>) -> Result<Option<World>, AllocError>
+    requires { IsMadeOf (rows_listed list) (world_of world) }
     ensures found { IfOk result (λ o. IfSome o (λ w. (world_of w ≡ world_of world) × Stands (rows_listed list.entry) (world_of w))) }
     ensures only { Stands (rows_listed list.entry) (world_of world) → IfOk result (λ o. option_map world_of o ≡ Some (world_of world)) }
 {
@@ -50,6 +52,7 @@ fn with_programs(
 ) -> Result<Option<World>, AllocError>
     requires programs { length programs.items ≡ length parts.sources.items }
     requires values { length parts.values.items ≡ length parts.sources.items }
+    requires made { AreMade (rows_listed list) parts }
     ensures found { IfOk result (λ o. IfSome o (λ w. (world_of w ≡ items.world_from (parts_of parts) (programs_of programs)) × Stands (rows_listed list.entry) (world_of w))) }
     ensures only { Stands (rows_listed list.entry) (items.world_from (parts_of parts) (programs_of programs)) → IfOk result (λ o. option_map world_of o ≡ Some (items.world_from (parts_of parts) (programs_of programs))) }
 {
@@ -73,6 +76,7 @@ fn loaded(
     parts: Parts,
     list: RowList<'_>,
 ) -> Result<Option<World>, AllocError>
+    requires { AreMade (rows_listed list) parts }
     ensures found { IfOk result (λ o. IfSome o (λ w. Stands (rows_listed list.entry) (world_of w) × Loads (map loaded_of (world_of w).contracts))) }
     ensures only { (v : s.World) → parts_of parts ≡ items.draft_of v → IsSound v → Stands (rows_listed list.entry) v → IfOk result (λ o. option_map world_of o ≡ Some v) }
 {

@@ -105,7 +105,7 @@ fn read_published(alloc: Global, place: &[u8], bytes: &[u8]) -> Result<Said, Dec
 {
     let (address, rest) = split_number(place)?;
     let identifier = name_in(alloc, rest)?;
-    let (number, lent) = lent_in(alloc, bytes)?;
+    let (number, lent) = lent_in(alloc, address, bytes)?;
     Ok(Said::Has {
         address,
         change: Change::Published(Publication {

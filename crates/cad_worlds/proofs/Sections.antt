@@ -1,6 +1,9 @@
 -- Registers that are written one after another.
 use Rattle.std.proofs.Common.{◌≡◌, ℕ, suc, ◌<◌, ◌≤◌, List, [], ◌∷◌, ◌++◌, map, length, drop, get_or, refl, sym, ap, subst, ◌∙◌, append_assoc, append-nil, arith}
-use Rattle.std.specs.Prelude.{Result, OnOk}
+use Rattle.std.specs.Prelude.{Result, OnOk, IfOk}
+use Rattle.std.specs.declared.alloc.AllocError.{AllocError}
+use Rattle.std.specs.declared.alloc.Global.{Global}
+use Rattle.std.specs.declared.vec.Vec.{Vec}
 use Rattle.std.specs.List.{flat_map}
 use Rattle.std.proofs.lemmas.List.{map-append, length-map}
 use Rattle.cad_accounts.specs.declared.row.Row.{Row}
@@ -18,7 +21,7 @@ use Rattle.cad_state.specs.declared.state.Known.{Known}
 use Rattle.cad_state.specs.declared.state.Publication.{Publication}
 use Rattle.cad_syntax.specs.declared.text.Name.{Name}
 use Rattle.cad_syntax.specs.declared.type_id.TypeId.{TypeId}
-use Rattle.cad_world.specs.Registers.{Register, register, stored_key, stored_from, row_values, of_accounts, next_register, code_register, fields_registers, stored_registers, published_register, published_registers, controller_register, controller_registers, registers}
+use Rattle.cad_world.specs.Registers.{Register, register, stored_key, stored_from, row_values, head_registers, of_accounts, next_register, code_register, fields_registers, stored_registers, published_register, published_registers, controller_register, controller_registers, registers}
 use Rattle.cad_world.specs.Rows as r
 use Rattle.cad_world.specs.Trees.{value_of}
 use Rattle.cad_world.specs.State as s
@@ -192,6 +195,22 @@ all_kinds accounts kept contracts held count identity r0 r1 r2 r3 r4 r5 r6 same 
     ∙ ap (λ (z : List Register). z ++ (a ++ (map code_of contracts ++ (flat_map fields_of contracts ++ (d ++ (e ++ f)))))) (e0 ∙ ap (λ (n : ℕ). head n identity) (counted ∙ sym (length-map accounts account_of)))
     ∙ (λ i. head (length all) identity ++ (a ++ (all_codes contracts i ++ (all_values contracts i ++ (d ++ (e ++ f))))))
     ∙ (λ i. registers coding (record { accounts = map account_of (same i); contracts = map contract_of (there i); next_identity = identity }))
+
+-- ---- of some kinds
+
+pub of_count : (result : Result (Vec Row Global) AllocError) (w : s.World) (accounts : List Account) (count identity : ℕ) → count ≡ length accounts → w.accounts ≡ map account_of accounts → w.next_identity ≡ identity
+    → IfOk result (λ rows. map register_of rows.items ≡ head count identity) → IfOk result (λ rows. map register_of rows.items ≡ head_registers w)
+of_count result w accounts count identity counted are next h =
+    let n : count ≡ length w.accounts = counted ∙ sym (length-map accounts account_of) ∙ ap length (sym are) in
+    subst (λ (xs : List Register). IfOk result (λ rows. map register_of rows.items ≡ xs)) (λ i. head (n i) (sym next i)) h
+
+pub of_contracts : (contracts kept : List Contract) (r0 r1 r2 : List Register) → contracts ≡ kept → r0 ≡ [] → r1 ≡ r0 ++ map code_of contracts → r2 ≡ r1 ++ flat_map fields_of contracts
+    → r2 ≡ map code_register (map contract_of kept) ++ flat_map (fields_registers coding) (map contract_of kept)
+of_contracts contracts kept r0 r1 r2 same none codes values =
+    values
+    ∙ ap (λ (z : List Register). z ++ flat_map fields_of contracts) (codes ∙ ap (λ (z : List Register). z ++ map code_of contracts) none)
+    ∙ (λ i. all_codes contracts i ++ all_values contracts i)
+    ∙ ap (λ (cs : List Contract). map code_register (map contract_of cs) ++ flat_map (fields_registers coding) (map contract_of cs)) same
 
 -- ---- of what is known of a World
 

@@ -19,7 +19,7 @@ pub use laws::{one_world, registers_rise, rows_are_registers};
 pub use merging::changes;
 pub use part::{WorldPart, discard_part};
 pub use row_list::RowList;
-pub use writing::registers_of;
+pub use writing::{contract_registers, head_registers, registers_of};
 
 // For the crates above alone: the registers of some accounts.
 pub use selection::part_rows;

@@ -328,6 +328,25 @@ pub(crate) fn head_rows(alloc: Global, count: u64, identity: u64) -> Result<Vec<
     Ok(rows)
 }
 
+/// The register of how many accounts a World has, where it has one.
+pub fn head_registers(alloc: Global, world: &World) -> Result<Vec<Row>, AllocError>
+    ensures { IfOk result (λ rows. map register_of rows.items ≡ spec.head_registers (world_of world.now)) }
+{
+    let accounts = world.accounts.as_slice();
+    head_rows(alloc, accounts.len() as u64, world.next_identity)
+}
+
+/// The registers of the codes of a World's contracts, and those of their values behind them. AllocError as of all registers.
+pub fn contract_registers(alloc: Global, world: &World) -> Result<Vec<Row>, AllocError>
+    ensures { IfOk result (λ rows. map register_of rows.items ≡ map spec.code_register (world_of world.now).contracts ++ flat_map (spec.fields_registers coding) (world_of world.now).contracts) }
+{
+    let contracts = world.contracts.as_slice();
+    let mut rows = Vec::new(alloc);
+    push_codes(alloc, contracts, &mut rows)?;
+    push_values(alloc, contracts, &mut rows)?;
+    Ok(rows)
+}
+
 /// The registers of a World, in byte order of their keys where it is sound. AllocError where memory runs out, where a value
 /// holds a reference, or where a text or a list has 2^32 items or more.
 pub fn registers_of(alloc: Global, world: &World) -> Result<Vec<Row>, AllocError>

@@ -14,7 +14,7 @@ use Rattle.cad_outcomes.specs.declared.stop.Stop.{Stop}
 use Rattle.cad_containers.specs.declared.literals.Table.{Table}
 
 abbrev pub pure_table : Table → uses.Table
-pure_table t = record { keys = map pure_value t.keys.items; values = pure_row t.values.items }
+pure_table t = record { keys = map pure_value t.keys; values = pure_row t.values.items }
 
 -- a pair comes to a table
 abbrev pub with_pair : PureType → uses.Table → uses.Pair → Action uses.Table

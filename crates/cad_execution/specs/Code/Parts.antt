@@ -31,7 +31,7 @@ use Rattle.cad_state.specs.Views.{FindsAndCarriesOut}
 use Rattle.cad_state.specs.declared.state.RunState.{RunState}
 use Rattle.cad_expressions.specs.Passed.{content_or_none}
 use Rattle.cad_expressions.specs.Passed.{cast_place}
-use Rattle.cad_expressions.specs.Views.{tree_in}
+use Rattle.cad_expressions.specs.Passed.{tree_in}
 use Rattle.cad_world.specs.Locations.{Location, variable}
 use Rattle.cad_world.specs.Rows.{Row, Tree}
 use Rattle.cad_world.specs.State.{Action, ◌>>=◌, ◌>>◌, give, stuck, with_some, tick}

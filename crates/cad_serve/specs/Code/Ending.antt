@@ -3,7 +3,7 @@ use Rattle.std.specs.Prelude.{◌≡◌, ℕ, ◌≤◌, ◌^◌, List, [], ◌�
 use Rattle.cad_host.specs.Disk.{Event, output, reads, FailsTake}
 use Rattle.cad_host.specs.Faults.{Rose}
 use Rattle.cad_world.specs.State.{World}
-use Rattle.cad_serve.specs.Lines.{commands}
+use Rattle.cad_serve_parts.specs.Lines.{commands}
 use Rattle.cad_serve.specs.Served.{Served, ServedSome, Broken, Finished}
 use Rattle.cad_serve.specs.Writing.{Wrote, WroteSome, WroteBroken, WroteStopped}
 use Rattle.cad_serve.specs.Crashes.{DiskStands, KeepsPrefix}

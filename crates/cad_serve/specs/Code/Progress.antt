@@ -5,12 +5,12 @@ use Rattle.cad_world.specs.State.{World}
 use Rattle.cad_worlds.specs.Standing.{StandsFor}
 use Rattle.cad_store.specs.declared.store.Store.{Store}
 use Rattle.cad_store.specs.Stores.{held, IsOn}
-use Rattle.cad_serve.specs.Lines.{lines, commands_among, commands}
-use Rattle.cad_serve.specs.Code.Held.{Holds}
+use Rattle.cad_serve_parts.specs.Lines.{lines, commands_among, commands}
+use Rattle.cad_serve_parts.specs.Code.Held.{Holds}
 use Rattle.cad_serve.specs.Served.{Served, ServedSome, Broken}
 use Rattle.cad_serve.specs.Writing.{Wrote, WroteSome, WroteBroken, WroteStopped}
 use Rattle.cad_serve.specs.Crashes.{DiskStands, KeepsPrefix}
-use Rattle.cad_serve.specs.declared.line.Line.{Line}
+use Rattle.cad_serve_parts.specs.declared.line.Line.{Line}
 use Rattle.cad_serve.specs.declared.status.Status.{Status}
 use Rattle.cad_serve.specs.declared.status.Status.TheVariants.{Done, Usage, ReadFault, WriteFault, DiskFault, Memory, BadStore, InputBound}
 

@@ -1,6 +1,6 @@
 use Rattle.cad_execution.proofs.Contents.{content_carried}
 use Rattle.cad_execution.specs.Code.Parts as parts
-use Rattle.cad_expressions.specs.Views.{tree_in}
+use Rattle.cad_expressions.specs.Passed.{tree_in}
 use Rattle.cad_rows.specs.Views.{pure_tree}
 use Rattle.cad_state.specs.Views.{CarriesOut}
 use Rattle.std.proofs.Common.{subst}

@@ -1,7 +1,7 @@
 use Rattle.cad_execution.proofs.Trees.{place_at}
 use Rattle.cad_execution.specs.Code.Parts as parts
-use Rattle.cad_expressions.proofs.Boxing.{gives_boxed}
-use Rattle.cad_expressions.specs.Views.{tree_in}
+use Rattle.cad_expressions.proofs.Passed.{gives_boxed}
+use Rattle.cad_expressions.specs.Passed.{tree_in}
 use Rattle.cad_outcomes.specs.Outcomes.{Gives}
 use Rattle.cad_rows.specs.Views.{pure_tree}
 use Rattle.cad_world.specs.State.{give}

@@ -1,6 +1,6 @@
 use Rattle.cad_evaluation.specs.Changing.{exchanged}
-use Rattle.cad_expressions.proofs.Boxing.{finds_boxed}
-use Rattle.cad_expressions.specs.Views.{tree_in}
+use Rattle.cad_expressions.proofs.Passed.{finds_boxed}
+use Rattle.cad_expressions.specs.Passed.{tree_in}
 use Rattle.cad_locations.specs.Views.{location_of}
 use Rattle.cad_rows.specs.Views.{pure_tree}
 use Rattle.cad_state.specs.Views.{FindsAndCarriesOut}

@@ -8,7 +8,7 @@ use Rattle.cad_execution.proofs.PlainLaws.{at_fails, at_form}
 use Rattle.cad_execution.proofs.Steps.{Fails}
 use Rattle.cad_execution.proofs.Trees.{assign_at, block_at, break_at, case_at, continue_at, declare_at, emit_at, exchange_at, expression_at, for_at, force_assign_at, if_at, if_cast_at, if_let_at, return_at, swap_at, switch_at, while_at}
 use Rattle.cad_execution.specs.Views.{flow_of}
-use Rattle.cad_expressions.specs.Views.{tree_in}
+use Rattle.cad_expressions.specs.Passed.{tree_in}
 use Rattle.cad_labels.specs.Laws.{HasNoneInRow}
 use Rattle.cad_outcomes.specs.Outcomes.{Gives}
 use Rattle.cad_outcomes.specs.declared.stop.Stop.{Stop}

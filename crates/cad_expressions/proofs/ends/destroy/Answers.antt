@@ -8,9 +8,9 @@ use Rattle.cad_state.specs.Views.{state_over}
 use Rattle.cad_state.proofs.Finding.{find_any, find_same, find_stopped, find_then}
 use Rattle.cad_world.specs.State.{◌>>=◌}
 use Rattle.cad_expressions.specs.Code.Ending.{ended_from}
-use Rattle.cad_expressions.specs.Code.Steps.{ended_by}
+use Rattle.cad_expression_leaves.specs.Code.Steps.{ended_by}
 use Rattle.cad_expressions.proofs.Destroying.{ended_same, labels_lie_before}
-use Rattle.cad_expressions.specs.Views.{tree_in}
+use Rattle.cad_expression_leaves.specs.Views.{tree_in}
 use Rattle.std.specs.Global.{Box}
 use Rattle.cad_expressions.proofs.ends.destroy.Goals as goal
 

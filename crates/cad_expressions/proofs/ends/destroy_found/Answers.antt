@@ -1,4 +1,4 @@
-use Rattle.cad_expressions.proofs.Going.{goes_with, goes_stopped}
+use Rattle.cad_expression_leaves.proofs.Going.{goes_with, goes_stopped}
 use Rattle.cad_expressions.proofs.ends.destroy_found.Goals as goal
 
 pub returns-in-Ok : goal.returns-in-Ok

@@ -5,7 +5,7 @@ use Rattle.cad_evaluation.specs.Ending.{all_emitted}
 use Rattle.cad_rows.specs.Views.{pure_tree}
 use Rattle.cad_world.specs.Rows.{Tree}
 use Rattle.cad_expressions.specs.Code.Ending.{HasEmitted}
-use Rattle.cad_expressions.specs.Views.{trees_of}
+use Rattle.cad_expression_leaves.specs.Views.{trees_of}
 use Rattle.cad_expressions.proofs.Destroying.{emission_ends}
 use Rattle.cad_expressions.proofs.ends.emit_all.Goals as goal
 

@@ -2,7 +2,7 @@ use Rattle.std.proofs.Common.{map}
 use Rattle.std.specs.Vec.Iter.{into_iter_items, into_iter_len}
 use Rattle.cad_evaluation.specs.Ending.{all_emitted}
 use Rattle.cad_expressions.specs.Code.Ending.{HasEmitted}
-use Rattle.cad_expressions.specs.Views.{trees_of}
+use Rattle.cad_expression_leaves.specs.Views.{trees_of}
 use Rattle.cad_rows.specs.Views.{pure_tree}
 use Rattle.cad_expressions.proofs.ends.emit_all.Given as goal
 

@@ -8,8 +8,8 @@ use Rattle.cad_rows.specs.declared.tree.Tree.{Tree}
 use Rattle.cad_state.specs.Views.{state_over}
 use Rattle.cad_world.specs.State.{◌>>◌, give, ok}
 use Rattle.cad_expressions.specs.Code.Ending.{told_and_gone}
-use Rattle.cad_expressions.specs.Views.{trees_of}
-use Rattle.cad_expressions.proofs.Going.{any_on, any_stopped}
+use Rattle.cad_expression_leaves.specs.Views.{trees_of}
+use Rattle.cad_expression_leaves.proofs.Going.{any_on, any_stopped}
 use Rattle.cad_expressions.proofs.ends.emit_and_bury.Goals as goal
 
 pub returns-in-Ok-bury : goal.returns-in-Ok-bury

@@ -1,7 +1,7 @@
 use Rattle.cad_making.specs.Dying.{dying_of}
-use Rattle.cad_expressions.proofs.Boxing.{carries_boxed}
+use Rattle.cad_expression_leaves.proofs.Boxing.{carries_boxed}
 use Rattle.cad_expressions.specs.Code.Ending.{told_and_gone}
-use Rattle.cad_expressions.specs.Views.{trees_of}
+use Rattle.cad_expression_leaves.specs.Views.{trees_of}
 use Rattle.cad_expressions.proofs.ends.emit_and_bury_boxed.Goals as goal
 
 pub returns : goal.returns

@@ -5,7 +5,7 @@ use Rattle.cad_making.proofs.Keeping.{events_keep}
 use Rattle.cad_rows.specs.declared.tree.Tree.{Tree}
 use Rattle.cad_state.proofs.Finding.{find_any, find_stopped, find_then}
 use Rattle.cad_expressions.specs.Code.Ending.{ended_from, told_and_gone}
-use Rattle.cad_expressions.specs.Views.{tree_in, trees_of}
+use Rattle.cad_expression_leaves.specs.Views.{tree_in, trees_of}
 use Rattle.std.specs.Global.{Box}
 use Rattle.cad_expressions.proofs.ends.end_laid_out.Goals as goal
 

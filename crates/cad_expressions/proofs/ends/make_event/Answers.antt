@@ -3,7 +3,7 @@ use Rattle.cad_evaluation.specs.Callees.{destroyed_event}
 use Rattle.cad_rows.specs.Views.{pure_row}
 use Rattle.cad_state.specs.Views.{FindsAndCarriesOut}
 use Rattle.cad_world.specs.Rows.{Row}
-use Rattle.cad_expressions.specs.Views.{tree_in}
+use Rattle.cad_expression_leaves.specs.Views.{tree_in}
 use Rattle.cad_expressions.proofs.ends.make_event.Goals as goal
 
 pub returns : goal.returns

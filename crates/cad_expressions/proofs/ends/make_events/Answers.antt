@@ -3,7 +3,7 @@ use Rattle.cad_evaluation.specs.Ending.{events_of}
 use Rattle.cad_rows.specs.Views.{pure_tree}
 use Rattle.cad_state.specs.Views.{FindsAndCarriesOut}
 use Rattle.cad_syntax.specs.declared.type_id.TypeId.{TypeId}
-use Rattle.cad_expressions.specs.Views.{trees_of}
+use Rattle.cad_expression_leaves.specs.Views.{trees_of}
 use Rattle.cad_expressions.proofs.Destroying.{begun_events, stopped_events}
 use Rattle.cad_expressions.proofs.ends.make_events.Goals as goal
 

@@ -1,5 +1,5 @@
 use Rattle.std.proofs.Common.{rules, arith, Ok, Err}
-use Rattle.cad_expressions.specs.Views.{trees_of}
+use Rattle.cad_expression_leaves.specs.Views.{trees_of}
 use Rattle.cad_expressions.proofs.Destroying.{events_turn, events_stop, events_last}
 use Rattle.cad_expressions.proofs.ends.push_events.Goals as goal
 

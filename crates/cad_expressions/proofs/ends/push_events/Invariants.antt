@@ -1,7 +1,7 @@
 use Rattle.std.proofs.Common.{◌≡◌, ◌+◌, List, drop, Result}
 use Rattle.cad_evaluation.specs.Ending.{events_of}
 use Rattle.cad_expressions.specs.Code.Ending.{made_behind}
-use Rattle.cad_expressions.specs.Views.{trees_of}
+use Rattle.cad_expression_leaves.specs.Views.{trees_of}
 use Rattle.cad_outcomes.specs.declared.stop.Stop.{Stop}
 use Rattle.cad_state.specs.Views.{FindsAndCarriesOut}
 use Rattle.cad_state.specs.declared.state.RunState.{RunState}

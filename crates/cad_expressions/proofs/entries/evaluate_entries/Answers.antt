@@ -1,10 +1,10 @@
 use Rattle.std.proofs.Common.{map, refl, ap}
-use Rattle.cad_members.specs.Passed.{pure_pair}
+use Rattle.cad_expression_leaves.specs.Passed.{pure_pair}
 use Rattle.cad_declarations.specs.Typed as e
 use Rattle.cad_declarations.specs.Views.{pair_of}
 use Rattle.cad_syntax.specs.Types.{pure_type}
-use Rattle.cad_expressions.specs.Code.Steps.{entries}
-use Rattle.cad_expressions.specs.Views.{pairs_of}
+use Rattle.cad_expression_leaves.specs.Code.Steps.{entries}
+use Rattle.cad_expression_leaves.specs.Views.{pairs_of}
 use Rattle.cad_expressions.proofs.Pairs.{begun_pairs, stopped_pairs}
 use Rattle.cad_expressions.proofs.entries.evaluate_entries.Goals as goal
 

@@ -1,5 +1,5 @@
 use Rattle.cad_declarations.specs.Views.{term_of}
-use Rattle.cad_expressions.specs.Code.Steps.{evaluated, typed}
+use Rattle.cad_expression_leaves.specs.Code.Steps.{evaluated, typed}
 use Rattle.cad_expressions.proofs.Forms.{evaluated_keeps}
 use Rattle.cad_expressions.proofs.entries.evaluate_typed.Goals as goal
 

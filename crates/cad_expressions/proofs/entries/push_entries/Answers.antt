@@ -1,6 +1,6 @@
 use Rattle.std.proofs.Common.{rules, arith, Ok, Err}
 use Rattle.cad_syntax.specs.Types.{pure_type}
-use Rattle.cad_expressions.specs.Views.{pairs_of}
+use Rattle.cad_expression_leaves.specs.Views.{pairs_of}
 use Rattle.cad_expressions.proofs.Pairs.{entries_turn, entries_stop, entries_last}
 use Rattle.cad_expressions.proofs.entries.push_entries.Goals as goal
 

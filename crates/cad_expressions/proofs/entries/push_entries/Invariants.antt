@@ -2,8 +2,8 @@ use Rattle.std.proofs.Common.{List, map, drop, Result}
 use Rattle.cad_declarations.specs.Typed.{entries_of}
 use Rattle.cad_declarations.specs.Views.{pair_of}
 use Rattle.cad_evaluation.specs.Uses.{Pair}
-use Rattle.cad_expressions.specs.Code.Steps.{after, entries}
-use Rattle.cad_expressions.specs.Views.{pairs_of}
+use Rattle.cad_expression_leaves.specs.Code.Steps.{after, entries}
+use Rattle.cad_expression_leaves.specs.Views.{pairs_of}
 use Rattle.cad_outcomes.specs.declared.stop.Stop.{Stop}
 use Rattle.cad_state.specs.Views.{FindsAndCarriesOut}
 use Rattle.cad_state.specs.declared.state.RunState.{RunState}

@@ -2,8 +2,8 @@ use Rattle.cad_declarations.specs.Views.{term_of}
 use Rattle.cad_labels.specs.Laws.{HasNone}
 use Rattle.cad_state.proofs.Finding.{find_given, find_stopped, find_then}
 use Rattle.cad_syntax.specs.Types.{pure_type}
-use Rattle.cad_expressions.specs.Code.Steps.{pair_of, pair_with, typed}
-use Rattle.cad_expressions.specs.Views.{pairs_of, tree_in}
+use Rattle.cad_expression_leaves.specs.Code.Steps.{pair_of, pair_with, typed}
+use Rattle.cad_expression_leaves.specs.Views.{pairs_of, tree_in}
 use Rattle.cad_expressions.proofs.Pairs.{typed_keeps}
 use Rattle.cad_expressions.proofs.entries.push_under.Goals as goal
 

@@ -2,13 +2,13 @@ use Rattle.std.proofs.Common.{ℕ, Ok, Err}
 use Rattle.cad_rows.specs.Views.{pure_row}
 use Rattle.cad_labels.specs.Laws.{AnyOne}
 use Rattle.cad_expressions.proofs.Calls.{create_same, identity_drawn_keeps}
-use Rattle.cad_expressions.specs.Code.Steps.{created, identity_drawn}
+use Rattle.cad_expression_leaves.specs.Code.Steps.{created, identity_drawn}
 use Rattle.cad_evaluation.specs.Making.{make}
 use Rattle.cad_state.specs.Views.{state_over}
 use Rattle.cad_state.proofs.Finding.{find_any, find_same, find_stopped, find_then}
 use Rattle.cad_world.specs.State.{◌>>=◌}
 use Rattle.cad_rows.specs.declared.tree.Tree.{Tree}
-use Rattle.cad_expressions.specs.Views.{tree_in}
+use Rattle.cad_expression_leaves.specs.Views.{tree_in}
 use Rattle.std.specs.Global.{Box}
 use Rattle.cad_expressions.proofs.makes.create.Goals as goal
 

@@ -1,5 +1,5 @@
 use Rattle.cad_evaluation.specs.Making.{finish}
-use Rattle.cad_expressions.proofs.Boxing.{carries_boxed}
+use Rattle.cad_expression_leaves.proofs.Boxing.{carries_boxed}
 use Rattle.cad_expressions.proofs.makes.finish_boxed.Goals as goal
 
 pub returns : goal.returns

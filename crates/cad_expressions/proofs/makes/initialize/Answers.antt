@@ -2,11 +2,11 @@ use Rattle.cad_rows.specs.Views.{pure_row}
 use Rattle.cad_outcomes.specs.Outcomes.{no_value}
 use Rattle.cad_labels.specs.Laws.{AnyOne}
 use Rattle.cad_expressions.proofs.Calls.{fields_set_keep}
-use Rattle.cad_expressions.specs.Code.Steps.{fields_set, made_from}
+use Rattle.cad_expression_leaves.specs.Code.Steps.{fields_set, made_from}
 use Rattle.cad_evaluation.specs.Making.{finish}
 use Rattle.cad_state.proofs.Finding.{find_any, find_stopped, find_then}
 use Rattle.cad_rows.specs.declared.tree.Tree.{Tree}
-use Rattle.cad_expressions.specs.Views.{tree_in}
+use Rattle.cad_expression_leaves.specs.Views.{tree_in}
 use Rattle.std.specs.Global.{Box}
 use Rattle.cad_expressions.proofs.makes.initialize.Goals as goal
 

@@ -3,13 +3,13 @@ use Rattle.cad_rows.specs.Views.{pure_row}
 use Rattle.cad_labels.specs.Laws.{AnyOne}
 use Rattle.cad_expressions.proofs.Calls.{make_same, begun_keeps}
 use Rattle.cad_making.specs.Making.{begun}
-use Rattle.cad_expressions.specs.Code.Steps.{made_from}
+use Rattle.cad_expression_leaves.specs.Code.Steps.{made_from}
 use Rattle.cad_evaluation.specs.Making.{make}
 use Rattle.cad_state.specs.Views.{state_over}
 use Rattle.cad_state.proofs.Finding.{find_any, find_same, find_stopped, find_then}
 use Rattle.cad_world.specs.State.{◌>>=◌}
 use Rattle.cad_rows.specs.declared.tree.Tree.{Tree}
-use Rattle.cad_expressions.specs.Views.{tree_in}
+use Rattle.cad_expression_leaves.specs.Views.{tree_in}
 use Rattle.std.specs.Global.{Box}
 use Rattle.cad_expressions.proofs.makes.make.Goals as goal
 

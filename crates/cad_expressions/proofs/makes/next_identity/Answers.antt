@@ -1,6 +1,6 @@
 use Rattle.cad_outcomes.specs.Outcomes.{no_value}
-use Rattle.cad_expressions.proofs.Going.{any_on, any_stopped}
-use Rattle.cad_expressions.specs.Code.Steps.{identity_drawn}
+use Rattle.cad_expression_leaves.proofs.Going.{any_on, any_stopped}
+use Rattle.cad_expression_leaves.specs.Code.Steps.{identity_drawn}
 use Rattle.cad_world.specs.State.{tick}
 use Rattle.cad_evaluation.specs.Making.{draw_identity}
 use Rattle.std.proofs.Common.{ℕ}

@@ -2,12 +2,12 @@ use Rattle.std.proofs.Common.{refl, Ok}
 use Rattle.cad_rows.specs.Views.{pure_row}
 use Rattle.cad_outcomes.specs.Outcomes.{no_value}
 use Rattle.cad_labels.specs.Laws.{HasNone}
-use Rattle.cad_expressions.specs.Code.Steps.{fields_set}
+use Rattle.cad_expression_leaves.specs.Code.Steps.{fields_set}
 use Rattle.cad_evaluation.specs.Callees.{initializer}
 use Rattle.cad_state.proofs.Finding.{find_stopped, find_then}
 use Rattle.cad_world.specs.Rows as rows
 use Rattle.cad_world.specs.State.{done}
-use Rattle.cad_expressions.specs.Views.{tree_in}
+use Rattle.cad_expression_leaves.specs.Views.{tree_in}
 use Rattle.cad_expressions.proofs.makes.set_fields.Goals as goal
 
 pub returns-then-not-is_written : goal.returns-then-not-is_written

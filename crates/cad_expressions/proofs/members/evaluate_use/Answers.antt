@@ -1,6 +1,6 @@
 use Rattle.cad_expressions.proofs.Arms.{method_arm, builtin_call_arm}
 use Rattle.cad_expressions.proofs.Seconds.{get_arm, builtin_field_arm}
-use Rattle.cad_receivers.specs.Views.{receiver_of}
+use Rattle.cad_expression_leaves.specs.Passed.{receiver_of}
 use Rattle.cad_expressions.proofs.members.evaluate_use.Goals as goal
 
 pub returns-in-Field : goal.returns-in-Field

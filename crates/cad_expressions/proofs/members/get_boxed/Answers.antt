@@ -1,6 +1,6 @@
 use Rattle.cad_evaluation.specs.Reading.{read_field}
-use Rattle.cad_receivers.specs.Views.{at_spot, receiver_of}
-use Rattle.cad_expressions.proofs.Boxing.{finds_boxed}
+use Rattle.cad_expression_leaves.specs.Passed.{at_spot, receiver_of}
+use Rattle.cad_expression_leaves.proofs.Boxing.{finds_boxed}
 use Rattle.cad_expressions.proofs.members.get_boxed.Goals as goal
 
 pub returns : goal.returns

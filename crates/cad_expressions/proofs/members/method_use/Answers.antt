@@ -1,5 +1,5 @@
 use Rattle.cad_expressions.proofs.Composed.{method_parts}
-use Rattle.cad_receivers.specs.Views.{receiver_of}
+use Rattle.cad_expression_leaves.specs.Passed.{receiver_of}
 use Rattle.cad_expressions.proofs.members.method_use.Goals as goal
 
 pub returns : goal.returns

@@ -1,5 +1,5 @@
-use Rattle.cad_expressions.proofs.Going.{goes_on, goes_stopped}
-use Rattle.cad_expressions.specs.Code.Steps.{applied, evaluated}
+use Rattle.cad_expression_leaves.proofs.Going.{goes_on, goes_stopped}
+use Rattle.cad_expression_leaves.specs.Code.Steps.{applied, evaluated}
 use Rattle.cad_declarations.specs.Views.{term_of}
 use Rattle.cad_expressions.proofs.Forms.{evaluated_keeps}
 use Rattle.cad_expressions.proofs.operands.apply.Goals as goal

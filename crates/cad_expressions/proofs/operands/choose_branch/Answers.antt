@@ -1,5 +1,5 @@
-use Rattle.cad_expressions.proofs.Going.{goes_on, goes_stopped}
-use Rattle.cad_expressions.specs.Code.Steps.{chosen}
+use Rattle.cad_expression_leaves.proofs.Going.{goes_on, goes_stopped}
+use Rattle.cad_expression_leaves.specs.Code.Steps.{chosen}
 use Rattle.std.proofs.Common.{◌∙◌, ap, Ok}
 use Rattle.cad_expressions.proofs.operands.choose_branch.Goals as goal
 

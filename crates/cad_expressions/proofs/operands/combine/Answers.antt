@@ -1,11 +1,11 @@
-use Rattle.cad_expressions.proofs.Going.{goes_same}
-use Rattle.cad_expressions.specs.Code.Steps.{GoesOn, applied, combined_with}
+use Rattle.cad_expression_leaves.proofs.Going.{goes_same}
+use Rattle.cad_expression_leaves.specs.Code.Steps.{GoesOn, applied, combined_with}
 use Rattle.std.proofs.Common.{subst, sym}
 use Rattle.cad_declarations.specs.Views.{term_of}
 use Rattle.cad_expressions.proofs.Seconds.{otherwise}
 use Rattle.cad_grammar.specs.declared.expression.BinaryOperator.{BinaryOperator}
 use Rattle.cad_labels.specs.Laws.{HasNone}
-use Rattle.cad_expressions.specs.Views.{tree_in}
+use Rattle.cad_expression_leaves.specs.Views.{tree_in}
 use Rattle.cad_expressions.proofs.operands.combine.Goals as goal
 
 pub returns-in-And : goal.returns-in-And

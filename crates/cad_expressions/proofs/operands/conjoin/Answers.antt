@@ -1,5 +1,5 @@
-use Rattle.cad_expressions.proofs.Going.{goes_on, goes_given, goes_stopped}
-use Rattle.cad_expressions.specs.Code.Steps.{conjoined, evaluated}
+use Rattle.cad_expression_leaves.proofs.Going.{goes_on, goes_given, goes_stopped}
+use Rattle.cad_expression_leaves.specs.Code.Steps.{conjoined, evaluated}
 use Rattle.std.proofs.Common.{◌∙◌, ap, Ok}
 use Rattle.cad_declarations.specs.Views.{term_of}
 use Rattle.cad_expressions.proofs.Forms.{evaluated_keeps}

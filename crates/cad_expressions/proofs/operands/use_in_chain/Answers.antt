@@ -1,8 +1,8 @@
-use Rattle.cad_expressions.proofs.Going.{goes_on, goes_given, goes_stopped}
-use Rattle.cad_expressions.specs.Code.Steps.{chained_use, used, wrapped_by}
+use Rattle.cad_expression_leaves.proofs.Going.{goes_on, goes_given, goes_stopped}
+use Rattle.cad_expression_leaves.specs.Code.Steps.{chained_use, used, wrapped_by}
 use Rattle.std.proofs.Common.{◌∙◌, ap, Ok}
 use Rattle.cad_declarations.specs.Views.{use_of}
-use Rattle.cad_receivers.specs.Views.{receiver_of}
+use Rattle.cad_expression_leaves.specs.Passed.{receiver_of}
 use Rattle.cad_expressions.proofs.Forms.{used_keeps}
 use Rattle.cad_expressions.proofs.operands.use_in_chain.Goals as goal
 

@@ -1,6 +1,6 @@
 use Rattle.cad_declarations.specs.Views.{place_of}
 use Rattle.std.proofs.Common.{false}
-use Rattle.cad_expressions.specs.Code.Steps.{placed}
+use Rattle.cad_expression_leaves.specs.Code.Steps.{placed}
 use Rattle.cad_expressions.proofs.Forms.{placed_keeps}
 use Rattle.cad_expressions.proofs.place_forms.chain_receiver_in.Goals as goal
 

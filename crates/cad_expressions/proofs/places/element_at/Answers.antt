@@ -1,9 +1,9 @@
-use Rattle.cad_expressions.proofs.Going.{goes_on, goes_stopped}
-use Rattle.cad_expressions.specs.Code.Steps.{element_at, element_in}
+use Rattle.cad_expression_leaves.proofs.Going.{goes_on, goes_stopped}
+use Rattle.cad_expression_leaves.specs.Code.Steps.{element_at, element_in}
 use Rattle.std.proofs.Common.{sym, ◌∙◌}
 use Rattle.cad_declarations.specs.Views.{term_of}
 use Rattle.cad_expressions.proofs.Seconds.{no_element, an_element}
-use Rattle.cad_standing.specs.Views.{standing_of}
+use Rattle.cad_expression_leaves.specs.Passed.{standing_of}
 use Rattle.cad_state.specs.Views.{state_over}
 use Rattle.cad_state.proofs.Finding.{find_same}
 use Rattle.cad_evaluation.specs.Standing.{receiver_from}

@@ -2,8 +2,8 @@ use Rattle.std.proofs.Common.{map, refl, ap}
 use Rattle.cad_rows.specs.Views.{pure_row}
 use Rattle.cad_declarations.specs.Typed as e
 use Rattle.cad_declarations.specs.Views.{argument_of}
-use Rattle.cad_expressions.specs.Code.Steps.{arguments}
-use Rattle.cad_expressions.specs.Views.{items_row}
+use Rattle.cad_expression_leaves.specs.Code.Steps.{arguments}
+use Rattle.cad_expression_leaves.specs.Views.{items_row}
 use Rattle.cad_expressions.proofs.Turns.{begun_row, stopped_row}
 use Rattle.cad_expressions.proofs.rows.evaluate_arguments.Goals as goal
 

@@ -3,8 +3,8 @@ use Rattle.cad_rows.specs.Views.{pure_row}
 use Rattle.cad_declarations.specs.Typed as e
 use Rattle.cad_declarations.specs.Views.{term_of}
 use Rattle.cad_syntax.specs.Types.{pure_type}
-use Rattle.cad_expressions.specs.Code.Steps.{elements}
-use Rattle.cad_expressions.specs.Views.{items_row}
+use Rattle.cad_expression_leaves.specs.Code.Steps.{elements}
+use Rattle.cad_expression_leaves.specs.Views.{items_row}
 use Rattle.cad_expressions.proofs.Turns.{begun_row, stopped_row}
 use Rattle.cad_expressions.proofs.rows.evaluate_terms.Goals as goal
 

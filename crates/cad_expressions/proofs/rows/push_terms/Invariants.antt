@@ -1,7 +1,7 @@
 use Rattle.std.proofs.Common.{map, drop, Result}
 use Rattle.cad_declarations.specs.Typed.{terms_of}
 use Rattle.cad_declarations.specs.Views.{term_of}
-use Rattle.cad_expressions.specs.Code.Steps.{behind, elements}
+use Rattle.cad_expression_leaves.specs.Code.Steps.{behind, elements}
 use Rattle.cad_outcomes.specs.declared.stop.Stop.{Stop}
 use Rattle.cad_rows.specs.Views.{pure_row}
 use Rattle.cad_state.specs.Views.{FindsAndCarriesOut}

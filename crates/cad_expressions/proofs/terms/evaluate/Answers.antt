@@ -1,4 +1,4 @@
-use Rattle.cad_expressions.proofs.Plain.{meta_arm}
+use Rattle.cad_expression_leaves.proofs.Plain.{meta_arm}
 use Rattle.cad_expressions.proofs.Arms.{copy_arm, take_arm, is_nil_arm, borrow_arm, array_arm, dictionary_arm, construct_arm, create_arm, call_arm, builtin_arm, on_arm, chain_arm, index_arm, hold_arm, destroy_arm, unary_arm, force_arm, cast_arm, binary_arm, coalesce_arm, conditional_arm}
 use Rattle.cad_expressions.proofs.terms.evaluate.Goals as goal
 

@@ -1,6 +1,6 @@
 use Rattle.cad_evaluation.specs.Adding.{add}
-use Rattle.cad_expressions.proofs.Adding.{adds_there, adds_nowhere}
-use Rattle.cad_receivers.specs.Views.{receiver_of}
+use Rattle.cad_expression_leaves.proofs.Adding.{adds_there, adds_nowhere}
+use Rattle.cad_expression_leaves.specs.Passed.{receiver_of}
 use Rattle.cad_rows.specs.Views.{pure_row}
 use Rattle.cad_syntax.specs.declared.types.Basic.TheVariants.{AccountContracts}
 use Rattle.cad_expressions.proofs.uses.add_contract.Goals as goal

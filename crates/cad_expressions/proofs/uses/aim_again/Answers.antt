@@ -4,9 +4,9 @@ use Rattle.cad_labels.proofs.Forms.{keeps_spend}
 use Rattle.cad_outcomes.specs.Outcomes.{no_value}
 use Rattle.cad_state.proofs.Finding.{find_any, find_stopped, find_then}
 use Rattle.cad_labels.specs.Laws.{AnyOne}
-use Rattle.cad_expressions.specs.Code.Steps.{aimed_again}
-use Rattle.cad_receivers.specs.Uses.{aimed}
-use Rattle.cad_receivers.specs.Views.{at_spot, receiver_of}
+use Rattle.cad_expression_leaves.specs.Code.Steps.{aimed_again}
+use Rattle.cad_expression_leaves.specs.Passed.{aimed}
+use Rattle.cad_expression_leaves.specs.Passed.{at_spot, receiver_of}
 use Rattle.cad_evaluation.specs.Reading.{composite_id}
 use Rattle.cad_world.specs.State.{give, with_some}
 use Rattle.cad_syntax.specs.declared.type_id.TypeId.{TypeId}

@@ -1,6 +1,6 @@
 use Rattle.std.proofs.Common.{refl}
-use Rattle.cad_expressions.proofs.Boxing.{boxed_any}
-use Rattle.cad_expressions.proofs.Going.{goes_stopped}
+use Rattle.cad_expression_leaves.proofs.Boxing.{boxed_any}
+use Rattle.cad_expression_leaves.proofs.Going.{goes_stopped}
 use Rattle.cad_expressions.proofs.uses.builtin_with.Goals as goal
 
 pub returns-in-Ok : goal.returns-in-Ok

@@ -1,9 +1,9 @@
 use Rattle.std.proofs.Common.{map, sym, ◌∙◌, Err}
 use Rattle.cad_rows.specs.Views.{pure_tree, pure_row}
 use Rattle.cad_outcomes.specs.Outcomes.{no_value}
-use Rattle.cad_expressions.proofs.Going.{any_on, any_stopped}
+use Rattle.cad_expression_leaves.proofs.Going.{any_on, any_stopped}
 use Rattle.cad_expressions.proofs.Calls.{read_same, called_same}
-use Rattle.cad_expressions.specs.Code.Steps.{built_in_called}
+use Rattle.cad_expression_leaves.specs.Code.Steps.{built_in_called}
 use Rattle.cad_evaluation.specs.Builtins as built_in
 use Rattle.cad_outcomes.proofs.Steps.{does_same}
 use Rattle.cad_state.specs.Views.{state_over}

@@ -3,17 +3,17 @@ use Rattle.cad_rows.specs.Views.{pure_row}
 use Rattle.cad_outcomes.specs.Outcomes.{no_value}
 use Rattle.cad_evaluation.specs.Builtins.{member}
 use Rattle.cad_expressions.proofs.Forms.{bind_assoc}
-use Rattle.cad_expressions.specs.Code.Steps.{member_called}
+use Rattle.cad_expression_leaves.specs.Code.Steps.{member_called}
 use Rattle.cad_labels.specs.Laws.{AnyOne}
 use Rattle.cad_labels.proofs.Forms.{keeps_spend}
-use Rattle.cad_receivers.specs.Views.{receiver_of}
+use Rattle.cad_expression_leaves.specs.Passed.{receiver_of}
 use Rattle.cad_rows.specs.declared.tree.Tree.{Tree}
 use Rattle.cad_state.specs.Views.{state_over}
 use Rattle.cad_state.proofs.Finding.{find_any, find_same, find_stopped, find_then}
 use Rattle.cad_syntax.specs.Types.{pure_type}
 use Rattle.cad_world.specs.Receivers.{look_at}
 use Rattle.cad_world.specs.State.{tick, ◌>>=◌}
-use Rattle.cad_expressions.specs.Views.{tree_in}
+use Rattle.cad_expression_leaves.specs.Views.{tree_in}
 use Rattle.std.specs.Global.{Box}
 use Rattle.cad_expressions.proofs.uses.call_member_with.Goals as goal
 

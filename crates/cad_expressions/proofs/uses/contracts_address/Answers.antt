@@ -1,7 +1,7 @@
 use Rattle.cad_evaluation.specs.Accounts.{account_in_value}
 use Rattle.cad_evaluation.specs.Texts.{in_tree}
-use Rattle.cad_receivers.proofs.Passing.{after_settled, settled_stops}
-use Rattle.cad_receivers.specs.Views.{receiver_of}
+use Rattle.cad_expression_leaves.proofs.Passed.{after_settled, settled_stops}
+use Rattle.cad_expression_leaves.specs.Passed.{receiver_of}
 use Rattle.cad_syntax.specs.declared.address.Address.{Address}
 use Rattle.cad_syntax.specs.declared.types.Basic.TheVariants.{AccountContracts}
 use Rattle.cad_world.specs.State.{give, with_some}

@@ -2,16 +2,16 @@ use Rattle.std.proofs.Common.{ℕ, Err}
 use Rattle.cad_rows.specs.Views.{pure_row}
 use Rattle.cad_labels.specs.Laws.{AnyOne}
 use Rattle.cad_expressions.proofs.Calls.{method_same, aimed_again_keeps}
-use Rattle.cad_expressions.specs.Code.Steps.{aimed_again, method_called}
+use Rattle.cad_expression_leaves.specs.Code.Steps.{aimed_again, method_called}
 use Rattle.cad_evaluation.specs.Callees.{method}
-use Rattle.cad_receivers.specs.Uses.{aimed}
-use Rattle.cad_receivers.specs.Views.{receiver_of}
+use Rattle.cad_expression_leaves.specs.Passed.{aimed}
+use Rattle.cad_expression_leaves.specs.Passed.{receiver_of}
 use Rattle.cad_state.specs.Views.{state_over}
 use Rattle.cad_state.proofs.Finding.{find_same, find_stopped, find_then}
 use Rattle.cad_syntax.specs.declared.type_id.TypeId.{TypeId}
 use Rattle.cad_world.specs.State.{◌>>=◌}
 use Rattle.cad_rows.specs.declared.tree.Tree.{Tree}
-use Rattle.cad_expressions.specs.Views.{tree_in}
+use Rattle.cad_expression_leaves.specs.Views.{tree_in}
 use Rattle.std.specs.Global.{Box}
 use Rattle.cad_expressions.proofs.uses.invoke.Goals as goal
 

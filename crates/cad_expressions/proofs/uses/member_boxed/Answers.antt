@@ -1,9 +1,9 @@
 use Rattle.std.proofs.Common.{map}
 use Rattle.cad_evaluation.specs.Builtins.{member}
-use Rattle.cad_receivers.specs.Views.{at_spot, receiver_of}
+use Rattle.cad_expression_leaves.specs.Passed.{at_spot, receiver_of}
 use Rattle.cad_rows.specs.Views.{pure_row}
 use Rattle.cad_syntax.specs.Types.{pure_type}
-use Rattle.cad_expressions.proofs.Boxing.{finds_boxed}
+use Rattle.cad_expression_leaves.proofs.Boxing.{finds_boxed}
 use Rattle.cad_expressions.proofs.uses.member_boxed.Goals as goal
 
 pub returns : goal.returns

@@ -1,11 +1,11 @@
 use Rattle.std.proofs.Common.{map, subst, sym}
 use Rattle.cad_evaluation.specs.Builtins.{member}
-use Rattle.cad_receivers.specs.Views.{at_spot, receiver_of}
+use Rattle.cad_expression_leaves.specs.Passed.{at_spot, receiver_of}
 use Rattle.cad_rows.specs.Views.{pure_row}
 use Rattle.cad_state.specs.Views.{FindsAndCarriesOut}
 use Rattle.cad_syntax.specs.Types.{pure_type}
 use Rattle.cad_types.specs.declared.builtin.Builtin.{Builtin}
-use Rattle.cad_expressions.specs.Views.{tree_in}
+use Rattle.cad_expression_leaves.specs.Views.{tree_in}
 use Rattle.cad_expressions.proofs.uses.use_member.Goals as goal
 
 pub returns-in-ContractsAdd : goal.returns-in-ContractsAdd

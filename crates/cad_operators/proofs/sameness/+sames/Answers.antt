@@ -9,7 +9,7 @@ use Rattle.cad_operators.proofs.sameness.+sames.Goals as goal
 pub same_entries-returns-then-a-b : goal.same_entries-returns-then-a-b
 same_entries-returns-then-a-b t c =
     entries_other (map pure_value c.args.a_keys.now) (map pure_value c.args.b_keys.now) c.args.a.now c.args.b.now
-    (sym c.are_entries.ensures ∙ c.if-not-are_entries.false) (sym c.are_entries-else-not-are_entries.ensures ∙ c.if-not-are_entries-2.false) c.if-a-b.true
+    (sym c.are_entries.ensures ∙ c.if-not-are_entries.false) (sym c.has_entries.ensures ∙ c.if-not-has_entries.false) c.if-a-b.true
 
 pub same_entries-returns-then-not-branch : goal.same_entries-returns-then-not-branch
 same_entries-returns-then-not-branch t c =
@@ -18,7 +18,7 @@ same_entries-returns-then-not-branch t c =
     let fs = keyed (map pure_value c.args.b_keys.now) (values_in (pure_row c.args.b.now)) in
     entries_stop c.loop-i.i c.args.a.now c.args.a_keys.now fs (all_under (keyed ks (values_in (pure_row c.args.a.now))) fs) c.in_ok-same_under.field-0 c.index-a-i.result c.index-a_keys-i.result
     c.loop-i-test.true whole c.index-a-i.is c.index-a_keys-i.is c.in_ok-same_under.ensures c.if-not-branch.true c.loop-i.invariant
-    ∙ entries_all ks (map pure_value c.args.b_keys.now) c.args.a.now c.args.b.now whole (sym c.are_entries-else-not-are_entries.ensures ∙ c.if-not-are_entries-2.false) c.if-a-b.false
+    ∙ entries_all ks (map pure_value c.args.b_keys.now) c.args.a.now c.args.b.now whole (sym c.has_entries.ensures ∙ c.if-not-has_entries.false) c.if-a-b.false
 
 pub same_entries-loop-i-preserved : goal.same_entries-loop-i-preserved
 same_entries-loop-i-preserved t c =
@@ -32,7 +32,7 @@ same_entries-returns t c =
     let ks = map pure_value c.args.a_keys.now in
     let fs = keyed (map pure_value c.args.b_keys.now) (values_in (pure_row c.args.b.now)) in
     entries_end c.loop-i.i c.args.a.now c.args.a_keys.now fs (all_under (keyed ks (values_in (pure_row c.args.a.now))) fs) (omega arith) whole c.loop-i.invariant
-    ∙ entries_all ks (map pure_value c.args.b_keys.now) c.args.a.now c.args.b.now whole (sym c.are_entries-else-not-are_entries.ensures ∙ c.if-not-are_entries-2.false) c.if-a-b.false
+    ∙ entries_all ks (map pure_value c.args.b_keys.now) c.args.a.now c.args.b.now whole (sym c.has_entries.ensures ∙ c.if-not-has_entries.false) c.if-a-b.false
 
 pub same_under-returns-in-Ok-Some : goal.same_under-returns-in-Ok-Some
 same_under-returns-in-Ok-Some t c =

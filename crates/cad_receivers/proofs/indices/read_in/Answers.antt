@@ -4,4 +4,4 @@ pub returns-in-Array : goal.returns-in-Array
 returns-in-Array c = rw c.in-Array.is c.read_in_array.ensures
 
 pub returns-in-Dictionary : goal.returns-in-Dictionary
-returns-in-Dictionary c = rw (c.in-Dictionary.is, ← c.as_slice.ensures.value) c.read_in_dictionary.ensures
+returns-in-Dictionary c = rw c.in-Dictionary.is c.read_in_dictionary.ensures

@@ -4,7 +4,8 @@ use Rattle.cad_commands.specs.Views.{pure_command}
 use Rattle.cad_commands.specs.declared.kinds.Command.{Command}
 use Rattle.cad_store.specs.Stores.{held}
 use Rattle.cad_serve.specs.Code.Programs.{code_of}
-use Rattle.cad_serve.proofs.Comings.{if_ok, comes_command, comes_script, comes_transaction}
+use Rattle.cad_serve.proofs.Comings.{comes_command, comes_script, comes_transaction}
+use Rattle.cad_serve_parts.proofs.Results.{if_ok}
 use Rattle.cad_serve.proofs.attempts.outcome_over.Goals as goal
 
 pub transaction_outcome-requires-clause-units : goal.transaction_outcome-requires-clause-units

@@ -6,7 +6,8 @@ use Rattle.cad_store.specs.Stores.{held}
 use Rattle.cad_world.specs.State as definition
 use Rattle.cad_worlds.specs.Standing.{world_of}
 use Rattle.cad_serve.specs.Code.Outcomes.{Comes}
-use Rattle.cad_serve.proofs.Comings.{if_ok, stands_kept}
+use Rattle.cad_serve.proofs.Comings.{stands_kept}
+use Rattle.cad_serve_parts.proofs.Results.{if_ok}
 use Rattle.cad_serve.proofs.commands.deploy_over.Goals as goal
 
 pub deploy_outcome-requires-clause-kept : goal.deploy_outcome-requires-clause-kept

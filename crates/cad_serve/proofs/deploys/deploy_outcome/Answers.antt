@@ -6,7 +6,8 @@ use Rattle.cad_store.specs.Stores.{held}
 use Rattle.cad_syntax.specs.declared.type_id.TypeId.{TypeId}
 use Rattle.cad_worlds.specs.Standing.{world_of}
 use Rattle.cad_serve.specs.Answer.{RunsDeploy, Does, nowhere, deploys}
-use Rattle.cad_serve.proofs.Comings.{if_ok, comes_as}
+use Rattle.cad_serve.proofs.Comings.{comes_as}
+use Rattle.cad_serve_parts.proofs.Results.{if_ok}
 use Rattle.cad_serve.proofs.deploys.deploy_outcome.Goals as goal
 
 pub returns-then-not-has_account : goal.returns-then-not-has_account

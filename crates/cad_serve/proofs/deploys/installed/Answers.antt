@@ -9,7 +9,8 @@ use Rattle.cad_runs.specs.Commands.{failed}
 use Rattle.cad_store.specs.Stores.{held}
 use Rattle.cad_transaction_replies.specs.Replies as spec
 use Rattle.cad_worlds.specs.Standing.{world_of}
-use Rattle.cad_serve.proofs.Comings.{if_ok, comes_as}
+use Rattle.cad_serve.proofs.Comings.{comes_as}
+use Rattle.cad_serve_parts.proofs.Results.{if_ok}
 use Rattle.cad_serve.proofs.deploys.installed.Goals as goal
 
 pub returns : goal.returns

@@ -5,7 +5,7 @@ use Rattle.cad_runs.specs.Commands.{failed, rejected}
 use Rattle.cad_state.specs.Views.{contract_of}
 use Rattle.cad_state.specs.declared.state.Contract.{Contract}
 use Rattle.cad_serve.specs.Answer.{name_taken, refused_deploy}
-use Rattle.cad_serve.proofs.Comings.{if_ok}
+use Rattle.cad_serve_parts.proofs.Results.{if_ok}
 use Rattle.cad_serve.proofs.deploys.outcome_at.Goals as goal
 
 -- the contracts that were looked through are those of the World (`as_slice`)

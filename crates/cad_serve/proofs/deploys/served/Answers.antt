@@ -10,7 +10,8 @@ use Rattle.cad_store.specs.Stores.{held}
 use Rattle.cad_transaction_replies.specs.Replies as spec
 use Rattle.cad_worlds.specs.Standing.{world_of}
 use Rattle.cad_serve.specs.Answer.{RunsDeploy, installs}
-use Rattle.cad_serve.proofs.Comings.{if_ok, comes_as}
+use Rattle.cad_serve.proofs.Comings.{comes_as}
+use Rattle.cad_serve_parts.proofs.Results.{if_ok}
 use Rattle.cad_serve.proofs.deploys.served.Goals as goal
 
 -- the bytes are those of the code that was handed on (`as_bytes`)

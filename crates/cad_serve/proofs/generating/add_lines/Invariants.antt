@@ -2,7 +2,7 @@ use Rattle.std.proofs.Common.{◌≡◌, ◌++◌, ℕ, List, take}
 use Rattle.cad_store.specs.Stores.{held, room_of, IsOn}
 use Rattle.cad_world.specs.State.{World}
 use Rattle.cad_serve.specs.Code.Counted.{HasRunAll}
-use Rattle.cad_serve.specs.Code.Worlds.{AreSound}
+use Rattle.cad_serve_parts.specs.Code.Worlds.{AreSound}
 use Rattle.cad_serve.proofs.generating.add_lines.Given as goal
 
 abbrev pub invariant-loop-line : goal.invariant-loop-line

@@ -4,7 +4,7 @@ use Rattle.cad_generation.specs.Numbers.{number}
 use Rattle.cad_store.specs.Stores.{held, room_of, IsOn}
 use Rattle.cad_world.specs.State.{World}
 use Rattle.cad_serve.specs.Code.Counted.{HasRunAll}
-use Rattle.cad_serve.specs.Code.Worlds.{AreSound}
+use Rattle.cad_serve_parts.specs.Code.Worlds.{AreSound}
 use Rattle.cad_serve.proofs.generating.add_transfers.Given as goal
 
 abbrev pub invariant-loop : goal.invariant-loop

@@ -2,7 +2,7 @@ use Rattle.std.proofs.Common.{refl, arith, ◌≤◌, length}
 use Rattle.std.proofs.lemmas.Result.{IfOk-weaker}
 use Rattle.cad_runs.specs.Commands.{bad}
 use Rattle.cad_serve.specs.Answer.{too_long}
-use Rattle.cad_serve.specs.Held.{longest}
+use Rattle.cad_serve_parts.specs.Held.{longest}
 use Rattle.cad_serve.proofs.Readies.{answers_line}
 use Rattle.cad_serve.proofs.generating.run_line.Goals as goal
 

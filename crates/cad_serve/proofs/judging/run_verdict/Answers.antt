@@ -4,7 +4,7 @@ use Rattle.cad_check.specs.Answers.{TextVerdict}
 use Rattle.cad_loads.specs.Loads.{entries_of, loaded_of}
 use Rattle.cad_state.specs.Views.{contract_of}
 use Rattle.cad_world.specs.State.{Contract, World}
-use Rattle.cad_serve.proofs.Comings.{if_ok}
+use Rattle.cad_serve_parts.proofs.Results.{if_ok}
 use Rattle.cad_serve.proofs.judging.run_verdict.Goals as goal
 
 -- the contracts that were listed are those of the World (`as_slice`)

@@ -4,7 +4,7 @@ use Rattle.cad_store.specs.Stores.{held}
 use Rattle.cad_transaction_replies.specs.Replies.{leads}
 use Rattle.cad_world.specs.State.{World}
 use Rattle.cad_serve.specs.Answer.{spent, made, one_more, Does}
-use Rattle.cad_serve.specs.Code.Worlds.{LeadsOn}
+use Rattle.cad_serve_parts.specs.Code.Worlds.{LeadsOn}
 use Rattle.cad_serve.proofs.OneMoreAccount.{counted, one_more_is}
 use Rattle.cad_serve.proofs.making.account_outcome.Goals as goal
 

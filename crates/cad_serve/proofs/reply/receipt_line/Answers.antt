@@ -3,7 +3,7 @@ use Rattle.std.specs.Prelude.{List, ℕ}
 use Rattle.serde_json.specs.Data.{array}
 use Rattle.serde_json.specs.Written.{compact_text}
 use Rattle.cad_serve.specs.Answer.{number_items}
-use Rattle.cad_serve.proofs.Comings.{if_ok}
+use Rattle.cad_serve_parts.proofs.Results.{if_ok}
 use Rattle.cad_serve.proofs.Receipts.{receipt_told}
 use Rattle.cad_serve.proofs.reply.receipt_line.Goals as goal
 

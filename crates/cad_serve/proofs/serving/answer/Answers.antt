@@ -1,7 +1,7 @@
 use Rattle.std.proofs.Common.{◌∷◌, [], subst, sym}
 use Rattle.cad_worlds.specs.Standing.{StandsFor}
 use Rattle.cad_accounts.specs.Registers.{applied}
-use Rattle.cad_serve.specs.Code.Worlds.{AreSound}
+use Rattle.cad_serve_parts.specs.Code.Worlds.{AreSound}
 use Rattle.cad_store.specs.Stores.{held}
 use Rattle.cad_serve.specs.Code.Progress.{Said, Halted}
 use Rattle.cad_serve.proofs.Saids.{memory_here, stays_said, stays_broke, on_told}

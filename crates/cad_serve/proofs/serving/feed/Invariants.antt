@@ -1,6 +1,6 @@
 use Rattle.std.proofs.Common.{◌≡◌, take}
 use Rattle.cad_host.specs.Disk.{taken}
-use Rattle.cad_serve.specs.Code.Worlds.{AreSound}
+use Rattle.cad_serve_parts.specs.Code.Worlds.{AreSound}
 use Rattle.cad_store.specs.Stores.{held, room_of, IsOn}
 use Rattle.cad_serve.specs.Code.Progress.{Goes}
 use Rattle.cad_serve.proofs.serving.feed.Given as goal

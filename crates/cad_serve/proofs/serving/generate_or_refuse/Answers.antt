@@ -1,6 +1,6 @@
 use Rattle.std.proofs.Common.{subst}
 use Rattle.cad_serve.specs.Generated.{IsCountsLine}
-use Rattle.cad_serve.proofs.Numerals.{one_asked}
+use Rattle.cad_serve_parts.proofs.Numerals.{one_asked}
 use Rattle.cad_serve.proofs.serving.generate_or_refuse.Goals as goal
 
 pub returns-in-Some-clause-done : goal.returns-in-Some-clause-done

@@ -1,7 +1,7 @@
 use Rattle.std.proofs.Common.{inl, inr, sym, ◌∙◌, subst, ap, Err}
 use Rattle.cad_store.specs.Opening.{opened}
 use Rattle.cad_store.specs.declared.store.Store.{Store}
-use Rattle.cad_serve.specs.Lines.{commands}
+use Rattle.cad_serve_parts.specs.Lines.{commands}
 use Rattle.cad_serve.specs.Crashes.{in_opening}
 use Rattle.cad_serve.specs.Ending.{HasRun}
 use Rattle.cad_serve.specs.Code.Ending.{EndsOpening, IsCausedBy}

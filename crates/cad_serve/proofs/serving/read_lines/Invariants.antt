@@ -1,7 +1,7 @@
 use Rattle.std.proofs.Common.{◌≡◌, ◌≤◌, ◌<◌, ◌+◌, ◌-◌, length}
 use Rattle.cad_world.specs.State.{World}
 use Rattle.cad_worlds.specs.Standing.{StandsFor}
-use Rattle.cad_serve.specs.Code.Worlds.{AreSound}
+use Rattle.cad_serve_parts.specs.Code.Worlds.{AreSound}
 use Rattle.cad_store.specs.Stores.{held, room_of, IsOn}
 use Rattle.cad_serve.specs.Code.Progress.{Between}
 use Rattle.cad_serve.specs.Code.Ending.{input_bound}

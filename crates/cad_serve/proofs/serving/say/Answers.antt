@@ -1,4 +1,4 @@
-use Rattle.cad_serve.specs.Lines.{is_command}
+use Rattle.cad_serve_parts.specs.Lines.{is_command}
 use Rattle.cad_serve.proofs.Tellings.{is_blank_line, is_command_line, blank_said, command_said, command_stops}
 use Rattle.cad_serve.proofs.serving.say.Goals as goal
 

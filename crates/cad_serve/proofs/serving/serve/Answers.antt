@@ -2,7 +2,7 @@ use Rattle.std.proofs.Common.{inl, inr, ⊎_elim, sym, subst}
 use Rattle.cad_store.specs.Opening.{opened}
 use Rattle.cad_serve.specs.Ending.{HasRun}
 use Rattle.cad_serve.specs.Code.Ending.{Leaves, EndsOpening, IsCausedBy}
-use Rattle.cad_serve.proofs.Numerals.{is_other, one_form}
+use Rattle.cad_serve_parts.proofs.Numerals.{is_other, one_form}
 use Rattle.cad_serve.proofs.Runs.{ends_begin}
 use Rattle.cad_serve.proofs.Openings.{opening_begins, no_input_fault, no_output_fault, no_disk_fault}
 use Rattle.cad_serve.proofs.serving.serve.Goals as goal

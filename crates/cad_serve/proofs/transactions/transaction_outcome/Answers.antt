@@ -5,7 +5,8 @@ use Rattle.cad_runs.specs.Commands.{transaction}
 use Rattle.cad_store.specs.Stores.{held}
 use Rattle.cad_transaction_replies.specs.Replies as spec
 use Rattle.cad_serve.specs.Answer.{Does, comes, transacts}
-use Rattle.cad_serve.proofs.Comings.{if_ok, comes_as}
+use Rattle.cad_serve.proofs.Comings.{comes_as}
+use Rattle.cad_serve_parts.proofs.Results.{if_ok}
 use Rattle.cad_serve.proofs.transactions.transaction_outcome.Goals as goal
 
 pub returns : goal.returns

@@ -15,4 +15,4 @@ returns-in-Array c =
 pub returns-in-Dictionary : goal.returns-in-Dictionary
 returns-in-Dictionary c =
     subst (λ (k : Shape). Gives location_of (element_at (pure_tree c.args.index.now) c.args.label (pure_shape k)) c.entry_location.result) (sym c.in-Dictionary.is)
-    (c.entry_location.ensures (pure_type c.in-Dictionary.key) (pure_type c.in-Dictionary.value) (map pure_value c.in-Dictionary.keys.items))
+    (c.entry_location.ensures (pure_type c.in-Dictionary.key) (pure_type c.in-Dictionary.value) (map pure_value c.in-Dictionary.keys))

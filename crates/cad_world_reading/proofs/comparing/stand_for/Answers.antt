@@ -2,14 +2,11 @@ use Rattle.std.proofs.Common.{◌∙◌, sym}
 use Rattle.std.proofs.lemmas.Bool.{false≢true}
 use Rattle.cad_worlds.specs.RowLists.{rows_listed}
 use Rattle.cad_worlds.specs.Standing.{world_of}
-use Rattle.cad_world_reading.proofs.ReadBack.{judged, not_sound, no_bytes}
+use Rattle.cad_world_reading.proofs.ReadBack.{not_sound}
 use Rattle.cad_world_reading.proofs.comparing.stand_for.Goals as goal
 
 pub returns-then-not-branch : goal.returns-then-not-branch
 returns-then-not-branch c = not_sound (rows_listed c.args.list) (world_of c.args.world.now) (λ s. false≢true (sym c.if-not-branch.true ∙ c.in_ok-is_sound_world.ensures.1 s))
 
-pub returns-then-not-branch-2 : goal.returns-then-not-branch-2
-returns-then-not-branch-2 c = no_bytes (rows_listed c.args.list) (world_of c.args.world.now) (λ s. false≢true (sym c.if-not-branch-2.true ∙ c.in_ok-has_bytes.ensures.1 s))
-
-pub returns : goal.returns
-returns c = judged c.in_ok-are.are (rows_listed c.args.list) (world_of c.args.world.now) (c.in_ok-is_sound_world.ensures.0 c.if-not-branch.false) (c.in_ok-has_bytes.ensures.0 c.if-not-branch-2.false) c.in_ok-are.ensures
+pub are_registers-requires-clause-sound : goal.are_registers-requires-clause-sound
+are_registers-requires-clause-sound c = c.in_ok-is_sound_world.ensures.0 c.if-not-branch.false

@@ -7,3 +7,6 @@ returns-in-Ok-true-clause-found c = (refl, c.in-Ok-true.ensures.0 c.in-Ok-true.f
 
 pub returns-in-Ok-false-clause-only : goal.returns-in-Ok-false-clause-only
 returns-in-Ok-false-clause-only c st = absurd (false≢true (sym c.in-Ok-false.field-0-test ∙ c.in-Ok-false.ensures.1 st))
+
+pub stand_for-requires : goal.stand_for-requires
+stand_for-requires c = c.requires

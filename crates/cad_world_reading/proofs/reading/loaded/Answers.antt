@@ -28,3 +28,6 @@ returns-in-Ok-Some-clause-only c v is sound st =
 pub returns-in-Ok-None-clause-only : goal.returns-in-Ok-None-clause-only
 returns-in-Ok-None-clause-only c v is sound st =
     absurd (loading.none_loads c.args.parts c.as_slice.result.now c.as_slice.ensures.value c.in-Ok-None.field-0 c.in-Ok-None.ensures v c.in-Ok-None.field-0-is is sound)
+
+pub with_programs-requires-clause-made : goal.with_programs-requires-clause-made
+with_programs-requires-clause-made c = c.requires

@@ -13,3 +13,6 @@ returns-in-Ok-clause-only c a v st = only (rows_listed c.args.list) c.in-Ok.part
 
 pub returns-in-Err-Damaged-clause-only : goal.returns-in-Err-Damaged-clause-only
 returns-in-Err-Damaged-clause-only c a v st = absurd (none_made (rows_listed c.args.list) v c.in-Err-Damaged.field-0 c.in-Err-Damaged.field-0-is c.in-Err-Damaged.ensures a st)
+
+pub loaded-requires : goal.loaded-requires
+loaded-requires c = c.in-Ok.ensures

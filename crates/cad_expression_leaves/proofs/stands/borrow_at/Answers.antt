@@ -1,0 +1,10 @@
+use Rattle.std.proofs.Common.{refl}
+use Rattle.cad_expression_leaves.proofs.Boxing.{boxed_on}
+use Rattle.cad_expression_leaves.proofs.Going.{goes_stopped}
+use Rattle.cad_expression_leaves.proofs.stands.borrow_at.Goals as goal
+
+pub returns-in-Ok : goal.returns-in-Ok
+returns-in-Ok c = boxed_on _ _ _ _ _ _ _ _ c.borrow.result c.boxed.result c.in-Ok.is refl c.boxed.ensures c.borrow.ensures
+
+pub returns-in-Err : goal.returns-in-Err
+returns-in-Err c = goes_stopped _ _ _ _ _ _ _ _ c.in-Err.is

@@ -1,0 +1,8 @@
+use Rattle.std.proofs.Common.{Ok, ap, sym}
+use Rattle.cad_evaluation.specs.Numbers.{bool_tree}
+use Rattle.cad_world.specs.State.{give, ok}
+use Rattle.cad_expression_leaves.proofs.Boxing.{gives_boxed}
+use Rattle.cad_expression_leaves.proofs.values.boxed_truth.Goals as goal
+
+pub returns : goal.returns
+returns c = gives_boxed (give (bool_tree c.args.truth)) (Ok c.bool_tree.result) c.boxed.result c.boxed.ensures (λ s. ap (λ t. ok t s) (sym c.bool_tree.ensures))

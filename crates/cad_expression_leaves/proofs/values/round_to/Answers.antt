@@ -1,0 +1,13 @@
+use Rattle.std.proofs.Common.{ap}
+use Rattle.cad_rows.specs.Views.{pure_tree}
+use Rattle.cad_expression_leaves.proofs.Boxing.{boxed_given}
+use Rattle.cad_expression_leaves.proofs.Going.{goes_stopped}
+use Rattle.cad_expression_leaves.specs.Code.Steps.{rounded_to}
+use Rattle.cad_expression_leaves.proofs.values.round_to.Goals as goal
+
+pub returns-in-Ok : goal.returns-in-Ok
+unfolding rounded_to
+returns-in-Ok c y = boxed_given _ _ _ _ _ _ _ c.round.result c.boxed.result c.in-Ok.is (ap pure_tree c.unboxed.ensures) c.boxed.ensures c.round.ensures
+
+pub returns-in-Err : goal.returns-in-Err
+returns-in-Err c y = goes_stopped _ _ _ _ _ _ _ _ c.in-Err.is

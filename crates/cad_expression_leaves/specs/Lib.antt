@@ -1,0 +1,4 @@
+pub mod Code
+pub mod EventCalls
+pub mod Views
+pub mod Passed

@@ -1,0 +1,5 @@
+pub mod Alike
+pub mod Changes
+pub mod Kept
+pub mod Tests
+pub mod Walks

@@ -1,0 +1,5 @@
+//! Tests of keys of dictionaries.
+#![tactic(auto)]
+
+#[cfg(test)]
+mod tests;

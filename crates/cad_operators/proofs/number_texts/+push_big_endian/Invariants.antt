@@ -1,4 +1,0 @@
-use Rattle.cad_operators.proofs.number_texts.+push_big_endian.Given as goal
-
-abbrev pub decreases-push_big_endian : goal.decreases-push_big_endian
-decreases-push_big_endian l = l.count

@@ -1,8 +1,0 @@
-use Rattle.std.proofs.Common.{◌≡◌, ◌+◌, drop, map, option_map}
-use Rattle.cad_values.specs.Values.{pure_value}
-use Rattle.cad_world.specs.Locations as locations
-use Rattle.cad_operators.proofs.sameness.key_position.Given as goal
-
-abbrev pub invariant-loop-i : goal.invariant-loop-i
-invariant-loop-i l =
-    option_map (λ n. l.i + n) (locations.key_position (pure_value l.key) (map pure_value (drop l.i l.keys))) ≡ locations.key_position (pure_value l.key) (map pure_value l.keys)
