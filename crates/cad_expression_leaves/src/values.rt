@@ -30,8 +30,9 @@ use cad_members::{
 };
 use cad_operators::{bool_tree, nil_tree, truth_in, truth_only};
 use cad_outcomes::Stop;
-use cad_receivers::{Receiver, cast, index};
+use cad_receivers::{Receiver, cast};
 use cad_rows::{Place, Tree, discard_row, discard_tree};
+use cad_selections::index;
 use cad_state::RunState;
 use cad_syntax::CadType;
 use std::alloc::Global;
