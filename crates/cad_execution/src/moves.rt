@@ -71,7 +71,7 @@ pub(crate) fn exchange(
 ) -> Result<Box<Tree>, Stop>
     ensures { FindsAndCarriesOut tree_in (changing.exchanged (location_of location.now) (pure_type own.now) (tree_in value)) state.old state.new result }
 {
-    boxed(cad_locations::exchange(state, location, own, unboxed(value)))
+    boxed(cad_assignments::exchange(state, location, own, unboxed(value)))
 }
 
 /// A value is assigned to a location.
@@ -83,7 +83,7 @@ pub(crate) fn assign(
 ) -> Result<(), Stop>
     ensures { FindsAndCarriesOut no_value (changing.assigned (location_of location.now) (tree_in value)) state.old state.new result }
 {
-    cad_locations::assign(state, location, unboxed(value))
+    cad_assignments::assign(state, location, unboxed(value))
 }
 
 /// A value comes to a location that is nil.
@@ -95,7 +95,7 @@ pub(crate) fn force_assign(
 ) -> Result<(), Stop>
     ensures { FindsAndCarriesOut no_value (changing.force_assigned (location_of location.now) (tree_in value)) state.old state.new result }
 {
-    cad_locations::force_assign(state, location, unboxed(value))
+    cad_assignments::force_assign(state, location, unboxed(value))
 }
 
 /// A value goes; IllTyped where there is a resource in it.

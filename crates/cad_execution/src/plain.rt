@@ -200,7 +200,7 @@ fn swap_with<C: Callees>(
 {
     match locate(right, callees, state) {
         Ok(location) => {
-            let flow = next(cad_locations::swap(state, left, left_type, &location, right_type));
+            let flow = next(cad_assignments::swap(state, left, left_type, &location, right_type));
             discard_location(location);
             flow
         }
