@@ -2,9 +2,9 @@ use Rattle.std.proofs.Common.{map, subst, arith}
 use Rattle.serde_json.specs.View.{view}
 use Rattle.cad_rows.specs.Views.{pure_row}
 use Rattle.cad_shapes.specs.Held.{shapes_of}
-use Rattle.cad_script_replies.specs.Code.{Adds}
-use Rattle.cad_script_replies.proofs.Turns.{turn, type_at, stands_not, lacks, ends}
-use Rattle.cad_script_replies.proofs.arguments.push_arguments.Goals as goal
+use Rattle.cad_run_worlds.specs.Code.{Adds}
+use Rattle.cad_run_worlds.proofs.Turns.{turn, type_at, stands_not, lacks, ends}
+use Rattle.cad_run_worlds.proofs.arguments.push_arguments.Goals as goal
 
 pub returns-in_default : goal.returns-in_default
 returns-in_default c =

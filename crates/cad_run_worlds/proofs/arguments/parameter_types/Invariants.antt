@@ -2,7 +2,7 @@ use Rattle.std.proofs.Common.{◌≡◌, ◌++◌, drop, map}
 use Rattle.cad_declarations.specs.Views.{variable_of}
 use Rattle.cad_runs.specs.Commands.{types_of}
 use Rattle.cad_syntax.specs.Types.{pure_type}
-use Rattle.cad_script_replies.proofs.arguments.parameter_types.Given as goal
+use Rattle.cad_run_worlds.proofs.arguments.parameter_types.Given as goal
 
 abbrev pub invariant-loop-parameter : goal.invariant-loop-parameter
 invariant-loop-parameter l =

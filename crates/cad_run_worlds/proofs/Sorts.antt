@@ -19,7 +19,7 @@ use Rattle.cad_world.specs.Declared.{types_of}
 use Rattle.cad_world.specs.Shapes.{shape_of_entry, shapes}
 use Rattle.cad_world.specs.State.{Contract}
 use Rattle.cad_contract_shapes.specs.Sorts.{sort_of_entry, sorts}
-use Rattle.cad_script_replies.specs.Replies.{told_if, told_value}
+use Rattle.cad_run_worlds.specs.Replies.{told_if, told_value}
 
 -- ---- lists of declarations with the same sorts
 

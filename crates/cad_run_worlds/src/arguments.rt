@@ -5,7 +5,7 @@ ghost use Rattle.cad_contract_shapes.specs.Arguments.{argument_shapes, HasDistin
 ghost use Rattle.cad_declarations.specs.Views.{tables_of, variable_of};
 ghost use Rattle.cad_rows.specs.Views.{pure_row};
 ghost use Rattle.cad_runs.specs.Commands.{types_of};
-ghost use Rattle.cad_script_replies.specs.Code.{Adds, AddsAll, IsRow};
+ghost use Rattle.cad_run_worlds.specs.Code.{Adds, AddsAll, IsRow};
 ghost use Rattle.cad_shapes.specs.Held.{shapes_of};
 ghost use Rattle.cad_syntax.specs.Types.{pure_type};
 ghost use Rattle.cad_values.specs.Values.{pure_value};

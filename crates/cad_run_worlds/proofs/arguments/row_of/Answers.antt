@@ -5,10 +5,10 @@ use Rattle.serde_json.specs.View.{view}
 use Rattle.cad_rows.specs.Views.{pure_row}
 use Rattle.cad_rows.specs.declared.tree.Place.{Place}
 use Rattle.cad_values.specs.Shapes.{Shapes}
-use Rattle.cad_script_replies.specs.Code.{IsRow}
-use Rattle.cad_script_replies.proofs.Told.{all_ok}
-use Rattle.cad_script_replies.proofs.Turns.{type_at}
-use Rattle.cad_script_replies.proofs.arguments.row_of.Goals as goal
+use Rattle.cad_run_worlds.specs.Code.{IsRow}
+use Rattle.cad_run_worlds.proofs.Arguments.{all_ok}
+use Rattle.cad_run_worlds.proofs.Turns.{type_at}
+use Rattle.cad_run_worlds.proofs.arguments.row_of.Goals as goal
 
 pub returns-clause-row : goal.returns-clause-row
 returns-clause-row c =

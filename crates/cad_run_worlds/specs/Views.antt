@@ -3,8 +3,8 @@ use Rattle.std.specs.Prelude.{◌≡◌}
 use Rattle.serde_json.specs.Data.{Data}
 use Rattle.serde_json.specs.Written.{compact_text}
 use Rattle.cad_runs.specs.Commands.{Reply, result, failed, limit, bad, ill}
-use Rattle.cad_script_replies.specs.declared.reply.ScriptReply.{ScriptReply}
-use Rattle.cad_script_replies.specs.declared.reply.ScriptReply.TheVariants as script
+use Rattle.cad_run_worlds.specs.declared.reply.ScriptReply.{ScriptReply}
+use Rattle.cad_run_worlds.specs.declared.reply.ScriptReply.TheVariants as script
 
 -- a result by its compact text, refusals and errors by their numbers
 abbrev pub Tells : ScriptReply → Reply Data → Type 0

@@ -7,9 +7,9 @@ use Rattle.cad_declarations.specs.Views.{tables_of}
 use Rattle.cad_rows.specs.Views.{pure_row}
 use Rattle.cad_rows.specs.declared.tree.Place.{Place}
 use Rattle.cad_syntax.specs.Types.{PureType}
-use Rattle.cad_script_replies.specs.Code.{IsRow}
-use Rattle.cad_script_replies.proofs.Turns.{type_at}
-use Rattle.cad_script_replies.proofs.arguments.row_for.Goals as goal
+use Rattle.cad_run_worlds.specs.Code.{IsRow}
+use Rattle.cad_run_worlds.proofs.Turns.{type_at}
+use Rattle.cad_run_worlds.proofs.arguments.row_for.Goals as goal
 
 pub returns-clause-row : goal.returns-clause-row
 returns-clause-row c =

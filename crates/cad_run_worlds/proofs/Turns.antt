@@ -13,8 +13,8 @@ use Rattle.cad_json.specs.Read.{JsonOf}
 use Rattle.cad_rows.proofs.CopyLaws.{join_stop}
 use Rattle.cad_world.specs.Rows.{Row, stop, gap, node, Tree, first, join, add_last}
 use Rattle.cad_world.specs.Trees.{tree_of}
-use Rattle.cad_script_replies.specs.Code.{Adds, AddsAll}
-use Rattle.cad_script_replies.specs.Replies.{AreArguments, none, one}
+use Rattle.cad_run_worlds.specs.Code.{Adds, AddsAll}
+use Rattle.cad_run_worlds.specs.Replies.{AreArguments, none, one}
 
 -- ---- what arguments are made of
 

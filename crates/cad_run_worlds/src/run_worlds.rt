@@ -1,12 +1,18 @@
 // Worlds over which programs run.
 ghost use Rattle.std.specs.Prelude.{◌≡◌, List};
-ghost use Rattle.cad_script_replies.specs.Worlds.{run_world};
+ghost use Rattle.cad_run_worlds.specs.Worlds.{run_world};
+ghost use Rattle.cad_state.specs.Views.{program_of, state_over};
+ghost use Rattle.cad_world.specs.Begin.{begun};
 ghost use Rattle.cad_world.specs.State.{Account};
 ghost use Rattle.cad_worlds.specs.Parts.{world_over};
 ghost use Rattle.cad_worlds.specs.Standing.{world_of};
 
-use cad_state::{Accounts, Contract, discard_contracts, discard_run_accounts};
+use cad_declarations::Checked;
+use cad_run_starts::begin;
+use cad_state::{Accounts, Contract, RunState, discard_contracts, discard_run_accounts};
 use cad_worlds::{World, WorldPart};
+use std::alloc::Global;
+use std::rc::Rc;
 
 /// A World over which a program runs: all of it, or what is known of it.
 pub struct RunWorld {
@@ -50,6 +56,18 @@ pub fn of_part(part: WorldPart) -> RunWorld
         contracts,
         next_identity,
     }
+}
+
+/// The state in which a program begins over a World, with so many units. It takes no memory.
+pub fn begin_over(alloc: Global, checked: Rc<Checked>, world: RunWorld, units: u64) -> RunState
+    ensures { (base : List Account) → state_over base result ≡ begun (program_of checked.value) units (run_world base world) }
+{
+    let RunWorld {
+        accounts,
+        contracts,
+        next_identity,
+    } = world;
+    begin(alloc, checked, accounts, contracts, next_identity, units)
 }
 
 /// Lets go of it.
