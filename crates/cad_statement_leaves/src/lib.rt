@@ -7,12 +7,11 @@ mod leaves;
 mod moves;
 
 pub use flow::{Flow, discard_flow};
-pub use leaves::truth;
 
 // For cad_execution alone: how statements end, values that come out of their boxes or into them, events and cases.
 pub use ends::{case_end, case_ran, statement_end, turn_end};
 pub use flow::{close, give_back, leave, leave_switch, next};
-pub use leaves::{emit_row, is_case};
+pub use leaves::{emit_row, is_case, truth};
 pub use moves::{
     assign, boxed_content, cast_standing, elements_in, exchange, fill_counter, fill_variable,
     force_assign, let_go, next_element, transfer,
