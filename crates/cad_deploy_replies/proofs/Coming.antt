@@ -8,8 +8,8 @@ use Rattle.cad_deploys.specs.Passed.{initializer_types}
 use Rattle.cad_rows.specs.Views.{pure_row}
 use Rattle.cad_rows.specs.declared.tree.Place.{Place}
 use Rattle.cad_runs.specs.Commands.{failed}
-use Rattle.cad_script_replies.specs.Code.{IsRow}
-use Rattle.cad_script_replies.specs.Replies.{AreArguments}
+use Rattle.cad_run_worlds.specs.Code.{IsRow}
+use Rattle.cad_run_worlds.specs.Replies.{AreArguments}
 use Rattle.cad_state.specs.Views.{program_of}
 use Rattle.cad_syntax.specs.declared.type_id.TypeId.{TypeId}
 use Rattle.cad_transaction_replies.specs.Replies.{Outcome, stays}

@@ -7,7 +7,7 @@ use Rattle.cad_deploys.specs.Passed.{calls_to, initializer_types, is_contract_of
 use Rattle.cad_syntax.specs.declared.type_id.TypeId.{TypeId}
 use Rattle.cad_runs.specs.Commands.{failed}
 use Rattle.cad_runs.specs.Run.{bound, run_deploy}
-use Rattle.cad_script_replies.specs.Replies.{AreArguments}
+use Rattle.cad_run_worlds.specs.Replies.{AreArguments}
 use Rattle.cad_transaction_replies.specs.Replies.{Outcome, stays, settled}
 use Rattle.cad_world.specs.Begin.{begun}
 use Rattle.cad_world.specs.Fronts.{Front}

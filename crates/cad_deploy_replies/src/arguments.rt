@@ -4,14 +4,14 @@ ghost use Rattle.serde_json.specs.View.{view};
 ghost use Rattle.cad_contract_shapes.specs.Arguments.{argument_shapes, HasDistinctFields};
 ghost use Rattle.cad_deploys.specs.Passed.{initializer_types};
 ghost use Rattle.cad_rows.specs.Views.{pure_row};
-ghost use Rattle.cad_script_replies.specs.Code.{IsRow};
+ghost use Rattle.cad_run_worlds.specs.Code.{IsRow};
 ghost use Rattle.cad_state.specs.Views.{program_of};
 ghost use Rattle.cad_syntax.specs.Types.{pure_type};
 
 use cad_declarations::{Checked, Parameter};
 use cad_deploys::initializer_parameters;
 use cad_rows::Place;
-use cad_script_replies::row_of;
+use cad_run_worlds::row_of;
 use cad_syntax::{CadType, TypeId};
 use serde_json::Value as Json;
 use std::alloc::{AllocError, Global};

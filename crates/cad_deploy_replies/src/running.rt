@@ -11,10 +11,10 @@ ghost use Rattle.cad_world.specs.Begin.{IsKept};
 ghost use Rattle.cad_worlds.specs.Standing.{world_of};
 
 use cad_declarations::Checked;
-use cad_deploys::{new_contract, run_deploy};
+use cad_deploys::{FrontEnd, new_contract, run_deploy};
 use cad_discards::hold;
 use cad_rows::{Place, discard_row};
-use cad_script_replies::{FrontEnd, Unfinished, begin_over, of_world};
+use cad_run_worlds::{Unfinished, begin_over, of_world};
 use cad_state::{Contract, discard_contract};
 use cad_syntax::{Bytes, TypeId};
 use cad_transaction_replies::{TransactionOutcome, outcome_of_run, whole_outcome};

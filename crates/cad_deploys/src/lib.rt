@@ -6,4 +6,6 @@ mod deploying;
 pub use deploying::run_deploy;
 
 // What the crates above use of the ones below.
-pub use cad_installations::{initializer_parameters, is_contract_of, is_taken, new_contract};
+pub use cad_installations::{
+    FrontEnd, initializer_parameters, is_contract_of, is_taken, new_contract,
+};

@@ -3,7 +3,8 @@ use crate::running::{Closed, PLACE, checked, deployed, number_in, number_of, run
 use cad_declarations::Deployed;
 use cad_discards::discard_deployed;
 use cad_outcomes::Stop;
-use cad_scripts::{begin, run_script};
+use cad_run_starts::begin;
+use cad_scripts::run_script;
 use cad_state::{
     Account, Accounts, Contract, Known, RunState, discard_account, discard_accounts,
     discard_run_accounts, discard_shared, discard_state, discard_values,

@@ -1,4 +1,2 @@
 pub mod Code
 pub mod Replies
-pub mod Views
-pub mod Worlds

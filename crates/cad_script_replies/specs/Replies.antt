@@ -1,51 +1,30 @@
 -- What a script answers to its arguments, under a front end that is asked of codes.
-use Rattle.std.specs.Prelude.{◌≡◌, ◌≢◌, ℕ, Bool, true, false, List, [], ◌∷◌, length, Some, None}
+use Rattle.std.specs.Prelude.{◌≡◌, ◌≢◌, ℕ, List, length, Some, None}
 use Rattle.serde_json.specs.Data.{Data}
 use Rattle.cad_bounds.specs.Fronts.{Extends}
 use Rattle.cad_contract_shapes.specs.Arguments.{argument_shapes, HasDistinctFields}
-use Rattle.cad_syntax.specs.Types.{PureType}
-use Rattle.cad_types.specs.Declarations.{Declaration}
 use Rattle.cad_declarations.specs.Typed.{FunctionBody}
-use Rattle.cad_values.specs.Shapes.{Shapes, declarations}
+use Rattle.cad_values.specs.Shapes.{declarations}
 use Rattle.cad_values.specs.Values.{PureValue}
-use Rattle.cad_json.specs.Forms.{has_form}
-use Rattle.cad_json.specs.Read.{JsonOf}
-use Rattle.cad_json.specs.Told.{told}
 use Rattle.cad_world.specs.Begin.{begun}
 use Rattle.cad_world.specs.Fronts.{Front}
-use Rattle.cad_world.specs.Rows.{Row, stop, first}
+use Rattle.cad_world.specs.Rows.{Row}
 use Rattle.cad_world.specs.Shapes.{shapes}
 use Rattle.cad_world.specs.State as run
 use Rattle.cad_world.specs.State.{Outcome, Program, World}
-use Rattle.cad_world.specs.Trees.{tree_of}
 use Rattle.cad_evaluation.specs.Evaluation.{calls_to}
-use Rattle.cad_runs.specs.Commands.{Reply, result, failed, limit, bad, ill, main_of, types_of}
+use Rattle.cad_runs.specs.Commands.{Reply, failed, limit, bad, ill, main_of, types_of}
 use Rattle.cad_runs.specs.Run.{bound, run_script}
+use Rattle.cad_run_worlds.specs.Replies.{AreArguments, told_value}
 
--- ---- values
+-- ---- runs
 
--- JSON for each type, in order, and the row of the values that it stands for
-pub data AreArguments (k : Shapes) : List PureType → List Data → Row → Type 0 where
-  none : AreArguments k [] [] stop
-  one : {type : PureType} {types : List PureType} {json : Data} {all : List Data} {r : Row} (v : PureValue) → JsonOf k type v json → AreArguments k types all r
-      → AreArguments k (type ∷ types) (json ∷ all) (first (tree_of v) r)
-
--- a result that is told: 134 where a part of it has no form
-abbrev pub told_if : List Declaration → Bool → PureValue → Reply Data
-told_if declared true v = result (told declared v)
-told_if declared false v = failed 134
-
-abbrev pub told_value : List Declaration → PureValue → Reply Data
-told_value declared v = told_if declared (has_form declared v) v
-
--- by what the contracts of the state at the end declare
+-- a result by what the contracts of the state at the end declare
 abbrev pub told_reply : Outcome PureValue → Reply Data
 told_reply (run.ok v s) = told_value (declarations (shapes s.contracts)) v
 told_reply (run.failed n) = failed n
 told_reply run.limit = limit
 told_reply run.ill = ill
-
--- ---- runs
 
 -- `main` runs over a World on a row of arguments with so many units, and this is told of it
 abbrev pub Ran : Front → World → Program → Row → ℕ → Reply Data → Type 0

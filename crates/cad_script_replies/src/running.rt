@@ -1,50 +1,40 @@
 // The run of a script's `main`, and what is told of it.
-ghost use Rattle.std.specs.Prelude.{◌≡◌, ◌≢◌, ◌≤◌, IfOk, List, Ok, Some, map};
+ghost use Rattle.std.specs.Prelude.{◌≡◌, ◌≢◌, ◌≤◌, IfOk, Ok, Some, map};
 ghost use Rattle.serde_json.specs.Data.{Data};
 ghost use Rattle.cad_rows.specs.Views.{pure_row};
 ghost use Rattle.cad_runs.specs.Commands.{Reply, failed};
-ghost use Rattle.cad_script_replies.specs.Code.{told_of, told_stop};
+ghost use Rattle.cad_run_worlds.specs.Replies.{told_value};
+ghost use Rattle.cad_script_replies.specs.Code.{told_of};
 ghost use Rattle.cad_script_replies.specs.Replies as spec;
-ghost use Rattle.cad_script_replies.specs.Views.{Tells};
-ghost use Rattle.cad_script_replies.specs.Worlds.{run_world};
-ghost use Rattle.cad_state.specs.Views.{contract_of, program_of, state_over};
+ghost use Rattle.cad_run_worlds.specs.Views.{Tells};
+ghost use Rattle.cad_run_worlds.specs.Worlds.{run_world};
+ghost use Rattle.cad_state.specs.Views.{contract_of, program_of};
 ghost use Rattle.cad_types.specs.Views.{declarations as types_of};
 ghost use Rattle.cad_values.specs.Shapes.{declarations};
 ghost use Rattle.cad_values.specs.Values.{pure_value};
-ghost use Rattle.cad_world.specs.Begin.{begun, IsKept};
+ghost use Rattle.cad_world.specs.Begin.{IsKept};
 ghost use Rattle.cad_world.specs.Shapes.{shapes};
-ghost use Rattle.cad_world.specs.State.{Account, World};
+ghost use Rattle.cad_world.specs.State.{World};
 
-use crate::reply::{ScriptReply, Unfinished};
-use crate::run_worlds::{RunWorld, discard_run_world};
 use cad_contract_shapes::sorts_of_contracts;
 use cad_declarations::Checked;
 use cad_discards::hold;
 use cad_json_export::export;
 use cad_outcomes::Stop;
 use cad_rows::{Place, discard_row};
-use cad_scripts::{FrontEnd, begin, run_script};
-use cad_state::{Contract, RunState, discard_state, discard_value, unknown_of};
+use cad_run_worlds::{
+    RunWorld, ScriptReply, Unfinished, begin_over, discard_run_world, reply_to_stop, unfinished,
+};
+use cad_scripts::{FrontEnd, run_script};
+use cad_state::{Contract, RunState, discard_state, discard_value};
 use cad_types::DeclaredTypes;
 use cad_values::Value;
 use std::alloc::{AllocError, Global};
 use std::rc::Rc;
 
-/// The state in which a program begins over a World, with so many units. It takes no memory.
-pub fn begin_over(alloc: Global, checked: Rc<Checked>, world: RunWorld, units: u64) -> RunState
-    ensures { (base : List Account) → state_over base result ≡ begun (program_of checked.value) units (run_world base world) }
-{
-    let RunWorld {
-        accounts,
-        contracts,
-        next_identity,
-    } = world;
-    begin(alloc, checked, accounts, contracts, next_identity, units)
-}
-
 /// A value as a reply: its JSON, or 134 where a part of it has no form.
 fn reply_by(alloc: Global, types: &DeclaredTypes, value: Value) -> Result<ScriptReply, AllocError>
-    ensures { IfOk result (λ it. Tells it (spec.told_value (types_of types.now) (pure_value value))) }
+    ensures { IfOk result (λ it. Tells it (told_value (types_of types.now) (pure_value value))) }
 {
     let text = export(alloc, types, &value);
     discard_value(value);
@@ -60,7 +50,7 @@ fn reply_to_value(
     contracts: &[Contract],
     value: Value,
 ) -> Result<ScriptReply, AllocError>
-    ensures { IfOk result (λ it. Tells it (spec.told_value (declarations (shapes (map contract_of contracts.now))) (pure_value value))) }
+    ensures { IfOk result (λ it. Tells it (told_value (declarations (shapes (map contract_of contracts.now))) (pure_value value))) }
 {
     match sorts_of_contracts(alloc, contracts) {
         Ok(types) => reply_by(alloc, &types, value),
@@ -68,18 +58,6 @@ fn reply_to_value(
             discard_value(value);
             Err(error)
         }
-    }
-}
-
-/// Why a run gave no value, as a reply.
-pub fn reply_to_stop(stop: Stop) -> Result<ScriptReply, AllocError>
-    ensures { IfOk result (λ it. (reply : Reply Data) × (told_stop stop ≡ Some reply) × Tells it reply) }
-{
-    match stop {
-        Stop::Failed(error) => Ok(ScriptReply::Failed(error.number())),
-        Stop::Limit => Ok(ScriptReply::Limit),
-        Stop::IllTyped => Ok(ScriptReply::IllTyped),
-        Stop::Memory => Err(AllocError),
     }
 }
 
@@ -94,19 +72,6 @@ fn reply_to(
     match outcome {
         Ok(value) => reply_to_value(alloc, contracts, value),
         Err(stop) => reply_to_stop(stop),
-    }
-}
-
-/// Why there is no reply of a run that stopped in a state for want of memory: the account that it lacked, or the code of which it
-/// asked, where it did.
-pub fn unfinished(state: RunState) -> Unfinished {
-    let wanted = state.wanted;
-    match unknown_of(state) {
-        Some(unknown) => Unfinished::Unknown(unknown),
-        None => match wanted {
-            Some(index) => Unfinished::Lacks(index),
-            None => Unfinished::Memory,
-        },
     }
 }
 

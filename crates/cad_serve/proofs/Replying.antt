@@ -2,9 +2,9 @@
 use Rattle.std.proofs.Common.{◌≡◌, refl, sym, ap, subst}
 use Rattle.serde_json.specs.Data.{Data}
 use Rattle.cad_runs.specs.Commands as runs
-use Rattle.cad_script_replies.specs.Views as script
-use Rattle.cad_script_replies.specs.declared.reply.ScriptReply.{ScriptReply}
-use Rattle.cad_script_replies.specs.declared.reply.ScriptReply.TheVariants as own
+use Rattle.cad_run_worlds.specs.Views as script
+use Rattle.cad_run_worlds.specs.declared.reply.ScriptReply.{ScriptReply}
+use Rattle.cad_run_worlds.specs.declared.reply.ScriptReply.TheVariants as own
 use Rattle.cad_serve.specs.Code.Views.{Tells}
 use Rattle.cad_serve.specs.declared.reply.Reply.{Reply}
 use Rattle.cad_serve.specs.declared.reply.Reply.TheVariants as reply

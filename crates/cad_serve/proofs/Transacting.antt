@@ -3,10 +3,10 @@ use Rattle.std.proofs.Common.{◌≡◌, List, refl, ap, subst}
 use Rattle.serde_json.specs.Data.{Data}
 use Rattle.cad_accounts.specs.Registers.{Map}
 use Rattle.cad_runs.specs.Commands as runs
-use Rattle.cad_script_replies.specs.Views as script
-use Rattle.cad_script_replies.specs.Worlds.{run_world}
-use Rattle.cad_script_replies.specs.declared.reply.ScriptReply.{ScriptReply}
-use Rattle.cad_script_replies.specs.declared.run_worlds.RunWorld.{RunWorld}
+use Rattle.cad_run_worlds.specs.Views as script
+use Rattle.cad_run_worlds.specs.Worlds.{run_world}
+use Rattle.cad_run_worlds.specs.declared.reply.ScriptReply.{ScriptReply}
+use Rattle.cad_run_worlds.specs.declared.run_worlds.RunWorld.{RunWorld}
 use Rattle.cad_transaction_replies.specs.Replies as spec
 use Rattle.cad_transaction_replies.specs.Views as told
 use Rattle.cad_transaction_replies.specs.declared.outcome.Receipt.{Receipt}

@@ -21,7 +21,7 @@ use cad_declarations::Checked;
 use cad_discards::discard_checked;
 use cad_fronts::{Verdicts, discard_verdicts, learn, no_verdicts};
 use cad_loading::Programs;
-use cad_script_replies::{RunWorld, Unfinished, discard_run_world};
+use cad_run_worlds::{RunWorld, Unfinished, discard_run_world};
 use cad_serve_parts::{Reach, first_reach, reach_out, world_for};
 use cad_state::discard_shared;
 use cad_store::Store;

@@ -20,7 +20,7 @@ use crate::reply::Reply;
 use cad_commands::{Command, limits_are_bounded};
 use cad_fronts::{Verdicts, discard_verdicts, learn, no_verdicts};
 use cad_loading::Programs;
-use cad_script_replies::Unfinished;
+use cad_run_worlds::Unfinished;
 use cad_serve_parts::world_in;
 use cad_state::discard_unknown;
 use cad_store::Store;

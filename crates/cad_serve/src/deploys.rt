@@ -24,7 +24,7 @@ use cad_deploy_replies::{deploy, is_taken};
 use cad_discards::discard_checked;
 use cad_fronts::Verdicts;
 use cad_loading::Programs;
-use cad_script_replies::Unfinished;
+use cad_run_worlds::Unfinished;
 use cad_store::Store;
 use cad_syntax::{Address, Bytes, Name, Names, Text, TypeId};
 use cad_transaction_replies::has_account;

@@ -2,7 +2,7 @@
 ghost use Rattle.std.specs.Prelude.{◌≡◌, IfOk, None, map};
 ghost use Rattle.cad_check.specs.Answers.{TextVerdict};
 ghost use Rattle.cad_loads.specs.Loads.{entries_of, loaded_of};
-ghost use Rattle.cad_script_replies.specs.Worlds.{run_world};
+ghost use Rattle.cad_run_worlds.specs.Worlds.{run_world};
 ghost use Rattle.cad_state.specs.Views.{contract_of};
 ghost use Rattle.cad_world.specs.State as definition;
 ghost use Rattle.cad_worlds.specs.Standing.{world_of};
@@ -12,7 +12,7 @@ use cad_check::check_text;
 use cad_declarations::{Checked, Rejected};
 use cad_discards::discard_deployed;
 use cad_loading::deployed_of;
-use cad_script_replies::RunWorld;
+use cad_run_worlds::RunWorld;
 use cad_state::Contract;
 use cad_syntax::Address;
 use cad_worlds::World;

@@ -13,7 +13,7 @@ use crate::outcome::Outcome;
 use crate::reply::Reply;
 use cad_loading::Programs;
 use cad_rows::Place;
-use cad_script_replies::Unfinished;
+use cad_run_worlds::Unfinished;
 use cad_serve_parts::{part_changes_to, part_in};
 use cad_state::{Account, Controller, Known, Publication, discard_account};
 use cad_store::Store;

@@ -18,7 +18,7 @@ use crate::scripts::reply_of;
 use cad_declarations::Checked;
 use cad_fronts::Verdicts;
 use cad_loading::Programs;
-use cad_script_replies::{RunWorld, Unfinished};
+use cad_run_worlds::{RunWorld, Unfinished};
 use cad_serve_parts::{changes_to, run_changes_to};
 use cad_store::Store;
 use cad_syntax::Address;

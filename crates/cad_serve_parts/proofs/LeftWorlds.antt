@@ -2,8 +2,8 @@
 use Rattle.std.proofs.Common.{◌≡◌, ℕ, List, map, ap}
 use Rattle.std.specs.declared.alloc.Global.{Global}
 use Rattle.std.specs.declared.vec.Vec.{Vec}
-use Rattle.cad_script_replies.specs.Worlds.{run_world}
-use Rattle.cad_script_replies.specs.declared.run_worlds.RunWorld.{RunWorld}
+use Rattle.cad_run_worlds.specs.Worlds.{run_world}
+use Rattle.cad_run_worlds.specs.declared.run_worlds.RunWorld.{RunWorld}
 use Rattle.cad_state.specs.Views.{accounts_over, contract_of}
 use Rattle.cad_state.specs.declared.state.Account.{Account}
 use Rattle.cad_state.specs.declared.state.Accounts.{Accounts}

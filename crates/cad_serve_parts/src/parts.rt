@@ -19,7 +19,7 @@ use cad_accounts::Changes;
 use cad_contract_shapes::shapes_of_contracts;
 use cad_discards::hold;
 use cad_loading::Programs;
-use cad_script_replies::Unfinished;
+use cad_run_worlds::Unfinished;
 use cad_state::{Contract, discard_shared};
 use cad_store::Store;
 use cad_syntax::Numbers;

@@ -1,7 +1,7 @@
 // Worlds, as a store holds them.
 ghost use Rattle.std.specs.Prelude.{◌≡◌, true, map, IfOk, IfSome, IfNone};
 ghost use Rattle.cad_accounts.specs.Registers.{at, are_rising};
-ghost use Rattle.cad_script_replies.specs.Worlds.{run_world};
+ghost use Rattle.cad_run_worlds.specs.Worlds.{run_world};
 ghost use Rattle.cad_store.specs.Stores.{held};
 ghost use Rattle.cad_world.specs.Registers.{registers};
 ghost use Rattle.cad_world.specs.State as definition;
@@ -12,7 +12,7 @@ use crate::parts::{part_changes_to, part_in};
 use crate::reach::Reach;
 use cad_accounts::{Changes, Row};
 use cad_loading::{Programs, discard_kept, nothing_kept};
-use cad_script_replies::{RunWorld, Unfinished, of_part, of_world};
+use cad_run_worlds::{RunWorld, Unfinished, of_part, of_world};
 use cad_state::Accounts;
 use cad_store::{Judge, Store};
 use cad_world_reading::{known_world, one_world, read_world};

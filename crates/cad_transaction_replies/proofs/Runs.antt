@@ -5,10 +5,10 @@ use Rattle.cad_outcomes.specs.Outcomes.{Does, Stops, no_value}
 use Rattle.cad_outcomes.specs.declared.stop.Stop.{Stop}
 use Rattle.cad_outcomes.specs.declared.stop.Stop.TheVariants.{Failed, Limit, IllTyped, Memory}
 use Rattle.cad_runs.specs.Commands.{Reply, failed}
-use Rattle.cad_script_replies.proofs.Told.{stop_known}
-use Rattle.cad_script_replies.specs.Code.{told_stop}
-use Rattle.cad_script_replies.specs.Views as script
-use Rattle.cad_script_replies.specs.declared.reply.ScriptReply.{ScriptReply}
+use Rattle.cad_run_worlds.proofs.Stops.{stop_known}
+use Rattle.cad_run_worlds.specs.Code.{told_stop}
+use Rattle.cad_run_worlds.specs.Views as script
+use Rattle.cad_run_worlds.specs.declared.reply.ScriptReply.{ScriptReply}
 use Rattle.cad_world.specs.State as s
 use Rattle.cad_transaction_replies.proofs.Coming.{if_ok}
 use Rattle.cad_transaction_replies.specs.Replies.{Outcome, stays, settled}

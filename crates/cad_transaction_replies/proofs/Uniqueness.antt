@@ -6,9 +6,9 @@ use Rattle.cad_contract_shapes.specs.Arguments.{argument_shapes}
 use Rattle.cad_syntax.specs.declared.address.Address.{Address}
 use Rattle.cad_declarations.specs.Typed.{TransactionBody}
 use Rattle.cad_runs.specs.Commands.{are_signers, types_of}
-use Rattle.cad_script_replies.proofs.Turns.{as_many}
-use Rattle.cad_script_replies.proofs.Uniqueness.{one_row}
-use Rattle.cad_script_replies.specs.Replies.{AreArguments}
+use Rattle.cad_run_worlds.proofs.Turns.{as_many}
+use Rattle.cad_run_worlds.proofs.Uniqueness.{one_row}
+use Rattle.cad_run_worlds.specs.Replies.{AreArguments}
 use Rattle.cad_values.specs.Shapes.{Shapes}
 use Rattle.cad_world.specs.Fronts.{Front}
 use Rattle.cad_world.specs.Rows.{Row}

@@ -1,9 +1,9 @@
 -- What is told of a run over a whole World.
 use Rattle.std.proofs.Common.{◌≡◌, List, [], map, refl, sym, ap, ◌∙◌, subst}
 use Rattle.std.specs.Global.{Vec}
-use Rattle.cad_script_replies.specs.Worlds.{run_world}
-use Rattle.cad_script_replies.specs.declared.reply.ScriptReply.{ScriptReply}
-use Rattle.cad_script_replies.specs.declared.run_worlds.RunWorld.{RunWorld}
+use Rattle.cad_run_worlds.specs.Worlds.{run_world}
+use Rattle.cad_run_worlds.specs.declared.reply.ScriptReply.{ScriptReply}
+use Rattle.cad_run_worlds.specs.declared.run_worlds.RunWorld.{RunWorld}
 use Rattle.cad_state.specs.Views.{account_of, accounts_over, contract_of}
 use Rattle.cad_state.specs.declared.state.Account.{Account}
 use Rattle.cad_state.specs.declared.state.Accounts.{Accounts}

@@ -16,7 +16,7 @@ use Rattle.cad_world.specs.State.{Program, State, World}
 use Rattle.cad_evaluation.specs.Evaluation.{calls_to}
 use Rattle.cad_runs.specs.Commands.{Reply, ran, failed, limit, bad, ill, are_signers, types_of}
 use Rattle.cad_runs.specs.Run.{bound, run_transaction}
-use Rattle.cad_script_replies.specs.Replies.{AreArguments}
+use Rattle.cad_run_worlds.specs.Replies.{AreArguments}
 
 -- what a command comes to: a reply, and the World where it becomes another
 pub data Outcome : Type 0 where

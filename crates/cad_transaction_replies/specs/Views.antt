@@ -3,8 +3,8 @@ use Rattle.std.specs.Prelude.{◌≡◌, List, [], ◌∷◌}
 use Rattle.serde_json.specs.Data.{Data, array, Items, no_items, item}
 use Rattle.serde_json.specs.Written.{compact_text}
 use Rattle.cad_runs.specs.Commands.{Reply, ran}
-use Rattle.cad_script_replies.specs.Views as script
-use Rattle.cad_script_replies.specs.Worlds.{run_world}
+use Rattle.cad_run_worlds.specs.Views as script
+use Rattle.cad_run_worlds.specs.Worlds.{run_world}
 use Rattle.cad_world.specs.State.{Account}
 use Rattle.cad_worlds.specs.Standing.{world_of}
 use Rattle.cad_transaction_replies.specs.Replies.{Outcome, stays, leads}

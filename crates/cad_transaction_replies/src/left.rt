@@ -17,7 +17,7 @@ ghost use Rattle.cad_world.specs.State as machine;
 use crate::events::events_json;
 use crate::outcome::{Receipt, RunOutcome};
 use cad_contract_shapes::sorts_of_contracts;
-use cad_script_replies::{RunWorld, Unfinished};
+use cad_run_worlds::{RunWorld, Unfinished};
 use cad_state::{Accounts, Contract, RunState, discard_state, discard_values};
 use cad_syntax::Text;
 use cad_transaction_runs::{Left, discard_left, left_accounts};

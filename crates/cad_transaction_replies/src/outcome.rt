@@ -1,5 +1,5 @@
 // What transactions come to.
-use cad_script_replies::{RunWorld, ScriptReply};
+use cad_run_worlds::{RunWorld, ScriptReply};
 use cad_syntax::{Numbers, Text};
 use cad_worlds::World;
 

@@ -4,7 +4,7 @@ ghost use Rattle.cad_declarations.specs.Views.{transaction_of};
 ghost use Rattle.cad_outcomes.specs.Outcomes.{Does, no_value};
 ghost use Rattle.cad_rows.specs.Views.{pure_row};
 ghost use Rattle.cad_runs.specs.Commands.{failed};
-ghost use Rattle.cad_script_replies.specs.Worlds.{run_world};
+ghost use Rattle.cad_run_worlds.specs.Worlds.{run_world};
 ghost use Rattle.cad_state.specs.Views.{program_of, state_over};
 ghost use Rattle.cad_transaction_replies.specs.Replies as spec;
 ghost use Rattle.cad_transaction_replies.specs.Views.{Tells, TellsOver};
@@ -18,12 +18,12 @@ use cad_declarations::{Checked, TypedTransaction};
 use cad_discards::hold;
 use cad_outcomes::Stop;
 use cad_rows::{Place, discard_row};
-use cad_script_replies::{
-    FrontEnd, RunWorld, Unfinished, begin_over, discard_run_world, reply_to_stop, unfinished,
+use cad_run_worlds::{
+    RunWorld, Unfinished, begin_over, discard_run_world, reply_to_stop, unfinished,
 };
 use cad_state::{Accounts, RunState, discard_contracts, discard_known, discard_state};
 use cad_syntax::Address;
-use cad_transaction_runs::run_transaction;
+use cad_transaction_runs::{FrontEnd, run_transaction};
 use cad_worlds::World;
 use std::alloc::Global;
 use std::rc::Rc;

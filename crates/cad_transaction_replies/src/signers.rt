@@ -3,13 +3,13 @@ ghost use Rattle.std.specs.Prelude.{◌≡◌, List, length};
 ghost use Rattle.std.specs.List.{list_all};
 ghost use Rattle.cad_declarations.specs.Views.{transaction_of};
 ghost use Rattle.cad_runs.specs.Commands as spec;
-ghost use Rattle.cad_script_replies.specs.Worlds.{run_world};
+ghost use Rattle.cad_run_worlds.specs.Worlds.{run_world};
 ghost use Rattle.cad_state.specs.Views.{accounts_over};
 ghost use Rattle.cad_world.specs.State as s;
 ghost use Rattle.cad_worlds.specs.Standing.{world_of};
 
 use cad_declarations::TypedTransaction;
-use cad_script_replies::RunWorld;
+use cad_run_worlds::RunWorld;
 use cad_state::Accounts;
 use cad_syntax::Address;
 use cad_worlds::World;

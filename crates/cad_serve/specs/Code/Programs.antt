@@ -5,8 +5,8 @@ use Rattle.cad_acceptance.specs.Acceptance.{AcceptsText, checked_of}
 use Rattle.cad_accounts.specs.Registers.{Map}
 use Rattle.cad_declarations.specs.declared.program.Checked.{Checked}
 use Rattle.cad_runs.specs.Commands.{Command, transaction, script}
-use Rattle.cad_script_replies.specs.Worlds.{run_world}
-use Rattle.cad_script_replies.specs.declared.run_worlds.RunWorld.{RunWorld}
+use Rattle.cad_run_worlds.specs.Worlds.{run_world}
+use Rattle.cad_run_worlds.specs.declared.run_worlds.RunWorld.{RunWorld}
 use Rattle.cad_world.specs.State.{World}
 use Rattle.cad_worlds.specs.Standing.{StandsFor}
 use Rattle.cad_serve.specs.Answer.{beside}

@@ -5,8 +5,8 @@ use Rattle.serde_json.specs.View.{view}
 use Rattle.cad_contract_shapes.specs.Arguments.{argument_shapes}
 use Rattle.cad_rows.specs.Views.{pure_row}
 use Rattle.cad_rows.specs.declared.tree.Place.{Place}
-use Rattle.cad_script_replies.proofs.Turns.{type_at}
-use Rattle.cad_script_replies.specs.Code.{IsRow}
+use Rattle.cad_run_worlds.proofs.Turns.{type_at}
+use Rattle.cad_run_worlds.specs.Code.{IsRow}
 use Rattle.cad_state.specs.Views.{program_of}
 use Rattle.cad_syntax.specs.Types.{PureType}
 use Rattle.cad_deploy_replies.proofs.arguments.initializer_row.Goals as goal

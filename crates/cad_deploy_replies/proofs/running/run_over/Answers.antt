@@ -2,7 +2,7 @@ use Rattle.std.proofs.Common.{◌∙◌, ℕ, [], ap, refl, subst}
 use Rattle.cad_deploys.specs.Passed.{FindsAndCarriesOutOverStorable, calls_to, no_value}
 use Rattle.cad_rows.specs.Views.{pure_row}
 use Rattle.cad_runs.specs.Run.{bound, run_deploy}
-use Rattle.cad_script_replies.proofs.Runs.{fuel, ran_so}
+use Rattle.cad_run_worlds.proofs.Runs.{fuel, ran_so}
 use Rattle.cad_state.specs.Views.{contract_of, program_of}
 use Rattle.cad_transaction_replies.proofs.Coming.{if_ok}
 use Rattle.cad_transaction_replies.specs.Replies.{settled}

@@ -5,7 +5,7 @@ use Rattle.cad_rows.specs.Views.{pure_row}
 use Rattle.cad_runs.specs.Commands.{Reply, failed}
 use Rattle.cad_state.specs.Views.{program_of}
 use Rattle.cad_script_replies.specs.Replies.{Ran}
-use Rattle.cad_script_replies.specs.Views.{Tells}
+use Rattle.cad_run_worlds.specs.Views.{Tells}
 use Rattle.cad_script_replies.proofs.running.answer_row.Goals as goal
 
 -- the copy of the Rc has the same program

@@ -4,9 +4,9 @@ use Rattle.cad_runs.specs.Commands.{Reply}
 use Rattle.cad_state.specs.Views.{contract_of}
 use Rattle.cad_types.specs.Declarations.{Declaration}
 use Rattle.cad_values.specs.Values.{pure_value}
-use Rattle.cad_script_replies.specs.Replies.{told_value}
-use Rattle.cad_script_replies.specs.Views.{Tells}
-use Rattle.cad_script_replies.proofs.Sorts.{value_so}
+use Rattle.cad_run_worlds.specs.Replies.{told_value}
+use Rattle.cad_run_worlds.specs.Views.{Tells}
+use Rattle.cad_run_worlds.proofs.Sorts.{value_so}
 use Rattle.cad_script_replies.proofs.running.reply_to_value.Goals as goal
 
 pub returns-in-Ok : goal.returns-in-Ok

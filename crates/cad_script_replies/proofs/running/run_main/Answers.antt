@@ -5,7 +5,7 @@ use Rattle.cad_runs.specs.Run.{bound, run_script}
 use Rattle.cad_state.specs.Views.{FindsAndCarriesOut, contract_of, program_of, state_over}
 use Rattle.cad_values.specs.Values.{pure_value}
 use Rattle.cad_world.specs.Begin.{begun}
-use Rattle.cad_script_replies.proofs.Runs.{fuel, ran_so}
+use Rattle.cad_run_worlds.proofs.Runs.{fuel, ran_so}
 use Rattle.cad_script_replies.proofs.Told.{ran_told}
 use Rattle.cad_script_replies.proofs.running.run_main.Goals as goal
 

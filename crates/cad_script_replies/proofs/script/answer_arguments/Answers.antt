@@ -6,8 +6,9 @@ use Rattle.cad_rows.specs.Views.{pure_row}
 use Rattle.cad_runs.specs.Commands.{Reply, failed, bad}
 use Rattle.cad_state.specs.Views.{program_of}
 use Rattle.cad_script_replies.specs.Replies.{Answers, unfit}
-use Rattle.cad_script_replies.specs.Views.{Tells}
-use Rattle.cad_script_replies.proofs.Told.{row_found, row_missing, distinct_of, counts_agree, refused_with, ran_answers}
+use Rattle.cad_run_worlds.specs.Views.{Tells}
+use Rattle.cad_run_worlds.proofs.Arguments.{row_found, row_missing, distinct_of, counts_agree}
+use Rattle.cad_script_replies.proofs.Told.{refused_with, ran_answers}
 use Rattle.cad_script_replies.proofs.script.answer_arguments.Goals as goal
 
 pub returns-in-Ok-Some : goal.returns-in-Ok-Some

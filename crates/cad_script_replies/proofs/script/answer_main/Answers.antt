@@ -4,8 +4,9 @@ use Rattle.serde_json.specs.View.{view}
 use Rattle.cad_runs.specs.Commands.{Reply, failed, bad}
 use Rattle.cad_state.specs.Views.{program_of}
 use Rattle.cad_script_replies.specs.Replies.{Answers, miscounted}
-use Rattle.cad_script_replies.specs.Views.{Tells}
-use Rattle.cad_script_replies.proofs.Told.{counts_differ, refused_with}
+use Rattle.cad_run_worlds.specs.Views.{Tells}
+use Rattle.cad_run_worlds.proofs.Arguments.{counts_differ}
+use Rattle.cad_script_replies.proofs.Told.{refused_with}
 use Rattle.cad_script_replies.proofs.script.answer_main.Goals as goal
 
 pub returns-then-arguments-len : goal.returns-then-arguments-len

@@ -5,7 +5,7 @@ use Rattle.cad_declarations.specs.declared.program.Checked.{Checked}
 use Rattle.cad_runs.specs.Commands.{Reply, failed, bad, main_of}
 use Rattle.cad_state.specs.Views.{program_of}
 use Rattle.cad_script_replies.specs.Replies.{Answers, no_main}
-use Rattle.cad_script_replies.specs.Views.{Tells}
+use Rattle.cad_run_worlds.specs.Views.{Tells}
 use Rattle.cad_script_replies.proofs.Told.{refused_with}
 use Rattle.cad_script_replies.proofs.script.answer_named.Goals as goal
 

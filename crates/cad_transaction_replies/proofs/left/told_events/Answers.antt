@@ -2,7 +2,7 @@ use Rattle.std.proofs.Common.{◌≡◌, IfOk, List, map, ap, ◌∙◌, subst}
 use Rattle.serde_json.specs.Data.{Data, array}
 use Rattle.serde_json.specs.Written.{compact_text}
 use Rattle.cad_json.specs.Told.{told}
-use Rattle.cad_script_replies.proofs.Sorts.{all_told_so}
+use Rattle.cad_run_worlds.proofs.Sorts.{all_told_so}
 use Rattle.cad_state.specs.Views.{contract_of}
 use Rattle.cad_types.specs.Declarations.{Declaration}
 use Rattle.cad_values.specs.Values.{pure_value}

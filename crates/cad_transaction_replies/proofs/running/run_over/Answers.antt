@@ -5,7 +5,7 @@ use Rattle.cad_outcomes.specs.Outcomes.{no_value}
 use Rattle.cad_rows.specs.Views.{pure_row}
 use Rattle.cad_runs.proofs.Kept.{is_kept}
 use Rattle.cad_runs.specs.Run.{bound, run_transaction}
-use Rattle.cad_script_replies.proofs.Runs.{fuel, ran_so}
+use Rattle.cad_run_worlds.proofs.Runs.{fuel, ran_so}
 use Rattle.cad_state.specs.Views.{program_of}
 use Rattle.cad_transaction_runs.specs.OverStorable.{FindsAndCarriesOutOverStorable}
 use Rattle.cad_world.specs.Begin.{begun}

@@ -1,0 +1,6 @@
+pub mod Arguments
+pub mod Runs
+pub mod Sorts
+pub mod Stops
+pub mod Turns
+pub mod Uniqueness

@@ -1,0 +1,4 @@
+pub mod Code
+pub mod Replies
+pub mod Views
+pub mod Worlds

@@ -1,6 +1,0 @@
-use Rattle.std.proofs.Common.{refl}
-use Rattle.cad_script_replies.specs.Worlds.{run_world}
-use Rattle.cad_script_replies.proofs.running.begin_over.Goals as goal
-
-pub returns : goal.returns
-returns c = λ base. c.begin.ensures base (run_world base c.args.world) refl refl refl
