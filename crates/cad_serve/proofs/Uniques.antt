@@ -16,7 +16,8 @@ use Rattle.cad_runs.specs.Commands.{Command, Reply, failed, rejected, is_account
 use Rattle.cad_script_replies.specs.Replies as script
 use Rattle.cad_script_replies.specs.Replies.{OneAnswer, AnswersExtend}
 use Rattle.cad_transaction_replies.specs.Replies as transaction
-use Rattle.cad_transaction_replies.specs.Replies.{Outcome, stays, OneOutcome, OutcomesExtend}
+use Rattle.cad_run_outcomes.specs.Outcomes.{Outcome, stays}
+use Rattle.cad_transaction_replies.specs.Replies.{OneOutcome, OutcomesExtend}
 use Rattle.cad_world.specs.Fronts.{Front}
 use Rattle.cad_world.specs.Registers.{map_of, size}
 use Rattle.cad_world.specs.State.{World}
