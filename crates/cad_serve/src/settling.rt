@@ -18,7 +18,7 @@ use crate::outcome::Outcome;
 use crate::reply::Reply;
 use cad_accounts::Changes;
 use cad_commands::command;
-use cad_loading::Programs;
+use cad_serve_parts::Programs;
 use cad_store::{Commit, ReadyStop, Store};
 use std::alloc::{AllocError, Global};
 
