@@ -12,9 +12,9 @@ use Rattle.cad_run_worlds.specs.Code.{IsRow}
 use Rattle.cad_run_worlds.specs.Replies.{AreArguments}
 use Rattle.cad_state.specs.Views.{program_of}
 use Rattle.cad_syntax.specs.declared.type_id.TypeId.{TypeId}
-use Rattle.cad_transaction_replies.specs.Replies.{Outcome, stays}
-use Rattle.cad_transaction_replies.specs.Views.{Tells}
-use Rattle.cad_transaction_replies.specs.declared.outcome.TransactionOutcome.{TransactionOutcome}
+use Rattle.cad_run_outcomes.specs.Outcomes.{Outcome, stays}
+use Rattle.cad_run_outcomes.specs.Views.{Tells}
+use Rattle.cad_run_outcomes.specs.declared.outcome.TransactionOutcome.{TransactionOutcome}
 use Rattle.cad_world.specs.Fronts.{Front}
 use Rattle.cad_world.specs.Rows.{Row}
 use Rattle.cad_world.specs.State.{Contract, Program, World}

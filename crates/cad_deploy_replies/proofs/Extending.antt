@@ -5,7 +5,7 @@ use Rattle.cad_bounds.specs.Laws.{DeploymentsExtend}
 use Rattle.cad_deploys.specs.Passed.{new_contract}
 use Rattle.cad_runs.specs.Commands.{failed}
 use Rattle.cad_runs.specs.Run.{bound}
-use Rattle.cad_transaction_replies.specs.Replies.{Outcome, settled, stays}
+use Rattle.cad_run_outcomes.specs.Outcomes.{Outcome, settled, stays}
 use Rattle.cad_world.specs.Begin.{begun}
 use Rattle.cad_world.specs.Fronts.{Front}
 use Rattle.cad_world.specs.Rows.{Row}

@@ -5,7 +5,7 @@ use Rattle.cad_contract_shapes.specs.Arguments.{argument_shapes}
 use Rattle.cad_deploys.specs.Passed.{initializer_types, is_contract_of, new_contract}
 use Rattle.cad_run_worlds.proofs.Uniqueness.{one_row}
 use Rattle.cad_syntax.specs.declared.type_id.TypeId.{TypeId}
-use Rattle.cad_transaction_replies.specs.Replies.{Outcome}
+use Rattle.cad_run_outcomes.specs.Outcomes.{Outcome}
 use Rattle.cad_world.specs.Fronts.{Front}
 use Rattle.cad_world.specs.Rows.{Row}
 use Rattle.cad_world.specs.State.{Contract, Program, World}

@@ -8,7 +8,7 @@ use Rattle.cad_syntax.specs.declared.type_id.TypeId.{TypeId}
 use Rattle.cad_runs.specs.Commands.{failed}
 use Rattle.cad_runs.specs.Run.{bound, run_deploy}
 use Rattle.cad_run_worlds.specs.Replies.{AreArguments}
-use Rattle.cad_transaction_replies.specs.Replies.{Outcome, stays, settled}
+use Rattle.cad_run_outcomes.specs.Outcomes.{Outcome, stays, settled}
 use Rattle.cad_world.specs.Begin.{begun}
 use Rattle.cad_world.specs.Fronts.{Front}
 use Rattle.cad_world.specs.Rows.{Row}

@@ -5,7 +5,7 @@ use Rattle.cad_syntax.specs.declared.address.Address.{Address}
 use Rattle.cad_acceptance.specs.Stops.{FirstStop}
 use Rattle.cad_bounds.specs.Fronts.{Agree}
 use Rattle.cad_bounds.specs.Laws.{JoinsExtendTheFirst, JoinsExtendTheSecond}
-use Rattle.cad_check.specs.Laws.{AcceptedTextsHaveNoStop, OneAcceptance}
+use Rattle.cad_loading.specs.Passed.{AcceptedTextsHaveNoStop, OneAcceptance}
 use Rattle.cad_declarations.specs.declared.stop.Rejected.{Rejected}
 use Rattle.cad_fronts.specs.Laws.{OneVerdict}
 use Rattle.cad_loading.specs.Laws.{OneLoading}

@@ -1,3 +1,4 @@
 pub mod Code
 pub mod Laws
+pub mod Passed
 pub mod Views

@@ -13,10 +13,9 @@ ghost use Rattle.cad_world.specs.Fronts as fronts;
 
 use crate::asking::find_verdict;
 use crate::codes::{Verdict, Verdicts, push_verdict};
-use cad_check::check_text;
 use cad_declarations::{Checked, Deployed};
 use cad_discards::{discard_checked, discard_deployed};
-use cad_loading::{Programs, Source, deployed_with, discard_programs, load_kept};
+use cad_loading::{Programs, Source, check_text, deployed_with, discard_programs, load_kept};
 use cad_state::{Contract, Question, Unknown, discard_contracts};
 use cad_syntax::Address;
 use std::alloc::{AllocError, Global};

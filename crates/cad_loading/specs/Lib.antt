@@ -3,3 +3,4 @@ pub mod Slots
 pub mod Again
 pub mod Answers
 pub mod Laws
+pub mod Passed

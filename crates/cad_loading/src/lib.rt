@@ -15,3 +15,6 @@ pub use kept::{Programs, discard_kept, load_kept, nothing_kept};
 pub use laws::one_loading;
 pub use loading::Source;
 pub use progress::discard_programs;
+
+// What the crates above use of the ones below.
+pub use cad_check::{check_text, no_stop_of_accepted, one_acceptance, one_stop};

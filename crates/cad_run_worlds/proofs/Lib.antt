@@ -1,5 +1,6 @@
 pub mod Arguments
 pub mod Runs
+pub mod Signing
 pub mod Sorts
 pub mod Stops
 pub mod Turns

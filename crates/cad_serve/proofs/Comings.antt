@@ -9,7 +9,7 @@ use Rattle.cad_commands.specs.Views.{pure_command}
 use Rattle.cad_commands.specs.declared.kinds.Command as own
 use Rattle.cad_runs.proofs.Kept.{is_kept}
 use Rattle.cad_runs.specs.Commands.{Command, deploy, script, transaction}
-use Rattle.cad_transaction_replies.specs.Replies as spec
+use Rattle.cad_run_outcomes.specs.Outcomes as spec
 use Rattle.cad_world.specs.Begin.{IsKept}
 use Rattle.cad_world.specs.State.{World}
 use Rattle.cad_worlds.specs.Standing.{StandsFor, any_accepted}

@@ -8,9 +8,9 @@ use Rattle.cad_acceptance.specs.Stops.{FirstStop}
 use Rattle.cad_declarations.specs.Imports.{ContractEntry}
 use Rattle.cad_declarations.specs.declared.program.Checked.{Checked}
 use Rattle.cad_declarations.specs.declared.stop.Rejected.{Rejected}
-use Rattle.cad_check.specs.Answers.{TextVerdict}
+use Rattle.cad_fronts.specs.Passed.{TextVerdict}
 use Rattle.cad_runs.specs.Commands.{Command, account, deploy, transaction, script, refused, rejected}
-use Rattle.cad_transaction_replies.specs.Replies.{stays}
+use Rattle.cad_run_outcomes.specs.Outcomes.{stays}
 use Rattle.cad_world.specs.State.{World}
 use Rattle.cad_serve.specs.Answer.{Does, beside, transacts, runs, refused_transaction, refused_script}
 use Rattle.cad_serve.specs.Code.Programs.{code_of}

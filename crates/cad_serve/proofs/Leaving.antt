@@ -9,7 +9,7 @@ use Rattle.cad_deploy_replies.specs.Replies as deployment
 use Rattle.cad_runs.specs.Commands as command
 use Rattle.cad_runs.specs.Commands.{Command, Reply, is_ok}
 use Rattle.cad_transaction_replies.specs.Replies as transaction
-use Rattle.cad_transaction_replies.specs.Replies.{Outcome, stays, leads, settled}
+use Rattle.cad_run_outcomes.specs.Outcomes.{Outcome, stays, leads, settled}
 use Rattle.cad_world.specs.Fronts.{Front}
 use Rattle.cad_world.specs.State as run
 use Rattle.cad_world.specs.State.{Program, World}

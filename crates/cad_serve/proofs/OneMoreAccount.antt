@@ -7,7 +7,7 @@ use Rattle.cad_state.specs.declared.state.Known.{Known}
 use Rattle.cad_world.specs.Begin.{new_account}
 use Rattle.cad_world.specs.State.{Account, World}
 use Rattle.cad_worlds.proofs.PartLaws.{length_from}
-use Rattle.cad_world_reading.specs.Wanted.{IsPartOf}
+use Rattle.cad_serve_parts.specs.Passed.{IsPartOf}
 use Rattle.cad_worlds.specs.Parts.{world_over}
 use Rattle.cad_worlds.specs.declared.part.WorldPart.{WorldPart}
 use Rattle.cad_serve.specs.Answer.{one_more}

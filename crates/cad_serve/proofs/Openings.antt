@@ -6,7 +6,7 @@ use Rattle.cad_host.specs.Disk.{Event, synced, output, reads, Ran}
 use Rattle.cad_host.proofs.Kept.{sync_output, look_output}
 use Rattle.cad_world.specs.State.{World}
 use Rattle.cad_worlds.specs.Standing.{StandsFor}
-use Rattle.cad_world_reading.specs.Laws.{OneWorld}
+use Rattle.cad_serve_parts.specs.Passed.{OneWorld}
 use Rattle.cad_store.specs.declared.store.Store.{Store}
 use Rattle.cad_store.specs.declared.stops.OpenStop.{OpenStop}
 use Rattle.cad_store.specs.declared.stops.OpenStop.TheVariants as stop

@@ -6,7 +6,7 @@ use Rattle.cad_host.specs.Crash.{IsSettled}
 use Rattle.cad_host.proofs.Ran.{ran_inside}
 use Rattle.cad_host.proofs.Kept.{settled_synced, reads_disk}
 use Rattle.cad_world.specs.State.{World}
-use Rattle.cad_world_reading.specs.Laws.{OneWorld}
+use Rattle.cad_serve_parts.specs.Passed.{OneWorld}
 use Rattle.cad_store.specs.Opening.{in_use, opened, IsOpening}
 use Rattle.cad_store.proofs.Beginning.{opened_reads}
 use Rattle.serde_json.specs.Data.{Data}

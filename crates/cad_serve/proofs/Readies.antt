@@ -13,7 +13,7 @@ use Rattle.cad_worlds.proofs.OneWorld.{rows_are_registers_lem}
 use Rattle.cad_accounts.proofs.Existing.{rows_exist}
 use Rattle.cad_commands.specs.Commands.{command_of}
 use Rattle.cad_runs.specs.Commands.{Command, Reply, failed, bad}
-use Rattle.cad_transaction_replies.specs.Replies as spec
+use Rattle.cad_run_outcomes.specs.Outcomes as spec
 use Rattle.serde_json.specs.Data.{Data}
 use Rattle.cad_store.specs.declared.store.Store.{Store}
 use Rattle.cad_serve.specs.Answer.{Answers, too_long, answered, Does, Commits, unchanged, fits, full, most_bytes}

@@ -3,8 +3,8 @@ use Rattle.std.proofs.Common.{◌≡◌, ℕ, List, [], ◌∷◌, ◌++◌, cod
 use Rattle.serde_json.specs.Data.{Data, array}
 use Rattle.serde_json.specs.Written.{compact_text}
 use Rattle.cad_runs.specs.Commands.{Reply}
-use Rattle.cad_transaction_replies.specs.Views.{IsReceipt}
-use Rattle.cad_transaction_replies.specs.declared.outcome.Receipt.{Receipt}
+use Rattle.cad_run_outcomes.specs.Views.{IsReceipt}
+use Rattle.cad_run_outcomes.specs.declared.outcome.Receipt.{Receipt}
 use Rattle.cad_serve.specs.Answer.{answer_line, number_items}
 
 -- three texts in their places

@@ -10,7 +10,7 @@ use Rattle.cad_wire.specs.Body.{body_bytes}
 use Rattle.cad_accounts.specs.Registers.{Map, Leads}
 use Rattle.cad_world.specs.State.{World}
 use Rattle.cad_worlds.specs.Standing.{StandsFor}
-use Rattle.cad_world_reading.specs.Laws.{OneWorld}
+use Rattle.cad_serve_parts.specs.Passed.{OneWorld}
 use Rattle.cad_store.specs.declared.store.Store.{Store}
 use Rattle.cad_store.specs.declared.place.Place.{Place}
 use Rattle.cad_store.specs.declared.place.Place.TheVariants.{Behind, Onto}

@@ -7,13 +7,13 @@ use Rattle.cad_run_worlds.specs.Views as script
 use Rattle.cad_run_worlds.specs.Worlds.{run_world}
 use Rattle.cad_run_worlds.specs.declared.reply.ScriptReply.{ScriptReply}
 use Rattle.cad_run_worlds.specs.declared.run_worlds.RunWorld.{RunWorld}
-use Rattle.cad_transaction_replies.specs.Replies as spec
-use Rattle.cad_transaction_replies.specs.Views as told
-use Rattle.cad_transaction_replies.specs.declared.outcome.Receipt.{Receipt}
-use Rattle.cad_transaction_replies.specs.declared.outcome.RunOutcome.{RunOutcome}
-use Rattle.cad_transaction_replies.specs.declared.outcome.RunOutcome.TheVariants as run
-use Rattle.cad_transaction_replies.specs.declared.outcome.TransactionOutcome.{TransactionOutcome}
-use Rattle.cad_transaction_replies.specs.declared.outcome.TransactionOutcome.TheVariants as own
+use Rattle.cad_run_outcomes.specs.Outcomes as spec
+use Rattle.cad_run_outcomes.specs.Views as told
+use Rattle.cad_run_outcomes.specs.declared.outcome.Receipt.{Receipt}
+use Rattle.cad_run_outcomes.specs.declared.outcome.RunOutcome.{RunOutcome}
+use Rattle.cad_run_outcomes.specs.declared.outcome.RunOutcome.TheVariants as run
+use Rattle.cad_run_outcomes.specs.declared.outcome.TransactionOutcome.{TransactionOutcome}
+use Rattle.cad_run_outcomes.specs.declared.outcome.TransactionOutcome.TheVariants as own
 use Rattle.cad_wire.specs.declared.entry.Entry.{Entry}
 use Rattle.cad_world.specs.State.{Account}
 use Rattle.cad_worlds.specs.Standing.{world_of}

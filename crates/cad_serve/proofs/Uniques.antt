@@ -4,7 +4,7 @@ use Rattle.serde_json.specs.Data.{Data}
 use Rattle.cad_syntax.specs.declared.address.Address.{Address}
 use Rattle.cad_syntax.specs.declared.type_id.TypeId.{TypeId}
 use Rattle.cad_acceptance.specs.Acceptance.{CheckedProgram, AcceptsText}
-use Rattle.cad_check.specs.Laws.{OneFirstStop, OneAcceptance, AcceptedTextsHaveNoStop}
+use Rattle.cad_fronts.specs.Passed.{OneFirstStop, OneAcceptance, AcceptedTextsHaveNoStop}
 use Rattle.cad_commands.specs.Commands.{command_of}
 use Rattle.cad_deploy_replies.specs.Passed.{contract_named, is_taken}
 use Rattle.cad_deploy_replies.specs.Replies as deployment
@@ -16,11 +16,12 @@ use Rattle.cad_runs.specs.Commands.{Command, Reply, failed, rejected, is_account
 use Rattle.cad_script_replies.specs.Replies as script
 use Rattle.cad_script_replies.specs.Replies.{OneAnswer, AnswersExtend}
 use Rattle.cad_transaction_replies.specs.Replies as transaction
-use Rattle.cad_transaction_replies.specs.Replies.{Outcome, stays, OneOutcome, OutcomesExtend}
+use Rattle.cad_run_outcomes.specs.Outcomes.{Outcome, stays}
+use Rattle.cad_transaction_replies.specs.Replies.{OneOutcome, OutcomesExtend}
 use Rattle.cad_world.specs.Fronts.{Front}
 use Rattle.cad_world.specs.Registers.{map_of, size}
 use Rattle.cad_world.specs.State.{World}
-use Rattle.cad_world_reading.specs.Laws.{OneWorld}
+use Rattle.cad_serve_parts.specs.Passed.{OneWorld}
 use Rattle.cad_worlds.specs.Standing.{coding, Becomes}
 use Rattle.cad_serve.specs.Answer.{beside, RunsScript, refused_script, replies, RunsTransaction, refused_transaction, comes, RunsDeploy, name_taken, refused_deploy, installs, Does, unread, spent, made, nowhere, deploys, transacts, runs, most_bytes, Commits, unchanged, fits, full, Answers, too_long, answered}
 

@@ -21,8 +21,8 @@ use Rattle.cad_runs.specs.Commands as command
 use Rattle.cad_runs.specs.Commands.{Command, Reply, account_made, result, ran, rejected, failed, limit, bad, ill, is_account}
 use Rattle.cad_script_replies.specs.Replies as script
 use Rattle.cad_transaction_replies.specs.Replies as transaction
-use Rattle.cad_transaction_replies.specs.Replies.{Outcome, stays, leads}
-use Rattle.cad_transaction_replies.specs.Views.{event_items}
+use Rattle.cad_run_outcomes.specs.Outcomes.{Outcome, stays, leads}
+use Rattle.cad_run_outcomes.specs.Views.{event_items}
 use Rattle.cad_world.specs.Begin.{new_account}
 use Rattle.cad_world.specs.Fronts.{Front}
 use Rattle.cad_world.specs.Registers.{size}

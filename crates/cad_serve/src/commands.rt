@@ -19,13 +19,11 @@ use crate::outcome::Outcome;
 use crate::reply::Reply;
 use cad_commands::{Command, limits_are_bounded};
 use cad_fronts::{Verdicts, discard_verdicts, learn, no_verdicts};
-use cad_loading::Programs;
 use cad_run_worlds::Unfinished;
-use cad_serve_parts::world_in;
+use cad_serve_parts::{Programs, one_world, world_in};
 use cad_state::discard_unknown;
 use cad_store::Store;
 use cad_syntax::Address;
-use cad_world_reading::one_world;
 use serde_json::Value as Json;
 use std::alloc::{AllocError, Global};
 

@@ -25,12 +25,10 @@ use crate::settling::{Settled, settle};
 use crate::status::Status;
 use cad_generation::{first_lines, next_number, transfer_of};
 use cad_host::{Host, SureHost};
-use cad_loading::{Programs, discard_kept, nothing_kept};
-use cad_serve_parts::{LONGEST, Worlds, world_in};
+use cad_serve_parts::{LONGEST, Programs, Worlds, discard_kept, nothing_kept, one_world, world_in};
 use cad_store::{Store, open};
 use cad_syntax::Text;
 use cad_world_checks::live_identities;
-use cad_world_reading::one_world;
 use cad_worlds::discard_world;
 use std::alloc::{AllocError, Global};
 

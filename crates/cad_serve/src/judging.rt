@@ -1,6 +1,6 @@
 // Code that is checked, beside the contracts of a World.
 ghost use Rattle.std.specs.Prelude.{◌≡◌, IfOk, None, map};
-ghost use Rattle.cad_check.specs.Answers.{TextVerdict};
+ghost use Rattle.cad_fronts.specs.Passed.{TextVerdict};
 ghost use Rattle.cad_loads.specs.Loads.{entries_of, loaded_of};
 ghost use Rattle.cad_run_worlds.specs.Worlds.{run_world};
 ghost use Rattle.cad_state.specs.Views.{contract_of};
@@ -8,10 +8,9 @@ ghost use Rattle.cad_world.specs.State as definition;
 ghost use Rattle.cad_worlds.specs.Standing.{world_of};
 ghost use Rattle.cad_serve.specs.Answer.{beside};
 
-use cad_check::check_text;
 use cad_declarations::{Checked, Rejected};
 use cad_discards::discard_deployed;
-use cad_loading::deployed_of;
+use cad_fronts::{check_text, deployed_of};
 use cad_run_worlds::RunWorld;
 use cad_state::Contract;
 use cad_syntax::Address;

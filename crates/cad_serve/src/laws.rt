@@ -13,12 +13,11 @@ ghost use Rattle.cad_runs.specs.Commands.{Reply, is_ok, script};
 ghost use Rattle.cad_serve.specs.Answer.{Answers, answer_line};
 ghost use Rattle.cad_serve.specs.Crashes.{DiskStands, Survives};
 
-use cad_check::{no_stop_of_accepted, one_acceptance, one_stop};
-use cad_fronts::one_verdict;
+use cad_fronts::{no_stop_of_accepted, one_acceptance, one_stop, one_verdict};
 use cad_script_replies::{answers_extend, one_answer};
+use cad_serve_parts::one_world;
 use cad_store::one_map_a_disk;
 use cad_transaction_replies::{one_outcome, outcomes_extend};
-use cad_world_reading::one_world;
 
 // A deploy comes to one outcome at most.
 fn one_deployment()

@@ -11,10 +11,9 @@ ghost use Rattle.cad_serve_parts.specs.Code.Parts.{HasOneMore};
 
 use crate::outcome::Outcome;
 use crate::reply::Reply;
-use cad_loading::Programs;
 use cad_rows::Place;
 use cad_run_worlds::Unfinished;
-use cad_serve_parts::{part_changes_to, part_in};
+use cad_serve_parts::{Programs, part_changes_to, part_in};
 use cad_state::{Account, Controller, Known, Publication, discard_account};
 use cad_store::Store;
 use cad_syntax::{Address, Name};

@@ -11,8 +11,7 @@ ghost use Rattle.cad_serve.specs.Code.Outcomes.{IsReady, IsSettled, RunsTo};
 
 use crate::reply::{Reply, reply_line};
 use crate::settling::{Settled, settle};
-use cad_loading::Programs;
-use cad_serve_parts::Line;
+use cad_serve_parts::{Line, Programs};
 use cad_store::{Commit, Store};
 use cad_syntax::Text;
 use std::alloc::{AllocError, Global};

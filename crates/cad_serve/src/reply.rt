@@ -8,8 +8,8 @@ ghost use Rattle.cad_serve.specs.Code.Views.{Tells};
 
 use cad_declarations::Rejected;
 use cad_rejections::rejected_text;
+use cad_run_outcomes::{Receipt, push_item};
 use cad_syntax::{Address, Text};
-use cad_transaction_replies::{Receipt, push_item};
 use serde_json::Value as Json;
 use std::alloc::{AllocError, Global};
 

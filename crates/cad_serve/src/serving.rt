@@ -30,11 +30,11 @@ use crate::generating::generate;
 use crate::prepare::{Prepared, prepare};
 use crate::status::Status;
 use cad_host::{Failed, Host};
-use cad_loading::{Programs, discard_kept, nothing_kept};
-use cad_serve_parts::{Line, Worlds, is_run, transfers_asked};
+use cad_serve_parts::{
+    Line, Programs, Worlds, discard_kept, is_run, nothing_kept, one_world, transfers_asked,
+};
 use cad_store::{Commit, OpenStop, Store, open};
 use cad_syntax::Text;
-use cad_world_reading::one_world;
 use std::alloc::Global;
 
 /// How many bytes of input the program reads.

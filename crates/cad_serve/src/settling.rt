@@ -8,7 +8,7 @@ ghost use Rattle.cad_worlds.specs.Standing.{StandsFor, Becomes};
 ghost use Rattle.cad_serve_parts.specs.Code.Worlds.{AreSound};
 ghost use Rattle.cad_runs.specs.Commands as runs;
 ghost use Rattle.cad_store.specs.Stores.{held, room_of, IsOn};
-ghost use Rattle.cad_transaction_replies.specs.Replies as spec;
+ghost use Rattle.cad_run_outcomes.specs.Outcomes as spec;
 ghost use Rattle.cad_serve.specs.Answer.{Does, Commits, most_bytes};
 ghost use Rattle.cad_serve.specs.Code.Views.{Tells};
 ghost use Rattle.cad_serve.specs.Code.Outcomes.{IsSettled, Comes, RunsTo};
@@ -18,7 +18,7 @@ use crate::outcome::Outcome;
 use crate::reply::Reply;
 use cad_accounts::Changes;
 use cad_commands::command;
-use cad_loading::Programs;
+use cad_serve_parts::Programs;
 use cad_store::{Commit, ReadyStop, Store};
 use std::alloc::{AllocError, Global};
 

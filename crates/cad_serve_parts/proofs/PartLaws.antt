@@ -8,8 +8,8 @@ use Rattle.std.proofs.lemmas.Bool.{false≢true}
 use Rattle.std.proofs.lemmas.List.{length-map, length-set, map-set}
 use Rattle.cad_accounts.specs.Registers.{Leads, Map}
 use Rattle.cad_declarations.specs.Names.{built_in, entitlement_names}
-use Rattle.cad_loading.proofs.Again.{sources_tell}
-use Rattle.cad_loading.specs.Again.{same_source}
+use Rattle.cad_world_reading.proofs.Passed.{sources_tell}
+use Rattle.cad_world_reading.specs.Passed.{same_source}
 use Rattle.cad_loads.specs.Loads.{Loaded, Loads, Source, loaded_of}
 use Rattle.cad_state.specs.Views.{contract_of}
 use Rattle.cad_state.specs.declared.state.Contract.{Contract}

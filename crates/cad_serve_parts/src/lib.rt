@@ -14,3 +14,6 @@ pub use parts::{part_changes_to, part_in};
 pub use reach::{Reach, first_reach, reach_out};
 pub use words::{is_run, transfers_asked};
 pub use worlds::{Worlds, changes_to, run_changes_to, world_for, world_in};
+
+// What the crates above use of the ones below.
+pub use cad_world_reading::{Programs, discard_kept, nothing_kept, one_world};

@@ -11,11 +11,10 @@ ghost use Rattle.cad_serve_parts.specs.Code.Worlds.{AreSound, LeadsOn};
 use crate::parts::{part_changes_to, part_in};
 use crate::reach::Reach;
 use cad_accounts::{Changes, Row};
-use cad_loading::{Programs, discard_kept, nothing_kept};
 use cad_run_worlds::{RunWorld, Unfinished, of_part, of_world};
 use cad_state::Accounts;
 use cad_store::{Judge, Store};
-use cad_world_reading::{known_world, one_world, read_world};
+use cad_world_reading::{Programs, discard_kept, known_world, nothing_kept, one_world, read_world};
 use cad_worlds::{RowList, World, WorldPart, changes, discard_world, registers_of};
 use std::alloc::{AllocError, Global};
 

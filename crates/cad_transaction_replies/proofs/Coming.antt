@@ -1,5 +1,5 @@
 -- What a transaction comes to, case by case.
-use Rattle.std.proofs.Common.{◌≡◌, ◌≢◌, ℕ, List, Result, Ok, Err, IfOk, sym, subst}
+use Rattle.std.proofs.Common.{◌≢◌, ℕ, List}
 use Rattle.serde_json.specs.Data.{Data}
 use Rattle.cad_syntax.specs.declared.address.Address.{Address}
 use Rattle.cad_declarations.specs.Typed.{TransactionBody}
@@ -7,13 +7,10 @@ use Rattle.cad_runs.specs.Commands.{failed}
 use Rattle.cad_world.specs.Fronts.{Front}
 use Rattle.cad_world.specs.Rows.{Row}
 use Rattle.cad_world.specs.State.{Program, World}
-use Rattle.cad_transaction_replies.specs.Replies.{Outcome, Comes, Ran, stays}
-use Rattle.cad_transaction_replies.specs.Views.{TellsOver}
-use Rattle.cad_transaction_replies.specs.declared.outcome.RunOutcome.{RunOutcome}
-
-pub if_ok : {A E : Type 0} {P Q : A → Type 0} (r : Result A E) → ((a : A) → P a → Q a) → IfOk r P → IfOk r Q
-if_ok (Ok a) f h = f a h
-if_ok (Err e) f h = tt
+use Rattle.cad_run_outcomes.specs.Outcomes.{Outcome, stays}
+use Rattle.cad_transaction_replies.specs.Replies.{Comes, Ran}
+use Rattle.cad_run_outcomes.specs.Views.{TellsOver}
+use Rattle.cad_run_outcomes.specs.declared.outcome.RunOutcome.{RunOutcome}
 
 -- what is told is what the program comes to
 abbrev pub IsOutcome : Front → World → Program → List Data → List Address → ℕ → RunOutcome → Type 0
@@ -22,7 +19,3 @@ IsOutcome front w p all signers units it = (o : Outcome) × Comes front w p all 
 -- what is told is what its run comes to
 abbrev pub RunsTo : Front → World → Program → TransactionBody → Row → List Address → ℕ → RunOutcome → Type 0
 RunsTo front w p t r signers units it = (o : Outcome) × Ran front w p t r signers units o × (o ≢ stays (failed 0)) × TellsOver w.accounts it o
-
--- a reply without a run
-pub refused_with : {A E : Type 0} (P : A → Type 0) (r : Result A E) (it : A) → r ≡ Ok it → P it → IfOk r P
-refused_with {A} {E} P r it is h = subst (λ (x : Result A E). IfOk x P) (sym is) h

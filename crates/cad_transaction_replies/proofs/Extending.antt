@@ -10,7 +10,8 @@ use Rattle.cad_world.specs.Begin.{begun}
 use Rattle.cad_world.specs.Fronts.{Front}
 use Rattle.cad_world.specs.Rows.{Row}
 use Rattle.cad_world.specs.State.{Program, World}
-use Rattle.cad_transaction_replies.specs.Replies.{Outcome, OutcomesExtend, Ran, settled, stays, no_transaction, unsigned, miscounted, unfit, runs}
+use Rattle.cad_run_outcomes.specs.Outcomes.{Outcome, settled, stays}
+use Rattle.cad_transaction_replies.specs.Replies.{OutcomesExtend, Ran, no_transaction, unsigned, miscounted, unfit, runs}
 
 run_extends : TransactionsExtend → (f g : Front) (w : World) (p : Program) (t : TransactionBody) (r : Row) (signers : List Address) (units : ℕ) (outcome : Outcome)
     → Extends f g → Ran f w p t r signers units outcome → outcome ≢ stays (failed 0) → Ran g w p t r signers units outcome

@@ -13,7 +13,8 @@ use Rattle.cad_values.specs.Shapes.{Shapes}
 use Rattle.cad_world.specs.Fronts.{Front}
 use Rattle.cad_world.specs.Rows.{Row}
 use Rattle.cad_world.specs.State.{Program, World}
-use Rattle.cad_transaction_replies.specs.Replies.{Outcome, Comes, Ran, OneOutcome, no_transaction, unsigned, miscounted, unfit, runs}
+use Rattle.cad_run_outcomes.specs.Outcomes.{Outcome}
+use Rattle.cad_transaction_replies.specs.Replies.{Comes, Ran, OneOutcome, no_transaction, unsigned, miscounted, unfit, runs}
 
 not_both : (p : Program) (t : TransactionBody) → p.bodies.transaction ≡ None → p.bodies.transaction ≡ Some t → ⊥
 not_both p t e f = absurd cc

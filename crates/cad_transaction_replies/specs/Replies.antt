@@ -1,40 +1,21 @@
 -- What a transaction comes to, under a front end that is asked of codes: the reply, and the World that it leaves.
-use Rattle.std.specs.Prelude.{◌≡◌, ◌≢◌, ℕ, true, false, List, length, map, Some, None}
+use Rattle.std.specs.Prelude.{◌≡◌, ◌≢◌, ℕ, true, false, List, length, Some, None}
 use Rattle.serde_json.specs.Data.{Data}
 use Rattle.cad_bounds.specs.Fronts.{Extends}
 use Rattle.cad_contract_shapes.specs.Arguments.{argument_shapes, HasDistinctFields}
 use Rattle.cad_syntax.specs.declared.address.Address.{Address}
 use Rattle.cad_declarations.specs.Typed.{TransactionBody}
-use Rattle.cad_json.specs.Told.{told}
-use Rattle.cad_values.specs.Shapes.{declarations}
-use Rattle.cad_world.specs.Begin.{begun, left_world}
+use Rattle.cad_world.specs.Begin.{begun}
 use Rattle.cad_world.specs.Fronts.{Front}
 use Rattle.cad_world.specs.Rows.{Row}
-use Rattle.cad_world.specs.Shapes.{shapes}
-use Rattle.cad_world.specs.State as run
-use Rattle.cad_world.specs.State.{Program, State, World}
+use Rattle.cad_world.specs.State.{Program, World}
 use Rattle.cad_evaluation.specs.Evaluation.{calls_to}
-use Rattle.cad_runs.specs.Commands.{Reply, ran, failed, limit, bad, ill, are_signers, types_of}
+use Rattle.cad_runs.specs.Commands.{failed, bad, are_signers, types_of}
 use Rattle.cad_runs.specs.Run.{bound, run_transaction}
+use Rattle.cad_run_outcomes.specs.Outcomes.{Outcome, stays, settled}
 use Rattle.cad_run_worlds.specs.Replies.{AreArguments}
 
--- what a command comes to: a reply, and the World where it becomes another
-pub data Outcome : Type 0 where
-  stays : Reply Data → Outcome
-  leads : Reply Data → World → Outcome
-
 -- ---- runs
-
--- what was made and destroyed, and the events as JSON, by what the contracts of the state declare
-abbrev pub receipt : State → Reply Data
-receipt s = ran s.made s.destroyed (map (told (declarations (shapes s.contracts))) s.events)
-
--- the World that the state leaves, or the one before
-abbrev pub settled : run.Outcome (Unit {0}) → Outcome
-settled (run.ok u s) = leads (receipt s) (left_world s)
-settled (run.failed n) = stays (failed n)
-settled run.limit = stays limit
-settled run.ill = stays ill
 
 -- the transaction runs over a World on a row of arguments with so many units, and comes to this
 abbrev pub Ran : Front → World → Program → TransactionBody → Row → List Address → ℕ → Outcome → Type 0

@@ -1,92 +1,25 @@
 // The run of a transaction over a World.
-ghost use Rattle.std.specs.Prelude.{◌≡◌, ◌≢◌, ◌≤◌, List, [], IfOk, map};
+ghost use Rattle.std.specs.Prelude.{◌≡◌, ◌≢◌, ◌≤◌, IfOk};
 ghost use Rattle.cad_declarations.specs.Views.{transaction_of};
-ghost use Rattle.cad_outcomes.specs.Outcomes.{Does, no_value};
 ghost use Rattle.cad_rows.specs.Views.{pure_row};
 ghost use Rattle.cad_runs.specs.Commands.{failed};
 ghost use Rattle.cad_run_worlds.specs.Worlds.{run_world};
-ghost use Rattle.cad_state.specs.Views.{program_of, state_over};
+ghost use Rattle.cad_state.specs.Views.{program_of};
 ghost use Rattle.cad_transaction_replies.specs.Replies as spec;
-ghost use Rattle.cad_transaction_replies.specs.Views.{Tells, TellsOver};
-ghost use Rattle.cad_world.specs.Begin.{kept_account};
+ghost use Rattle.cad_run_outcomes.specs.Outcomes.{Outcome, stays};
+ghost use Rattle.cad_run_outcomes.specs.Views.{TellsOver};
 ghost use Rattle.cad_world.specs.State as machine;
 ghost use Rattle.cad_worlds.specs.Standing.{IsSoundButCode};
 
-use crate::left::outcome_of_state;
-use crate::outcome::{Receipt, RunOutcome, TransactionOutcome};
 use cad_declarations::{Checked, TypedTransaction};
 use cad_discards::hold;
-use cad_outcomes::Stop;
 use cad_rows::{Place, discard_row};
-use cad_run_worlds::{
-    RunWorld, Unfinished, begin_over, discard_run_world, reply_to_stop, unfinished,
-};
-use cad_state::{Accounts, RunState, discard_contracts, discard_known, discard_state};
+use cad_run_outcomes::{RunOutcome, outcome_of_run};
+use cad_run_worlds::{RunWorld, Unfinished, begin_over, discard_run_world};
 use cad_syntax::Address;
 use cad_transaction_runs::{FrontEnd, run_transaction};
-use cad_worlds::World;
 use std::alloc::Global;
 use std::rc::Rc;
-
-/// What a run comes to that ended in a state, or stopped there, over accounts without labels. Unknown where it asked of a code of
-/// which the front end says nothing, Lacks where it lacked an account, Whole where it added a contract and some accounts may not be
-/// known.
-pub fn outcome_of_run(
-    alloc: Global,
-    state: RunState,
-    run: Result<(), Stop>,
-) -> Result<RunOutcome, Unfinished>
-    ensures { (action : machine.Action (Unit {0})) (before : machine.State) (base : List machine.Account) → map kept_account base ≡ base → Does no_value action before (state_over base state) run
-        → IfOk result (λ it. (spec.settled (action before) ≢ spec.stays (failed 0)) × TellsOver base it (spec.settled (action before))) }
-{
-    match run {
-        Ok(()) => outcome_of_state(alloc, state),
-        Err(stop) => match reply_to_stop(stop) {
-            Ok(reply) => {
-                discard_state(state);
-                Ok(RunOutcome::Stays(reply))
-            }
-            Err(_) => Err(unfinished(state)),
-        },
-    }
-}
-
-/// A receipt, and the World that is left. Memory where some accounts may not be known.
-fn leads_to(receipt: Receipt, world: RunWorld) -> Result<TransactionOutcome, Unfinished>
-    ensures { (outcome : spec.Outcome) → TellsOver [] (RunOutcome.Leads receipt world) outcome → IfOk result (λ it. Tells it outcome) }
-{
-    let RunWorld {
-        accounts,
-        contracts,
-        next_identity,
-    } = world;
-    match accounts {
-        Accounts::All(accounts) => {
-            let world = World {
-                accounts,
-                contracts,
-                next_identity,
-            };
-            Ok(TransactionOutcome::Leads(receipt, world))
-        }
-        Accounts::Part { count: _, known } => {
-            drop(receipt);
-            discard_known(known);
-            discard_contracts(contracts);
-            Err(Unfinished::Memory)
-        }
-    }
-}
-
-/// What a run over a whole World comes to. Memory where some accounts may not be known.
-pub fn whole_outcome(outcome: RunOutcome) -> Result<TransactionOutcome, Unfinished>
-    ensures { (told : spec.Outcome) → TellsOver [] outcome told → IfOk result (λ it. Tells it told) }
-{
-    match outcome {
-        RunOutcome::Stays(reply) => Ok(TransactionOutcome::Stays(reply)),
-        RunOutcome::Leads(receipt, world) => leads_to(receipt, world),
-    }
-}
 
 /// What a transaction of a program comes to over a World, on a row of arguments.
 fn run_over<E: FrontEnd>(
@@ -100,7 +33,7 @@ fn run_over<E: FrontEnd>(
     limit: u64,
 ) -> Result<RunOutcome, Unfinished>
     requires { limit ≤ 1000000 }
-    ensures { (w : machine.World) → run_world w.accounts world ≡ w → IsSoundButCode w → IfOk result (λ it. (o : spec.Outcome) × spec.Ran (E.front end.now) w (program_of checked.value) (transaction_of transaction.now) (pure_row row.items) signers.now limit o × (o ≢ spec.stays (failed 0)) × TellsOver w.accounts it o) }
+    ensures { (w : machine.World) → run_world w.accounts world ≡ w → IsSoundButCode w → IfOk result (λ it. (o : Outcome) × spec.Ran (E.front end.now) w (program_of checked.value) (transaction_of transaction.now) (pure_row row.items) signers.now limit o × (o ≢ stays (failed 0)) × TellsOver w.accounts it o) }
 {
     let mut state = begin_over(alloc, checked, world, limit);
     let run = run_transaction(2 * limit + 2, end, transaction, row, signers, &mut state);
@@ -119,7 +52,7 @@ pub(crate) fn outcome_of_row<E: FrontEnd>(
     limit: u64,
 ) -> Result<RunOutcome, Unfinished>
     requires { limit ≤ 1000000 }
-    ensures { (w : machine.World) → run_world w.accounts world ≡ w → IsSoundButCode w → IfOk result (λ it. (o : spec.Outcome) × spec.Ran (E.front end.now) w (program_of checked.now.value) (transaction_of transaction.now) (pure_row row.items) signers.now limit o × (o ≢ spec.stays (failed 0)) × TellsOver w.accounts it o) }
+    ensures { (w : machine.World) → run_world w.accounts world ≡ w → IsSoundButCode w → IfOk result (λ it. (o : Outcome) × spec.Ran (E.front end.now) w (program_of checked.now.value) (transaction_of transaction.now) (pure_row row.items) signers.now limit o × (o ≢ stays (failed 0)) × TellsOver w.accounts it o) }
 {
     match hold(checked) {
         Ok(shared) => run_over(alloc, end, shared, transaction, world, row, signers, limit),

@@ -16,3 +16,4 @@ pub mod WantedAccounts
 pub mod PartMade
 pub mod PartPassed
 pub mod PartKnown
+pub mod Passed

@@ -5,3 +5,4 @@ pub mod Listed
 pub mod Laws
 pub mod Wanted
 pub mod Code
+pub mod Passed

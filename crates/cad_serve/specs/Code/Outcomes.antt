@@ -8,7 +8,7 @@ use Rattle.cad_runs.specs.Commands as command
 use Rattle.cad_runs.specs.Commands.{Command}
 use Rattle.cad_store.specs.declared.store.Store.{Store}
 use Rattle.cad_store.specs.Stores.{held, IsOut}
-use Rattle.cad_transaction_replies.specs.Replies as spec
+use Rattle.cad_run_outcomes.specs.Outcomes as spec
 use Rattle.cad_world.specs.State.{World}
 use Rattle.cad_worlds.specs.Standing.{StandsFor, Becomes}
 use Rattle.cad_serve.specs.Answer.{Does, Commits, answer_line}

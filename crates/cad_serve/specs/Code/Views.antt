@@ -4,7 +4,7 @@ use Rattle.serde_json.specs.Data.{Data}
 use Rattle.serde_json.specs.Written.{compact_text}
 use Rattle.cad_runs.specs.Commands as command
 use Rattle.cad_runs.specs.Commands.{account_made, result, failed, limit, bad, rejected, ill}
-use Rattle.cad_transaction_replies.specs.Views.{IsReceipt}
+use Rattle.cad_run_outcomes.specs.Views.{IsReceipt}
 use Rattle.cad_serve.specs.declared.reply.Reply.{Reply}
 use Rattle.cad_serve.specs.declared.reply.Reply.TheVariants as reply
 

@@ -3,8 +3,8 @@ use Rattle.serde_json.specs.View.{view}
 use Rattle.cad_runs.specs.Commands.{failed}
 use Rattle.cad_run_worlds.proofs.Arguments.{distinct_of}
 use Rattle.cad_state.specs.Views.{program_of}
-use Rattle.cad_transaction_replies.proofs.Coming.{if_ok, refused_with}
-use Rattle.cad_transaction_replies.specs.Replies.{stays}
+use Rattle.cad_run_outcomes.proofs.Results.{if_ok, refused_with}
+use Rattle.cad_run_outcomes.specs.Outcomes.{stays}
 use Rattle.cad_worlds.specs.Standing.{world_of}
 use Rattle.cad_deploy_replies.proofs.Coming.{IsOutcome, failed_apart, row_found, row_missing}
 use Rattle.cad_deploy_replies.specs.Replies.{unfit, runs}

@@ -4,8 +4,8 @@ use Rattle.cad_declarations.specs.declared.program.Checked.{Checked}
 use Rattle.cad_deploys.specs.Passed.{is_contract_of}
 use Rattle.cad_runs.specs.Commands.{failed}
 use Rattle.cad_state.specs.Views.{program_of}
-use Rattle.cad_transaction_replies.proofs.Coming.{refused_with}
-use Rattle.cad_transaction_replies.specs.Replies.{stays}
+use Rattle.cad_run_outcomes.proofs.Results.{refused_with}
+use Rattle.cad_run_outcomes.specs.Outcomes.{stays}
 use Rattle.cad_worlds.specs.Standing.{world_of}
 use Rattle.cad_deploy_replies.proofs.Coming.{IsOutcome, failed_apart}
 use Rattle.cad_deploy_replies.specs.Replies.{misnamed}

@@ -4,8 +4,8 @@ use Rattle.cad_rows.specs.Views.{pure_row}
 use Rattle.cad_runs.specs.Run.{bound, run_deploy}
 use Rattle.cad_run_worlds.proofs.Runs.{fuel, ran_so}
 use Rattle.cad_state.specs.Views.{contract_of, program_of}
-use Rattle.cad_transaction_replies.proofs.Coming.{if_ok}
-use Rattle.cad_transaction_replies.specs.Replies.{settled}
+use Rattle.cad_run_outcomes.proofs.Results.{if_ok}
+use Rattle.cad_run_outcomes.specs.Outcomes.{settled}
 use Rattle.cad_world.specs.Begin.{begun}
 use Rattle.cad_worlds.specs.Standing.{world_of}
 use Rattle.cad_deploy_replies.proofs.running.run_over.Goals as goal

@@ -5,7 +5,7 @@ use Rattle.cad_commands.specs.Views.{pure_command}
 use Rattle.cad_commands.specs.declared.kinds.Command.{Command}
 use Rattle.cad_runs.specs.Commands.{bad}
 use Rattle.cad_store.specs.Stores.{held}
-use Rattle.cad_transaction_replies.specs.Replies.{stays}
+use Rattle.cad_run_outcomes.specs.Outcomes.{stays}
 use Rattle.cad_serve.specs.Answer.{unread}
 use Rattle.cad_serve.specs.Code.Programs.{code_of}
 use Rattle.cad_serve.proofs.Comings.{comes_command, comes_deploy, does_command}

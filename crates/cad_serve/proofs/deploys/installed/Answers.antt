@@ -7,7 +7,7 @@ use Rattle.cad_fronts.specs.Views.{front_of}
 use Rattle.cad_loads.specs.Loads.{program_in}
 use Rattle.cad_runs.specs.Commands.{failed}
 use Rattle.cad_store.specs.Stores.{held}
-use Rattle.cad_transaction_replies.specs.Replies as spec
+use Rattle.cad_run_outcomes.specs.Outcomes as spec
 use Rattle.cad_worlds.specs.Standing.{world_of}
 use Rattle.cad_serve.proofs.Comings.{comes_as}
 use Rattle.cad_serve_parts.proofs.Results.{if_ok}

@@ -1,6 +1,6 @@
 use Rattle.std.proofs.Common.{List, IfOk, subst}
 use Rattle.std.specs.Prelude.{map}
-use Rattle.cad_check.specs.Answers.{TextVerdict}
+use Rattle.cad_fronts.specs.Passed.{TextVerdict}
 use Rattle.cad_loads.specs.Loads.{entries_of, loaded_of}
 use Rattle.cad_state.specs.Views.{contract_of}
 use Rattle.cad_state.specs.declared.state.Contract.{Contract}

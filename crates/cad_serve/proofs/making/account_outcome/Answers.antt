@@ -1,7 +1,7 @@
 use Rattle.std.proofs.Common.{◌≡◌, ◌+◌, ℕ, length, refl, subst, arith}
 use Rattle.cad_runs.specs.Commands.{account, account_made, failed}
 use Rattle.cad_store.specs.Stores.{held}
-use Rattle.cad_transaction_replies.specs.Replies.{leads}
+use Rattle.cad_run_outcomes.specs.Outcomes.{leads}
 use Rattle.cad_world.specs.State.{World}
 use Rattle.cad_serve.specs.Answer.{spent, made, one_more, Does}
 use Rattle.cad_serve_parts.specs.Code.Worlds.{LeadsOn}

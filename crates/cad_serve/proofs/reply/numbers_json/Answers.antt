@@ -3,7 +3,7 @@ use Rattle.std.proofs.lemmas.List.{drop_more}
 use Rattle.std.specs.Fmt.{decimal}
 use Rattle.serde_json.specs.Data.{array, string}
 use Rattle.serde_json.specs.Written.{compact_text, items_text}
-use Rattle.cad_transaction_replies.proofs.Listing.{items_turn, items_end}
+use Rattle.cad_run_outcomes.proofs.Listing.{items_turn, items_end}
 use Rattle.cad_serve.specs.Answer.{number_items}
 use Rattle.cad_serve.proofs.reply.numbers_json.Goals as goal
 

@@ -3,7 +3,7 @@ use Rattle.std.specs.Prelude.{map}
 use Rattle.serde_json.specs.View.{view}
 use Rattle.cad_runs.specs.Commands.{transaction}
 use Rattle.cad_store.specs.Stores.{held}
-use Rattle.cad_transaction_replies.specs.Replies as spec
+use Rattle.cad_run_outcomes.specs.Outcomes as spec
 use Rattle.cad_serve.specs.Answer.{Does, comes, transacts}
 use Rattle.cad_serve.proofs.Comings.{comes_as}
 use Rattle.cad_serve_parts.proofs.Results.{if_ok}

@@ -1,6 +1,6 @@
 use Rattle.std.proofs.Common.{◌≡◌, map, drop}
 use Rattle.std.specs.Cmp.Lexicographic.{pointwise}
-use Rattle.cad_loading.specs.Again.{same_source}
+use Rattle.cad_world_reading.specs.Passed.{same_source}
 use Rattle.cad_serve_parts.specs.Code.Parts.{one_source}
 use Rattle.cad_serve_parts.proofs.parts.are_same.Given as goal
 

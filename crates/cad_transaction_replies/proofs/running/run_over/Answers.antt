@@ -10,9 +10,9 @@ use Rattle.cad_state.specs.Views.{program_of}
 use Rattle.cad_transaction_runs.specs.OverStorable.{FindsAndCarriesOutOverStorable}
 use Rattle.cad_world.specs.Begin.{begun}
 use Rattle.cad_worlds.specs.Standing.{any_accepted}
-use Rattle.cad_transaction_replies.proofs.Coming.{if_ok}
-use Rattle.cad_transaction_replies.proofs.SoundAccounts.{accounts_storable}
-use Rattle.cad_transaction_replies.specs.Replies.{settled}
+use Rattle.cad_run_outcomes.proofs.Results.{if_ok}
+use Rattle.cad_run_outcomes.proofs.SoundAccounts.{accounts_storable}
+use Rattle.cad_run_outcomes.specs.Outcomes.{settled}
 use Rattle.cad_transaction_replies.proofs.running.run_over.Goals as goal
 
 pub returns : goal.returns

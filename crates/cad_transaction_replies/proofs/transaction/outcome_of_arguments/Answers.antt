@@ -3,8 +3,10 @@ use Rattle.serde_json.specs.View.{view}
 use Rattle.cad_runs.specs.Commands.{bad}
 use Rattle.cad_run_worlds.proofs.Arguments.{row_found, row_missing, distinct_of, counts_agree}
 use Rattle.cad_state.specs.Views.{program_of}
-use Rattle.cad_transaction_replies.proofs.Coming.{if_ok, IsOutcome, refused_with}
-use Rattle.cad_transaction_replies.specs.Replies.{stays, unfit, runs}
+use Rattle.cad_run_outcomes.proofs.Results.{if_ok, refused_with}
+use Rattle.cad_transaction_replies.proofs.Coming.{IsOutcome}
+use Rattle.cad_run_outcomes.specs.Outcomes.{stays}
+use Rattle.cad_transaction_replies.specs.Replies.{unfit, runs}
 use Rattle.cad_transaction_replies.proofs.transaction.outcome_of_arguments.Goals as goal
 
 pub returns-in-Ok-Some : goal.returns-in-Ok-Some

@@ -3,8 +3,10 @@ use Rattle.serde_json.specs.View.{view}
 use Rattle.cad_runs.specs.Commands.{bad}
 use Rattle.cad_run_worlds.proofs.Arguments.{counts_differ}
 use Rattle.cad_state.specs.Views.{program_of}
-use Rattle.cad_transaction_replies.proofs.Coming.{IsOutcome, refused_with}
-use Rattle.cad_transaction_replies.specs.Replies.{stays, unsigned, miscounted}
+use Rattle.cad_run_outcomes.proofs.Results.{refused_with}
+use Rattle.cad_transaction_replies.proofs.Coming.{IsOutcome}
+use Rattle.cad_run_outcomes.specs.Outcomes.{stays}
+use Rattle.cad_transaction_replies.specs.Replies.{unsigned, miscounted}
 use Rattle.cad_transaction_replies.proofs.transaction.outcome_of_transaction.Goals as goal
 
 pub returns-then-not-are_signers : goal.returns-then-not-are_signers

@@ -5,8 +5,10 @@ use Rattle.cad_declarations.specs.Views.{transaction_of}
 use Rattle.cad_declarations.specs.declared.program.Checked.{Checked}
 use Rattle.cad_runs.specs.Commands.{bad}
 use Rattle.cad_state.specs.Views.{program_of}
-use Rattle.cad_transaction_replies.proofs.Coming.{IsOutcome, refused_with}
-use Rattle.cad_transaction_replies.specs.Replies.{stays, no_transaction}
+use Rattle.cad_run_outcomes.proofs.Results.{refused_with}
+use Rattle.cad_transaction_replies.proofs.Coming.{IsOutcome}
+use Rattle.cad_run_outcomes.specs.Outcomes.{stays}
+use Rattle.cad_transaction_replies.specs.Replies.{no_transaction}
 use Rattle.cad_transaction_replies.proofs.transaction.transact_over.Goals as goal
 
 pub outcome_of_transaction-requires-clause-is : goal.outcome_of_transaction-requires-clause-is

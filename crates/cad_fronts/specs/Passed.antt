@@ -1,0 +1,2 @@
+-- What the crates above name of the ones below.
+pub use Rattle.cad_loading.specs.Passed.{AcceptedTextsHaveNoStop, OneAcceptance, OneFirstStop, TextVerdict}
