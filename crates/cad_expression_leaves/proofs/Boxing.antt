@@ -14,24 +14,7 @@ use Rattle.cad_evaluation.specs.Uses.{Pair}
 use Rattle.cad_expression_leaves.specs.Code.Steps.{Boxes, GoesOn, pair_of}
 use Rattle.cad_expression_leaves.specs.Views.{tree_in}
 use Rattle.cad_expression_leaves.proofs.Going.{goes_on, goes_any, goes_given}
-
-pub does_boxed : (p : Action Tree) (s t : State) (found : Result code.Tree Stop) (result : Result (Box code.Tree) Stop) → Boxes found result → Does pure_tree p s t found → Does tree_in p s t result
-does_boxed p s t (Ok u) (Ok b) is done = done ∙ ap (λ v. ok (pure_tree v) t) (sym is)
-does_boxed p s t (Ok u) (Err why) is done = subst (λ v. Stops (p s) v) (sym is) tt
-does_boxed p s t (Err why) (Ok b) is done = absurd is
-does_boxed p s t (Err why) (Err same) is done = subst (λ v. Stops (p s) v) (sym is) done
-
-pub gives_boxed : (p : Action Tree) (found : Result code.Tree Stop) (result : Result (Box code.Tree) Stop) → Boxes found result → o.Gives pure_tree p found → o.Gives tree_in p result
-gives_boxed p (Ok u) (Ok b) is given = λ s. given s ∙ ap (λ v. ok (pure_tree v) s) (sym is)
-gives_boxed p (Ok u) (Err why) is given = λ s. subst (λ v. Stops (p s) v) (sym is) tt
-gives_boxed p (Err why) (Ok b) is given = absurd is
-gives_boxed p (Err why) (Err same) is given = λ s. subst (λ v. Stops (p s) v) (sym is) (given s)
-
-pub carries_boxed : (p : Action Tree) (x y : RunState) (found : Result code.Tree Stop) (result : Result (Box code.Tree) Stop) → Boxes found result → CarriesOut pure_tree p x y found → CarriesOut tree_in p x y result
-carries_boxed p x y found result is done w = does_boxed p (state_over w x) (state_over w y) found result is (done w)
-
-pub finds_boxed : (p : Action Tree) (x y : RunState) (found : Result code.Tree Stop) (result : Result (Box code.Tree) Stop) → Boxes found result → FindsAndCarriesOut pure_tree p x y found → FindsAndCarriesOut tree_in p x y result
-finds_boxed p x y found result is done w ready = does_boxed p (state_over w x) (state_over w y) found result is (done w ready)
+pub use Rattle.cad_boxed_trees.proofs.Boxing.{does_boxed, gives_boxed, carries_boxed, finds_boxed}
 
 -- ---- what goes on from a part, and its value stands on the heap then
 

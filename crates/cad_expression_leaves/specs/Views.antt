@@ -1,4 +1,5 @@
 -- What the code calls, and rows that it gives.
+pub use Rattle.cad_boxed_trees.specs.Views.{items_row, tree_in}
 use Rattle.cad_evaluation.specs.Callees as spec
 use Rattle.cad_expression_leaves.specs.declared.callees.Callee.{Callee}
 use Rattle.cad_expression_leaves.specs.declared.callees.Callee.TheVariants.{Method, Function, Initializer, DestroyedEvent}
@@ -21,13 +22,6 @@ callee_of (Method of name label) = spec.method of.now name.now label
 callee_of (Function name) = spec.function name.now
 callee_of (Initializer of label) = spec.initializer of.now label
 callee_of (DestroyedEvent of label) = spec.destroyed_event of.now label
-
--- the value that stands on the heap
-abbrev pub tree_in : Box Tree Global → rows.Tree
-tree_in b = pure_tree b.value
-
-abbrev pub items_row : Vec Place Global → Row
-items_row v = pure_row v.items
 
 abbrev pub pairs_of : Vec Pair Global → List uses.Pair
 pairs_of v = map pure_pair v.items

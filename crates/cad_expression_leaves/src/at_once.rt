@@ -17,8 +17,8 @@ ghost use Rattle.cad_world.specs.Labels.{variables};
 ghost use Rattle.cad_world.specs.Rows.{full, plain, slot};
 ghost use Rattle.cad_world.specs.State.{Account, give};
 
-use crate::boxes::boxed;
 use crate::values::{boxed_truth, memory};
+use cad_boxed_trees::boxed;
 use cad_declarations::{Place, Term};
 use cad_grammar::BinaryOperator;
 use cad_operators::{calculate_numbers, compare_numbers, number_tree as tree_of_number};

@@ -8,7 +8,7 @@ ghost use Rattle.cad_rows.specs.Views.{pure_row, pure_tree};
 ghost use Rattle.cad_state.specs.Views.{CarriesOut};
 ghost use Rattle.cad_syntax.specs.Types.{pure_type};
 
-use crate::boxes::unboxed;
+use cad_boxed_trees::unboxed;
 use cad_members::Pair;
 use cad_outcomes::Stop;
 use cad_rows::{Place, Tree, add_last, discard_tree};

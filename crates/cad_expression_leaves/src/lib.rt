@@ -4,7 +4,6 @@
 
 mod apart;
 mod at_once;
-mod boxes;
 mod callees;
 mod evaluator;
 mod growth;
@@ -18,7 +17,6 @@ pub use callees::{Callee, Callees, Quiet};
 // For the crates above alone: what evaluates the parts of an expression, values on the heap between the leaves, and the leaves.
 pub use apart::{discard_pairs, discard_receiver, discard_row};
 pub use at_once::{binary_at_once, boxed_number, number_at_once, truth_at_once};
-pub use boxes::{boxed, discard_boxed, unboxed};
 pub use evaluator::Evaluator;
 pub use growth::{push_pair, push_value};
 pub use literals::{call_type, literal};
@@ -34,6 +32,7 @@ pub use values::{
 };
 
 // What the crates above use of the ones below.
+pub use cad_boxed_trees::{boxed, discard_boxed, unboxed};
 pub use cad_members::{Pair, contracts_account, elements, member};
 pub use cad_receivers::{Receiver, aim, check_callable, check_use, settle_receiver};
 pub use cad_selections::get;

@@ -13,8 +13,8 @@ ghost use Rattle.cad_values.specs.Values as v;
 ghost use Rattle.cad_values.specs.Values.{pure_value};
 ghost use Rattle.cad_world.specs.Trees.{of_plain};
 
-use crate::boxes::boxed;
 use crate::values::memory;
+use cad_boxed_trees::boxed;
 use cad_declarations::Term;
 use cad_making::{before_value, case};
 use cad_operators::{bool_tree, nil_tree, number_tree, plain_tree};

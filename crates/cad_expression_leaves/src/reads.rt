@@ -11,9 +11,9 @@ ghost use Rattle.cad_rows.specs.Views.{pure_shape, pure_tree};
 ghost use Rattle.cad_state.specs.Views.{FindsAndCarriesOut};
 ghost use Rattle.cad_values.specs.Values.{pure_value};
 
-use crate::boxes::boxed;
 use crate::values::memory;
 use cad_access::has_right;
+use cad_boxed_trees::boxed;
 use cad_builtins::needed;
 use cad_members::member;
 use cad_outcomes::Stop;

@@ -9,7 +9,7 @@ ghost use Rattle.cad_receivers.specs.Views.{receiver_of};
 ghost use Rattle.cad_standing.specs.Views.{standing_of};
 ghost use Rattle.cad_state.specs.declared.state.RunState.{RunState};
 
-use crate::boxes::{boxed, unboxed};
+use cad_boxed_trees::{boxed, unboxed};
 use cad_outcomes::Stop;
 use cad_receivers::Receiver;
 use cad_rows::{Tree, discard_tree};

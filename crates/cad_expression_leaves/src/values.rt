@@ -21,7 +21,7 @@ ghost use Rattle.cad_world.specs.State.{Action, give};
 ghost use Rattle.cad_world.specs.Transfers.{transferred};
 ghost use Rattle.cad_world.specs.Trees as trees;
 
-use crate::boxes::{boxed, discard_boxed, unboxed};
+use cad_boxed_trees::{boxed, discard_boxed, unboxed};
 use cad_declarations::discard_type;
 use cad_grammar::{BinaryOperator, CastKind, UnaryOperator};
 use cad_making::end_variables;

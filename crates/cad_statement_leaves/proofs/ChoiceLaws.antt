@@ -12,10 +12,13 @@ use Rattle.cad_evaluation.specs.Terms.{eval}
 use Rattle.cad_statement_leaves.proofs.Keeping.{place_keeps}
 use Rattle.cad_statement_leaves.proofs.Steps.{Fails, FailsAnyhow, both, both_any, both_given, same_outcome, stops, any_then, any_stops}
 use Rattle.cad_statement_leaves.specs.Code.Parts as parts
-use Rattle.cad_expression_leaves.specs.Views.{items_row, tree_in}
+use Rattle.cad_boxed_trees.specs.Views.{items_row, tree_in}
 use Rattle.cad_labels.proofs.Forms.{keeps_spend}
 use Rattle.cad_labels.specs.Laws.{AnyOne, CalleesKeep}
-use Rattle.cad_expression_leaves.specs.Passed.{content_or_none, cast_place, standing_of, Standing}
+use Rattle.cad_standing.specs.CastPlaces.{cast_place}
+use Rattle.cad_standing.specs.Views.{standing_of}
+use Rattle.cad_standing.specs.declared.standing.Standing.{Standing}
+use Rattle.cad_value_operations.specs.Optionals.{content_or_none}
 use Rattle.cad_outcomes.specs.Outcomes.{Stops, Gives, no_value}
 use Rattle.cad_outcomes.specs.declared.stop.Stop.{Stop}
 use Rattle.cad_rows.specs.Views.{pure_tree}

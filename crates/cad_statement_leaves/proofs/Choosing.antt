@@ -27,10 +27,10 @@ use Rattle.cad_label_runs.proofs.Statements.{exec_block_keeps}
 use Rattle.cad_label_runs.proofs.Values.{FlowHasNone, MaybeHasNone}
 use Rattle.cad_outcomes.specs.Outcomes.{no_value}
 use Rattle.cad_outcomes.specs.declared.stop.Stop.{Stop}
-use Rattle.cad_expression_leaves.specs.Views.{tree_in}
+use Rattle.cad_boxed_trees.specs.Views.{tree_in}
 use Rattle.cad_rows.specs.declared.tree.Tree as held
-use Rattle.cad_expression_leaves.proofs.Passed.{casts_first}
-use Rattle.cad_expression_leaves.specs.Passed.{cast_place, if_cast}
+use Rattle.cad_standing.proofs.CastLaws.{casts_first}
+use Rattle.cad_standing.specs.CastPlaces.{cast_place, if_cast}
 use Rattle.cad_outcomes.proofs.Steps.{stops_same}
 use Rattle.cad_state.proofs.Finding.{find_then, find_same}
 use Rattle.cad_state.specs.Views.{state_over, CarriesOut, FindsAndCarriesOut}

@@ -20,7 +20,7 @@ use Rattle.cad_statement_leaves.specs.Code.Results.{turn_end}
 use Rattle.cad_statement_leaves.specs.Views.{flow_of}
 use Rattle.cad_statement_leaves.specs.declared.flow.Flow.{Flow}
 use Rattle.cad_statement_leaves.specs.declared.flow.Flow.TheVariants.{Next}
-use Rattle.cad_expression_leaves.specs.Views.{items_row, tree_in}
+use Rattle.cad_boxed_trees.specs.Views.{items_row, tree_in}
 use Rattle.cad_labels.specs.Laws.{AnyOne, HasNone, HasNoneInRow, Keeps, CalleesKeep}
 use Rattle.cad_labels.proofs.Forms.{keeps_spend, keeps_stuck, keeps_within, node_none, rest_none}
 use Rattle.cad_labels.proofs.Keeping.{keeps_bind}

@@ -17,7 +17,8 @@ use Rattle.cad_label_runs.proofs.Flows.{is_case_keeps, nil_stays_keeps}
 use Rattle.cad_label_runs.proofs.Standing.{location_of_keeps}
 use Rattle.cad_label_runs.proofs.Terms.{eval_keeps, eval_place_keeps}
 use Rattle.cad_label_runs.proofs.Values.{MaybeHasNone, opened_keeps}
-use Rattle.cad_expression_leaves.specs.Passed.{content_or_none, cast_content, cast_value, cast_place}
+use Rattle.cad_standing.specs.CastPlaces.{cast_content, cast_value, cast_place}
+use Rattle.cad_value_operations.specs.Optionals.{content_or_none}
 use Rattle.cad_types.specs.Below.{below}
 use Rattle.cad_world.specs.Declared.{declarations}
 use Rattle.cad_world.specs.Locations.{Location}

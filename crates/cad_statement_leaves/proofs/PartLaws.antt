@@ -13,7 +13,7 @@ use Rattle.cad_evaluation.specs.Statements.{emits}
 use Rattle.cad_evaluation.specs.Terms.{eval, eval_place, eval_arguments}
 use Rattle.cad_statement_leaves.specs.Code.Parts as parts
 use Rattle.cad_statement_leaves.proofs.Steps.{Fails, FailsAnyhow, both, both_any, both_given, stops, any_then, any_stops}
-use Rattle.cad_expression_leaves.specs.Views.{items_row, tree_in}
+use Rattle.cad_boxed_trees.specs.Views.{items_row, tree_in}
 use Rattle.cad_labels.specs.Laws.{AnyOne}
 use Rattle.cad_labels.proofs.Forms.{keeps_spend}
 use Rattle.cad_locations.specs.Views.{location_of}
@@ -25,7 +25,8 @@ use Rattle.cad_rows.specs.Views.{pure_tree, pure_row}
 use Rattle.cad_rows.specs.declared.tree.Tree.{Tree}
 use Rattle.cad_rows.specs.declared.tree.Place.{Place}
 use Rattle.std.specs.Global.{Box, Vec}
-use Rattle.cad_expression_leaves.specs.Passed.{standing_of, Standing}
+use Rattle.cad_standing.specs.Views.{standing_of}
+use Rattle.cad_standing.specs.declared.standing.Standing.{Standing}
 use Rattle.cad_state.specs.Views.{state_over, CarriesOut, FindsAndCarriesOut}
 use Rattle.cad_state.specs.declared.state.RunState.{RunState}
 use Rattle.cad_world.specs.Rows as rows

@@ -26,7 +26,7 @@ use Rattle.cad_locations.specs.Views.{location_of}
 use Rattle.cad_locations.specs.declared.location.Location.{Location}
 use Rattle.cad_outcomes.specs.Outcomes.{Gives, no_value}
 use Rattle.cad_outcomes.specs.declared.stop.Stop.{Stop}
-use Rattle.cad_expression_leaves.specs.Views.{tree_in}
+use Rattle.cad_boxed_trees.specs.Views.{tree_in}
 use Rattle.cad_rows.specs.Views.{pure_tree}
 use Rattle.cad_rows.specs.declared.tree.Tree.{Tree}
 use Rattle.cad_state.specs.Views.{state_over, CarriesOut, FindsAndCarriesOut}

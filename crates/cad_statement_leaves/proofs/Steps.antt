@@ -12,7 +12,7 @@ use Rattle.cad_labels.specs.Laws.{Keeps}
 use Rattle.cad_outcomes.proofs.Steps.{then, stops_on, gives_here}
 use Rattle.cad_outcomes.specs.Outcomes.{Stops, Gives}
 use Rattle.cad_outcomes.specs.declared.stop.Stop.{Stop}
-use Rattle.cad_expression_leaves.specs.Views.{tree_in}
+use Rattle.cad_boxed_trees.specs.Views.{tree_in}
 use Rattle.cad_rows.specs.declared.tree.Tree.{Tree}
 use Rattle.cad_state.proofs.Finding.{find_then, find_same}
 use Rattle.cad_state.specs.Views.{state_over, IsReady, CarriesOut, FindsAndCarriesOut}

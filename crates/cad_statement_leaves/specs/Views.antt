@@ -1,6 +1,6 @@
 -- How statements end.
 use Rattle.cad_evaluation.specs.Flows as spec
-use Rattle.cad_expression_leaves.specs.Views.{tree_in}
+use Rattle.cad_boxed_trees.specs.Views.{tree_in}
 use Rattle.cad_statement_leaves.specs.declared.flow.Flow.{Flow}
 use Rattle.cad_statement_leaves.specs.declared.flow.Flow.TheVariants.{Next, Returned, Broken, Continued}
 

@@ -5,7 +5,7 @@ ghost use Rattle.cad_statement_leaves.specs.Code.Parts as parts;
 ghost use Rattle.cad_statement_leaves.specs.Code.Results as results;
 ghost use Rattle.cad_statement_leaves.specs.Views.{flow_of};
 
-use cad_expression_leaves::discard_boxed;
+use cad_boxed_trees::discard_boxed;
 use cad_making::end_variables;
 use cad_outcomes::Stop;
 use cad_rows::Tree;

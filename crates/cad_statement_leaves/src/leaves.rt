@@ -1,19 +1,20 @@
 // What statements do with values in hand.
 ghost use Rattle.cad_evaluation.specs.Flows as flows;
-ghost use Rattle.cad_expression_leaves.specs.Views.{tree_in};
+ghost use Rattle.cad_boxed_trees.specs.Views.{tree_in};
 ghost use Rattle.cad_outcomes.specs.Outcomes.{Gives, no_value};
 ghost use Rattle.cad_rows.specs.Views.{pure_row, pure_tree};
 ghost use Rattle.cad_state.specs.Views.{CarriesOut};
 ghost use Rattle.cad_statement_leaves.specs.Code.Parts as parts;
 ghost use Rattle.cad_statement_leaves.specs.Values as values;
 
-use cad_expression_leaves::{compared, discard_boxed};
+use cad_boxed_trees::discard_boxed;
 use cad_making::{emit, event};
 use cad_operators::{same, truth_in};
 use cad_outcomes::Stop;
 use cad_rows::{Tree, discard_row};
 use cad_state::RunState;
 use cad_syntax::TypeId;
+use cad_value_operations::compared;
 
 /// The truth that a value is; IllTyped where it is none.
 #[inline(never)]

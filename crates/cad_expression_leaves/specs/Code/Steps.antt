@@ -30,6 +30,7 @@ use Rattle.cad_evaluation.specs.Terms.{eval, eval_place, eval_use, eval_terms, e
 use Rattle.cad_evaluation.specs.Uses.{Pair, coalesced, invoked, nil_told, tick_if_called, truth_only, wrapped_if}
 use Rattle.cad_labels.specs.Laws.{Keeps}
 use Rattle.cad_declarations.specs.Typed.{FunctionBody}
+pub use Rattle.cad_boxed_trees.specs.Views.{Boxes}
 use Rattle.cad_outcomes.specs.declared.stop.Stop.{Stop}
 use Rattle.cad_outcomes.specs.declared.stop.Stop.TheVariants.{Memory}
 use Rattle.cad_rows.specs.declared.tree.Tree as code
@@ -47,13 +48,6 @@ pub record GoesOn {A B C D : Type 0} (P : A → Type 0) (view : B → A) (out : 
 abbrev pub CopiesTo : {A B : Type 0} → (B → A) → A → Result B Stop → Type 0
 CopiesTo view a (Ok b) = view b ≡ a
 CopiesTo view a (Err why) = why ≡ Memory
-
--- a value that was found, on the heap
-abbrev pub Boxes : Result code.Tree Stop → Result (Box code.Tree Global) Stop → Type 0
-Boxes (Ok t) (Ok b) = b.value ≡ t
-Boxes (Ok t) (Err why) = why ≡ Memory
-Boxes (Err why) (Ok b) = ⊥
-Boxes (Err why) (Err same) = same ≡ why
 
 -- copies of two types
 abbrev pub AreTypes : PureType → PureType → Result (CadType × CadType) Stop → Type 0

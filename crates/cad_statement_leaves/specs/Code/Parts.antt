@@ -29,8 +29,9 @@ use Rattle.cad_rows.specs.declared.tree.Place as held_place
 use Rattle.cad_rows.specs.declared.tree.Tree as held
 use Rattle.cad_state.specs.Views.{FindsAndCarriesOut}
 use Rattle.cad_state.specs.declared.state.RunState.{RunState}
-use Rattle.cad_expression_leaves.specs.Passed.{content_or_none, cast_place}
-use Rattle.cad_expression_leaves.specs.Views.{tree_in}
+use Rattle.cad_standing.specs.CastPlaces.{cast_place}
+use Rattle.cad_value_operations.specs.Optionals.{content_or_none}
+use Rattle.cad_boxed_trees.specs.Views.{tree_in}
 use Rattle.cad_world.specs.Locations.{Location, variable}
 use Rattle.cad_world.specs.Rows.{Row, Tree}
 use Rattle.cad_world.specs.State.{Action, ◌>>=◌, ◌>>◌, give, stuck, with_some, tick}

@@ -1,4 +1,5 @@
-use Rattle.cad_expression_leaves.specs.Passed.{cast_place, standing_of}
+use Rattle.cad_standing.specs.CastPlaces.{cast_place}
+use Rattle.cad_standing.specs.Views.{standing_of}
 use Rattle.cad_statement_leaves.proofs.Contents.{content_found}
 use Rattle.cad_syntax.specs.Types.{pure_type}
 use Rattle.cad_statement_leaves.proofs.moves.cast_standing.Goals as goal

@@ -1,5 +1,5 @@
-use Rattle.cad_expression_leaves.proofs.Boxing.{gives_boxed}
-use Rattle.cad_expression_leaves.specs.Views.{tree_in}
+use Rattle.cad_boxed_trees.proofs.Boxing.{gives_boxed}
+use Rattle.cad_boxed_trees.specs.Views.{tree_in}
 use Rattle.cad_outcomes.specs.Outcomes.{Gives}
 use Rattle.cad_rows.specs.Views.{pure_tree}
 use Rattle.cad_statement_leaves.proofs.Trees.{place_at}

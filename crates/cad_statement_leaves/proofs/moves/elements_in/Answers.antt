@@ -1,5 +1,5 @@
 use Rattle.cad_evaluation.specs.Containers.{elements_in}
-use Rattle.cad_expression_leaves.specs.Views.{items_row}
+use Rattle.cad_boxed_trees.specs.Views.{items_row}
 use Rattle.cad_outcomes.specs.Outcomes.{Gives}
 use Rattle.cad_rows.specs.Views.{pure_tree}
 use Rattle.cad_world.specs.State.{give, with_some}

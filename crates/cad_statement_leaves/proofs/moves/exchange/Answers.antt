@@ -1,6 +1,6 @@
 use Rattle.cad_evaluation.specs.Changing.{exchanged}
-use Rattle.cad_expression_leaves.proofs.Boxing.{finds_boxed}
-use Rattle.cad_expression_leaves.specs.Views.{tree_in}
+use Rattle.cad_boxed_trees.proofs.Boxing.{finds_boxed}
+use Rattle.cad_boxed_trees.specs.Views.{tree_in}
 use Rattle.cad_locations.specs.Views.{location_of}
 use Rattle.cad_rows.specs.Views.{pure_tree}
 use Rattle.cad_state.specs.Views.{FindsAndCarriesOut}

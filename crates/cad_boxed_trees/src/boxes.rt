@@ -1,6 +1,6 @@
 // Values on the heap while parts are evaluated, so that a form holds room on the stack for a pointer alone.
 ghost use Rattle.std.specs.Prelude.{◌≡◌};
-ghost use Rattle.cad_expression_leaves.specs.Code.Steps.{Boxes};
+ghost use Rattle.cad_boxed_trees.specs.Views.{Boxes};
 
 use cad_outcomes::Stop;
 use cad_rows::{Tree, discard_tree};

@@ -1,0 +1,6 @@
+//! Values on the heap.
+#![tactic(auto)]
+
+mod boxes;
+
+pub use boxes::{boxed, discard_boxed, unboxed};
