@@ -8,7 +8,7 @@ mod moves;
 
 pub use flow::{Flow, discard_flow};
 
-// For cad_execution alone: how statements end, values that come out of their boxes or into them, events and cases.
+// For the crates above alone: how statements end, values that come out of their boxes or into them, events and cases.
 pub use ends::{case_end, case_ran, statement_end, turn_end};
 pub use flow::{close, give_back, leave, leave_switch, next};
 pub use leaves::{emit_row, is_case, truth};

@@ -17,7 +17,7 @@ pub use functions::function;
 pub use operators::{binary, compared, unary};
 pub use optionals::{coalesce, force, open, round, tell_nil, wrap};
 
-// For cad_members alone: what a built-in member is used on, what it gives that only reads, and its charge.
+// For the crates above alone: what a built-in member is used on, what it gives that only reads, and its charge.
 pub use charges::pay;
 pub use groups::{AddressMember, Group, NumberMember, TextMember, group_of};
 pub use homes::{account, owner};
