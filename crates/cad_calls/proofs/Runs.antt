@@ -14,10 +14,7 @@ use Rattle.cad_evaluation.specs.Callees.{Calls, Front}
 use Rattle.cad_evaluation.specs.Containers.{void_tree}
 use Rattle.cad_evaluation.specs.Evaluation as evaluation
 use Rattle.cad_evaluation.specs.Statements.{exec_block}
-use Rattle.cad_execution.specs.Passed.{tree_in}
-use Rattle.cad_execution.specs.Views.{flow_of}
-use Rattle.cad_execution.specs.declared.flow.Flow.{Flow}
-use Rattle.cad_execution.specs.declared.flow.Flow.TheVariants.{Next}
+use Rattle.cad_execution.specs.Passed.{Flow, Next, flow_of, tree_in}
 use Rattle.cad_function_sources.specs.Sources.{as_run}
 use Rattle.cad_labels.specs.Laws.{HasNoneInRow, AnyOne, CalleesKeep}
 use Rattle.cad_labels.proofs.Frames.{enter_keeps}

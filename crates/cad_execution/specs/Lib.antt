@@ -1,4 +1,1 @@
-pub mod Code
-pub mod Values
-pub mod Views
 pub mod Passed

@@ -2,15 +2,14 @@
 ghost use Rattle.std.specs.Prelude.{◌≡◌, ◌||◌, Bool, option_map};
 ghost use Rattle.cad_declarations.specs.Views.{place_of, term_of};
 ghost use Rattle.cad_evaluation.specs.Flows as flows;
-ghost use Rattle.cad_execution.specs.Code.Parts as parts;
 ghost use Rattle.cad_expressions.specs.Passed.{items_row, tree_in};
 ghost use Rattle.cad_outcomes.specs.Outcomes.{no_value};
 ghost use Rattle.cad_rows.specs.Views.{pure_tree};
 ghost use Rattle.cad_state.specs.Views.{CarriesOut, FindsAndCarriesOut};
+ghost use Rattle.cad_statement_leaves.specs.Code.Parts as parts;
 ghost use Rattle.cad_syntax.specs.Types.{pure_type};
 
-use crate::leaves::{first_come, is_case, truth};
-use crate::moves::{boxed_content, cast_standing, elements_in};
+use crate::leaves::first_come;
 use crate::places::first_place;
 use cad_declarations::{Argument, Place, Term};
 use cad_expressions::{Callees, eval, open, truth_at_once, unboxed};
@@ -18,6 +17,7 @@ use cad_operators::nil_tree;
 use cad_outcomes::Stop;
 use cad_rows::Tree;
 use cad_state::RunState;
+use cad_statement_leaves::{boxed_content, cast_standing, elements_in, is_case, truth};
 use cad_syntax::CadType;
 
 /// Whether the test of a loop holds.

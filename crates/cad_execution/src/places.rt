@@ -1,10 +1,10 @@
 // Places that statements change.
 ghost use Rattle.std.specs.Prelude.{Bool};
 ghost use Rattle.cad_declarations.specs.Views.{place_of};
-ghost use Rattle.cad_execution.specs.Code.Parts as parts;
-ghost use Rattle.cad_locations.specs.Views.{location_of};
 ghost use Rattle.cad_expressions.specs.Passed.{standing_of};
+ghost use Rattle.cad_locations.specs.Views.{location_of};
 ghost use Rattle.cad_state.specs.Views.{FindsAndCarriesOut};
+ghost use Rattle.cad_statement_leaves.specs.Code.Parts as parts;
 
 use cad_declarations::Place;
 use cad_expressions::{Callees, Standing, eval_place, location};

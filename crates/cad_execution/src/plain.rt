@@ -4,20 +4,17 @@ ghost use Rattle.cad_declarations.specs.Typed as e;
 ghost use Rattle.cad_declarations.specs.Views.{argument_of, place_of, return_of, term_of, variable_of};
 ghost use Rattle.cad_evaluation.specs.Containers as containers;
 ghost use Rattle.cad_evaluation.specs.Statements as spec;
-ghost use Rattle.cad_execution.specs.Code.Parts as parts;
-ghost use Rattle.cad_execution.specs.Views.{flow_of};
-ghost use Rattle.cad_locations.specs.Views.{location_of};
 ghost use Rattle.cad_expressions.specs.Passed.{tree_in};
+ghost use Rattle.cad_locations.specs.Views.{location_of};
 ghost use Rattle.cad_outcomes.specs.Outcomes.{Gives, no_value};
 ghost use Rattle.cad_state.specs.Views.{FindsAndCarriesOut};
+ghost use Rattle.cad_statement_leaves.specs.Code.Parts as parts;
+ghost use Rattle.cad_statement_leaves.specs.Views.{flow_of};
 ghost use Rattle.cad_syntax.specs.Types.{pure_type};
 ghost use Rattle.cad_values.specs.Values.{pure_value, void};
 ghost use Rattle.cad_world.specs.State.{give};
 
-use crate::flow::{Flow, give_back, next};
 use crate::leaves::{come, emit_event, first_come, first_value};
-use crate::moves;
-use crate::moves::{fill_variable, let_go};
 use crate::places::{first_location, locate};
 use cad_declarations::{Argument, Place, Term, Variable};
 use cad_expressions::{Callees, boxed};
@@ -26,6 +23,7 @@ use cad_operators::plain_tree;
 use cad_outcomes::Stop;
 use cad_rows::Tree;
 use cad_state::RunState;
+use cad_statement_leaves::{Flow, fill_variable, give_back, let_go, next};
 use cad_syntax::{CadType, TypeId};
 use cad_values::Value;
 use std::alloc::Global;
@@ -60,7 +58,7 @@ fn exchange_value<C: Callees>(
     ensures { FindsAndCarriesOut tree_in (parts.exchange_at (C.front callees.now) (C.calls callees.now) (location_of location.now) (pure_type own.now) (term_of value.now) (pure_type target.now)) state.old state.new result }
 {
     match come(value, target, callees, state) {
-        Ok(tree) => moves::exchange(location, own, tree, state),
+        Ok(tree) => cad_statement_leaves::exchange(location, own, tree, state),
         Err(stop) => Err(stop),
     }
 }
@@ -120,7 +118,7 @@ fn assign_at<C: Callees>(
     ensures { FindsAndCarriesOut flow_of (parts.assign_at (C.front callees.now) (C.calls callees.now) (location_of location.now) (term_of value.now) (pure_type target.now)) state.old state.new result }
 {
     match come(value, target, callees, state) {
-        Ok(tree) => next(moves::assign(location, tree, state)),
+        Ok(tree) => next(cad_statement_leaves::assign(location, tree, state)),
         Err(stop) => Err(stop),
     }
 }
@@ -159,7 +157,7 @@ fn force_assign_at<C: Callees>(
     ensures { FindsAndCarriesOut flow_of (parts.force_assign_at (C.front callees.now) (C.calls callees.now) (location_of location.now) (term_of value.now) (pure_type target.now)) state.old state.new result }
 {
     match come(value, target, callees, state) {
-        Ok(tree) => next(moves::force_assign(location, tree, state)),
+        Ok(tree) => next(cad_statement_leaves::force_assign(location, tree, state)),
         Err(stop) => Err(stop),
     }
 }
@@ -200,7 +198,7 @@ fn swap_with<C: Callees>(
 {
     match locate(right, callees, state) {
         Ok(location) => {
-            let flow = next(cad_locations::swap(state, left, left_type, &location, right_type));
+            let flow = next(cad_assignments::swap(state, left, left_type, &location, right_type));
             discard_location(location);
             flow
         }

@@ -5,27 +5,28 @@ ghost use Rattle.cad_declarations.specs.Views.{block_of, case_of, statement_of, 
 ghost use Rattle.cad_evaluation.specs.Flows as flows;
 ghost use Rattle.cad_evaluation.specs.Statements as spec;
 ghost use Rattle.cad_evaluation.specs.Terms as terms;
-ghost use Rattle.cad_execution.specs.Code.Parts as parts;
-ghost use Rattle.cad_execution.specs.Views.{flow_of};
 ghost use Rattle.cad_expressions.specs.Passed.{tree_in};
 ghost use Rattle.cad_labels.specs.Laws.{HasNone, HasNoneInRow};
 ghost use Rattle.cad_outcomes.specs.Outcomes.{Gives};
 ghost use Rattle.cad_rows.specs.Views.{PlaceView, pure_place, pure_row, pure_tree};
 ghost use Rattle.cad_state.specs.Views.{FindsAndCarriesOut};
 ghost use Rattle.cad_state.specs.declared.state.RunState.{RunState};
+ghost use Rattle.cad_statement_leaves.specs.Code.Parts as parts;
+ghost use Rattle.cad_statement_leaves.specs.Views.{flow_of};
 ghost use Rattle.cad_world.specs.State.{Action};
 
 use crate::chosen::{cast, elements_of, first_holds, holds, is_chosen, is_nil, unwrap};
-use crate::ends::{case_end, case_ran, statement_end, turn_end};
-use crate::flow::{Flow, close, leave, leave_switch};
 use crate::leaves::first_value;
-use crate::moves::{fill_counter, fill_variable, next_element};
 use crate::plain;
 use cad_declarations::{Term, TypedBlock, TypedCase, TypedStatement, Variable};
 use cad_expressions::{Callees, discard_boxed};
 use cad_outcomes::Stop;
 use cad_rows::{Place, Tree};
 use cad_state::RunState;
+use cad_statement_leaves::{
+    Flow, case_end, case_ran, close, fill_counter, fill_variable, leave, leave_switch,
+    next_element, statement_end, turn_end,
+};
 
 /// A block: its variables go at its end. `turns` bounds the turns of each loop. Errors are those of its statements.
 #[cycle(runs)]

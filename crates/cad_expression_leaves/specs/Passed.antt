@@ -1,5 +1,5 @@
 -- What the crates above name of the ones below.
-pub use Rattle.cad_members.specs.Optionals.{content_or_none, left_or_none}
+pub use Rattle.cad_value_operations.specs.Optionals.{content_or_none, left_or_none}
 pub use Rattle.cad_members.specs.Passed.{Pair, pure_pair}
 pub use Rattle.cad_receivers.specs.Uses.{aimed}
 pub use Rattle.cad_receivers.specs.Views.{at_spot, receiver_of}

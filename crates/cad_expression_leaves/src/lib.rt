@@ -34,8 +34,10 @@ pub use values::{
 };
 
 // What the crates above use of the ones below.
-pub use cad_members::{Pair, compared, contracts_account, elements, function, member, open};
-pub use cad_receivers::{Receiver, aim, check_callable, check_use, get, settle_receiver};
+pub use cad_members::{Pair, contracts_account, elements, member};
+pub use cad_receivers::{Receiver, aim, check_callable, check_use, settle_receiver};
+pub use cad_selections::get;
 pub use cad_standing::{
     Standing, cast_place, here_contract, here_variable, is_nowhere, location, own_self, receiver,
 };
+pub use cad_value_operations::{compared, function, open};

@@ -7,15 +7,15 @@ ghost use Rattle.cad_evaluation.specs.Uses as uses;
 ghost use Rattle.cad_expression_leaves.specs.Code.Steps as steps;
 ghost use Rattle.cad_expression_leaves.specs.Code.Steps.{AreTypes, GoesOn};
 ghost use Rattle.cad_expression_leaves.specs.Views.{items_row, pairs_of, tree_in};
-ghost use Rattle.cad_labels.specs.Laws.{HasNone, HasNoneInRow};
 ghost use Rattle.cad_label_runs.proofs.Values.{PairsHaveNone};
-ghost use Rattle.cad_members.specs.Optionals.{left_or_none};
+ghost use Rattle.cad_labels.specs.Laws.{HasNone, HasNoneInRow};
 ghost use Rattle.cad_outcomes.specs.Outcomes.{Gives, no_value};
 ghost use Rattle.cad_receivers.specs.Views.{receiver_of};
 ghost use Rattle.cad_rows.specs.Views.{pure_tree};
 ghost use Rattle.cad_state.specs.Views.{CarriesOut};
 ghost use Rattle.cad_state.specs.declared.state.RunState.{RunState};
 ghost use Rattle.cad_syntax.specs.Types.{pure_type};
+ghost use Rattle.cad_value_operations.specs.Optionals.{left_or_none};
 ghost use Rattle.cad_world.specs.Rows as rows;
 ghost use Rattle.cad_world.specs.State.{Action, give};
 ghost use Rattle.cad_world.specs.Transfers.{transferred};
@@ -25,15 +25,15 @@ use crate::boxes::{boxed, discard_boxed, unboxed};
 use cad_declarations::discard_type;
 use cad_grammar::{BinaryOperator, CastKind, UnaryOperator};
 use cad_making::end_variables;
-use cad_members::{
-    Pair, array, binary, coalesce, dictionary, discard_pairs, force, round, unary, wrap,
-};
+use cad_members::{Pair, array, dictionary, discard_pairs};
 use cad_operators::{bool_tree, nil_tree, truth_in, truth_only};
 use cad_outcomes::Stop;
-use cad_receivers::{Receiver, cast, index};
+use cad_receivers::{Receiver, cast};
 use cad_rows::{Place, Tree, discard_row, discard_tree};
+use cad_selections::index;
 use cad_state::RunState;
 use cad_syntax::CadType;
+use cad_value_operations::{binary, coalesce, force, round, unary, wrap};
 use std::alloc::Global;
 
 /// What allocates in a run.

@@ -20,6 +20,5 @@ pub use expressions::{eval, eval_arguments, eval_place};
 
 // What the crates above use of the ones below.
 pub use cad_expression_leaves::{
-    Callee, Callees, Quiet, Standing, boxed, cast_place, compared, discard_boxed, elements,
-    location, open, truth_at_once, unboxed,
+    Callee, Callees, Quiet, Standing, boxed, discard_boxed, location, open, truth_at_once, unboxed,
 };

@@ -1,9 +1,5 @@
 mod Slots
-mod Looks
-mod Settled
-mod Spots
-mod Asked
-mod Fills
-mod Changes
-mod Swaps
+pub mod Looks
+pub mod Settled
+pub mod Spots
 mod Contracts

@@ -1,26 +1,18 @@
-//! Where a value stands in the state of a run: what is read there, named, taken out and put in.
+//! Where a value stands in the state of a run: what is read there, and named.
 #![tactic(auto)]
 
-mod asking;
-mod assigning;
-mod clearing;
 mod contract_places;
-mod entering;
-mod filling;
 mod location;
 mod lookup;
 mod naming;
-mod opened;
 mod places;
 mod reading;
-mod same_places;
-mod swapping;
-mod taking;
 
-pub use assigning::{assign, exchange, force_assign};
-pub use filling::fill;
 pub use location::{Location, discard_location};
 pub use naming::name;
 pub use reading::{Seen, read, settle};
-pub use swapping::swap;
-pub use taking::take;
+
+// For the crates above alone: the place at a location as it is now, its error where it is empty, and which place of a row it is.
+pub use lookup::{SeenSlot, element_slot, entry_slot, part_slot, seen, slot_at};
+pub use places::{element_place, entry_place, place_of};
+pub use reading::{empty_stop, locate};

@@ -26,14 +26,14 @@ use std::alloc::Global;
 
 /// What stands in a place, lent: there is no such place, it is empty, or a node stands in it.
 #[derive(Clone, Copy)]
-pub(crate) enum SeenSlot<'a> {
+pub enum SeenSlot<'a> {
     Out,
     Free,
     Full(Seen<'a>),
 }
 
 /// A node that is lent.
-pub(crate) fn seen(tree: &Tree) -> Seen<'_>
+pub fn seen(tree: &Tree) -> Seen<'_>
     ensures { tree_seen result ≡ pure_tree tree.now }
 {
     Seen {
@@ -131,7 +131,7 @@ fn receiver_slot(state: &RunState, label: u64) -> Result<SeenSlot<'_>, Stop>
 }
 
 /// A field of the node with a label.
-pub(crate) fn part_slot(state: &RunState, label: u64, i: usize) -> Result<SeenSlot<'_>, Stop>
+pub fn part_slot(state: &RunState, label: u64, i: usize) -> Result<SeenSlot<'_>, Stop>
     ensures { FindsAndCarriesOut slot_seen (spec.slot_of (spec.part label i)) state.now state.now result }
 {
     match state.node(label) {
@@ -141,11 +141,7 @@ pub(crate) fn part_slot(state: &RunState, label: u64, i: usize) -> Result<SeenSl
 }
 
 /// An element of the node with a label.
-pub(crate) fn element_slot<'a>(
-    state: &'a RunState,
-    label: u64,
-    n: &Num,
-) -> Result<SeenSlot<'a>, Stop>
+pub fn element_slot<'a>(state: &'a RunState, label: u64, n: &Num) -> Result<SeenSlot<'a>, Stop>
     ensures { FindsAndCarriesOut slot_seen (spec.slot_of (spec.element label (value_of n.now))) state.now state.now result }
 {
     match state.node(label) {
@@ -155,11 +151,7 @@ pub(crate) fn element_slot<'a>(
 }
 
 /// What stands under a key of the node with a label.
-pub(crate) fn entry_slot<'a>(
-    state: &'a RunState,
-    label: u64,
-    key: &Value,
-) -> Result<SeenSlot<'a>, Stop>
+pub fn entry_slot<'a>(state: &'a RunState, label: u64, key: &Value) -> Result<SeenSlot<'a>, Stop>
     ensures { FindsAndCarriesOut slot_seen (spec.slot_of (spec.entry label (pure_value key.now))) state.now state.now result }
 {
     match state.node(label) {
@@ -169,7 +161,7 @@ pub(crate) fn entry_slot<'a>(
 }
 
 /// The place at a location that was settled, as it is now. Errors as `settle` has them.
-pub(crate) fn slot_at<'a>(state: &'a RunState, location: &Location) -> Result<SeenSlot<'a>, Stop>
+pub fn slot_at<'a>(state: &'a RunState, location: &Location) -> Result<SeenSlot<'a>, Stop>
     ensures { FindsAndCarriesOut slot_seen (spec.slot_of (location_of location.now)) state.now state.now result }
 {
     match location {

@@ -42,7 +42,7 @@ fn place_of_key(alloc: Global, tree: &Tree, key: &Value) -> Result<Option<usize>
 }
 
 /// The place that an element of the node with a label is; None where it is none, and where the node wasn't found.
-pub(crate) fn element_place(state: &RunState, label: u64, n: &Num) -> Option<usize>
+pub fn element_place(state: &RunState, label: u64, n: &Num) -> Option<usize>
     ensures { IfSome result (λ i. (accounts : List Account) → IsReady accounts state.now → IsPlace (spec.element label (value_of n.now)) label i (state_over accounts state.now)) }
 {
     match state.node(label) {
@@ -55,11 +55,7 @@ pub(crate) fn element_place(state: &RunState, label: u64, n: &Num) -> Option<usi
 }
 
 /// The place that what stands under a key of the node with a label is; None where it is none, and where the node wasn't found.
-pub(crate) fn entry_place(
-    state: &RunState,
-    label: u64,
-    key: &Value,
-) -> Result<Option<usize>, AllocError>
+pub fn entry_place(state: &RunState, label: u64, key: &Value) -> Result<Option<usize>, AllocError>
     ensures { IfOk result (λ o. IfSome o (λ i. (accounts : List Account) → IsReady accounts state.now → IsPlace (spec.entry label (pure_value key.now)) label i (state_over accounts state.now))) }
 {
     match state.node(label) {
@@ -69,10 +65,7 @@ pub(crate) fn entry_place(
 }
 
 /// The node, by its label, and the place in its row that a location is; None where it is none, and where its node wasn't found.
-pub(crate) fn place_of(
-    state: &RunState,
-    location: &Location,
-) -> Result<Option<(u64, usize)>, AllocError>
+pub fn place_of(state: &RunState, location: &Location) -> Result<Option<(u64, usize)>, AllocError>
     ensures { IfOk result (λ o. IfSome o (λ p. (accounts : List Account) → IsReady accounts state.now → IsPlace (location_of location.now) p.0 p.1 (state_over accounts state.now))) }
 {
     match location {

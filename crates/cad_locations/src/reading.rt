@@ -24,7 +24,7 @@ pub struct Seen<'a> {
 }
 
 /// The node of a location is found. 113 where it is gone.
-pub(crate) fn locate(state: &mut RunState, location: &Location) -> Result<(), Stop>
+pub fn locate(state: &mut RunState, location: &Location) -> Result<(), Stop>
     ensures { FindsAndCarriesOut no_value (node_there (location_of location.now)) state.old state.new result }
 {
     match location {
@@ -59,7 +59,7 @@ fn look(state: &RunState, location: &Location) -> Result<(), Stop>
 }
 
 /// The error of an empty place.
-pub(crate) fn empty_stop(location: &Location) -> Stop
+pub fn empty_stop(location: &Location) -> Stop
     ensures { result ≡ errors.empty_stop (location_of location.now) }
 {
     match location {

@@ -2,17 +2,13 @@
 ghost use Rattle.std.specs.Prelude.{map};
 ghost use Rattle.cad_evaluation.specs.Builtins as spec;
 ghost use Rattle.cad_evaluation.specs.Callees.{Calls, Front};
-ghost use Rattle.cad_members.specs.Code.Members as code;
 ghost use Rattle.cad_receivers.specs.Views.{at_spot, receiver_of, settled_of};
 ghost use Rattle.cad_rows.specs.Views.{pure_row, pure_tree};
 ghost use Rattle.cad_state.specs.Views.{FindsAndCarriesOut};
 ghost use Rattle.cad_syntax.specs.Types.{pure_type};
+ghost use Rattle.cad_value_operations.specs.Code.Members as code;
 ghost use Rattle.cad_world.specs.Trees.{row_weight};
 
-use crate::charges::pay;
-use crate::groups::{Group, group_of};
-use crate::homes::{account, owner};
-use crate::spots::{read_member, search_cost};
 use cad_containers::container_member;
 use cad_outcomes::Stop;
 use cad_receivers::{Receiver, Settled, settle_receiver, uuid};
@@ -21,6 +17,7 @@ use cad_services::service;
 use cad_state::RunState;
 use cad_syntax::CadType;
 use cad_types::Builtin;
+use cad_value_operations::{Group, account, group_of, owner, pay, read_member, search_cost};
 
 /// A member of what a receiver is now that was settled, with its charge. Nothing else is changed.
 fn paid_member(

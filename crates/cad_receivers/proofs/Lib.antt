@@ -1,5 +1,4 @@
 pub mod CastLaws
-pub mod Handing
 pub mod Passing
 pub mod SettledLaws
 pub mod Settling

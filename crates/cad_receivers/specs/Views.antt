@@ -1,14 +1,11 @@
 -- What receivers are, what they are now, and what is done with that.
-use Rattle.std.specs.Prelude.{ℕ, Option, option_map}
-use Rattle.cad_syntax.specs.declared.types.Authorization.{Authorization}
-use Rattle.cad_evaluation.specs.Standing.{without}
+use Rattle.std.specs.Prelude.{option_map}
 use Rattle.cad_rows.specs.Views.{pure_shape, pure_row}
 use Rattle.cad_receivers.specs.declared.receivers.Receiver.{Receiver}
 use Rattle.cad_receivers.specs.declared.receivers.Receiver.TheVariants as variant
 use Rattle.cad_receivers.specs.declared.receivers.Settled.{Settled}
 use Rattle.cad_receivers.specs.declared.receivers.Settled.TheVariants as lent
 use Rattle.cad_receivers.specs.declared.receivers.Spot.{Spot}
-use Rattle.cad_world.specs.Locations.{Location, read}
 use Rattle.cad_world.specs.Receivers as r
 use Rattle.cad_world.specs.State.{Action, ◌>>=◌}
 
@@ -33,7 +30,3 @@ spot_of x = record {
 -- what is done with what a receiver is now
 abbrev pub at_spot : {A : Type 0} → r.Receiver → (r.Spot → Action A) → Action A
 at_spot x f = r.look_at x >>= f
-
--- the value in a place without so many of its optionals, as a receiver
-abbrev pub received : Option Authorization → Location → ℕ → Action r.Receiver
-received rights x n = read x >>= (λ t. r.receiver_with rights x (without n t))

@@ -44,7 +44,7 @@ pub struct Spot<'a> {
 }
 
 /// Lets rights go.
-pub(crate) fn discard_rights(rights: Option<Authorization>) {
+pub fn discard_rights(rights: Option<Authorization>) {
     match rights {
         Some(authorization) => discard_shape(Shape::Link {
             authorization,

@@ -1,60 +1,19 @@
-// What trees are made of, and values in one optional more.
-ghost use Rattle.std.specs.Prelude.{◌≡◌, IfOk};
+// What trees are made of.
+ghost use Rattle.std.specs.Prelude.{◌≡◌};
 ghost use Rattle.cad_rows.specs.Views.{pure_shape, pure_tree};
-ghost use Rattle.cad_world.specs.Rows.{link, stop};
-ghost use Rattle.cad_world.specs.Trees as spec;
 
-use cad_rows::{Shape, Tree, discard_tree};
-use cad_syntax::Authorization;
-use std::alloc::{AllocError, Global};
+use cad_rows::{Shape, Tree};
 
 /// How many optionals a tree is in.
-pub(crate) fn optionals(tree: &Tree) -> u64
+pub fn optionals(tree: &Tree) -> u64
     ensures { result ≡ (pure_tree tree.now).optionals }
 {
     tree.optionals
 }
 
 /// The shape of a tree.
-pub(crate) fn shape(tree: &Tree) -> &Shape
+pub fn shape(tree: &Tree) -> &Shape
     ensures { pure_shape result.now ≡ (pure_tree tree.now).shape }
 {
     &tree.shape
-}
-
-/// A value in one optional more. What is in 2^64 optionals has no room in memory.
-pub(crate) fn wrap(tree: Tree) -> Result<Tree, AllocError>
-    ensures { IfOk result (λ t. pure_tree t ≡ spec.wrapped (pure_tree tree)) }
-{
-    let mut all = tree;
-    match all.optionals.checked_add(1) {
-        Some(more) => {
-            all.optionals = more;
-            Ok(all)
-        }
-        None => {
-            discard_tree(all);
-            Err(AllocError)
-        }
-    }
-}
-
-/// A reference to the node with a label, in so many optionals.
-pub(crate) fn link_tree(
-    alloc: Global,
-    authorization: Authorization,
-    label: u64,
-    optionals: u64,
-) -> Tree
-    ensures { pure_tree result ≡ (record { optionals = optionals; shape = link authorization label 0; parts = stop }) }
-{
-    Tree {
-        optionals,
-        shape: Shape::Link {
-            authorization,
-            label,
-            sees: 0,
-        },
-        parts: Vec::new(alloc),
-    }
 }

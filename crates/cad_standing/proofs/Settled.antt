@@ -5,7 +5,7 @@ use Rattle.cad_outcomes.specs.Outcomes.{Stops, no_value}
 use Rattle.cad_outcomes.proofs.Steps.{stops_on}
 use Rattle.cad_locations.specs.Views.{looked_up}
 use Rattle.cad_receivers.proofs.Passing.{after_ready, stops_before}
-use Rattle.cad_receivers.proofs.Settling.{settled_same}
+use Rattle.cad_selections.proofs.Settling.{settled_same}
 use Rattle.cad_world.specs.Locations.{Location, slot_of, read, read_slot}
 use Rattle.cad_world.specs.Rows.{Tree}
 use Rattle.cad_world.specs.State.{State, bind, Action, ◌>>=◌}

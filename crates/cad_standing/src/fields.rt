@@ -25,8 +25,9 @@ use cad_access::{composite_in, field_names, made_label, may_write, own_member, s
 use cad_declarations::Member;
 use cad_locations::{Location, discard_location, name, read, settle};
 use cad_outcomes::Stop;
-use cad_receivers::{Settled, Spot, look, position_of, settle_reference};
+use cad_receivers::{Settled, Spot, look, settle_reference};
 use cad_rows::{Shape, Tree, discard_tree, holds_label};
+use cad_selections::position_of;
 use cad_state::RunState;
 use cad_syntax::{Authorization, Name, TypeId};
 

@@ -11,8 +11,9 @@ use crate::leaves::{into_shape, leads};
 use crate::standing::{Standing, discard_standing, is_nowhere};
 use cad_locations::discard_location;
 use cad_outcomes::Stop;
-use cad_receivers::{Receiver, receive};
+use cad_receivers::Receiver;
 use cad_rows::{Tree, discard_tree};
+use cad_selections::receive;
 use cad_state::RunState;
 
 /// What a reference leads to, as a receiver. IllTyped of what is no reference.

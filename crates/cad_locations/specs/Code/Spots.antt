@@ -1,10 +1,9 @@
 -- Locations that are places of a node's row.
 use Rattle.std.specs.Prelude.{◌≡◌, ℕ, suc, ℤ, pos, Some}
 use Rattle.cad_values.specs.Values.{PureValue}
-use Rattle.cad_world.specs.Locations.{Location, part, slot_of, changed_at, element_of, entry_of_key, key_position, keys_in, as_read}
+use Rattle.cad_world.specs.Locations.{Location, part, slot_of, changed_at, element_of, entry_of_key, key_position, keys_in}
 use Rattle.cad_world.specs.Rows.{Row, Tree, slot, named}
-use Rattle.cad_world.specs.State.{State, Action, ok, ◌>>=◌, with_some, give}
-use Rattle.cad_locations.specs.Code.Slots.{emptied}
+use Rattle.cad_world.specs.State.{State, Action, ok}
 
 -- the location is the place i of the node with the label l, whatever the next label is
 pub record IsPlace (x : Location) (l i : ℕ) (s : State) : Type 0 where
@@ -24,7 +23,3 @@ pub record IsKey (k : PureValue) (i : ℕ) (t : Tree) : Type 0 where
 -- the node in the place is named
 abbrev pub named_there : Location → Action ℕ
 named_there x = λ s. ok s.next_label (changed_at (λ i. named i s.next_label) x (record s { next_label = suc s.next_label }))
-
--- what stands there is taken out, as it is read
-abbrev pub taken_out : Location → Action Tree
-taken_out x = emptied x >>= (λ o. with_some o (λ t. give (as_read x t)))

@@ -1,5 +1,5 @@
 use Rattle.cad_declarations.specs.Views.{place_of}
-use Rattle.cad_execution.proofs.ChoiceLaws.{cast_err, cast_ok}
+use Rattle.cad_statement_leaves.proofs.ChoiceLaws.{cast_err, cast_ok}
 use Rattle.cad_syntax.specs.Types.{pure_type}
 use Rattle.cad_execution.proofs.chosen.cast.Goals as goal
 

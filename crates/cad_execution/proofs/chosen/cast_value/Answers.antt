@@ -1,5 +1,5 @@
 use Rattle.cad_declarations.specs.Views.{place_of}
-use Rattle.cad_execution.proofs.ChoiceLaws.{cast_value_err, cast_value_ok}
+use Rattle.cad_statement_leaves.proofs.ChoiceLaws.{cast_value_err, cast_value_ok}
 use Rattle.cad_syntax.specs.Types.{pure_type}
 use Rattle.cad_execution.proofs.chosen.cast_value.Goals as goal
 

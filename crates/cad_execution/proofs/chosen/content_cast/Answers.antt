@@ -1,4 +1,4 @@
-use Rattle.cad_execution.proofs.ChoiceLaws.{cast_some}
+use Rattle.cad_statement_leaves.proofs.ChoiceLaws.{cast_some}
 use Rattle.cad_execution.proofs.chosen.content_cast.Goals as goal
 
 pub returns-in-Some : goal.returns-in-Some

@@ -1,8 +1,8 @@
-use Rattle.cad_execution.proofs.Contents.{content_carried}
-use Rattle.cad_execution.specs.Code.Parts as parts
 use Rattle.cad_expressions.specs.Passed.{tree_in}
 use Rattle.cad_rows.specs.Views.{pure_tree}
 use Rattle.cad_state.specs.Views.{CarriesOut}
+use Rattle.cad_statement_leaves.proofs.Contents.{content_carried}
+use Rattle.cad_statement_leaves.specs.Code.Parts as parts
 use Rattle.std.proofs.Common.{subst}
 use Rattle.std.specs.Prelude.{option_map}
 use Rattle.cad_execution.proofs.chosen.content_of.Goals as goal

@@ -1,5 +1,5 @@
 use Rattle.cad_declarations.specs.Views.{term_of}
-use Rattle.cad_execution.proofs.ChoiceLaws.{elements_err, elements_ok}
+use Rattle.cad_statement_leaves.proofs.ChoiceLaws.{elements_err, elements_ok}
 use Rattle.cad_syntax.specs.Types.{pure_type}
 use Rattle.cad_execution.proofs.chosen.elements_of.Goals as goal
 

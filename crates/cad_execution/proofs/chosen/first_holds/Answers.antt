@@ -1,5 +1,5 @@
 use Rattle.cad_declarations.specs.Views.{term_of}
-use Rattle.cad_execution.proofs.ChoiceLaws.{test_err, test_ticked}
+use Rattle.cad_statement_leaves.proofs.ChoiceLaws.{test_err, test_ticked}
 use Rattle.cad_execution.proofs.chosen.first_holds.Goals as goal
 
 pub returns-in-Ok : goal.returns-in-Ok

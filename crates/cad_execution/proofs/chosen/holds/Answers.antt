@@ -1,5 +1,5 @@
 use Rattle.cad_declarations.specs.Views.{term_of}
-use Rattle.cad_execution.proofs.ChoiceLaws.{holds_err, holds_ok, holds_told}
+use Rattle.cad_statement_leaves.proofs.ChoiceLaws.{holds_err, holds_ok, holds_told}
 use Rattle.cad_execution.proofs.chosen.holds.Goals as goal
 
 pub returns-in-Some : goal.returns-in-Some

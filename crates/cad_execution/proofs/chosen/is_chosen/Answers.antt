@@ -1,6 +1,6 @@
 use Rattle.cad_declarations.specs.Views.{term_of}
-use Rattle.cad_execution.proofs.ChoiceLaws.{chosen_err, chosen_ok}
 use Rattle.cad_rows.specs.Views.{pure_tree}
+use Rattle.cad_statement_leaves.proofs.ChoiceLaws.{chosen_err, chosen_ok}
 use Rattle.cad_execution.proofs.chosen.is_chosen.Goals as goal
 
 pub returns-in-Ok : goal.returns-in-Ok

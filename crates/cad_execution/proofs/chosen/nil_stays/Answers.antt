@@ -1,4 +1,4 @@
-use Rattle.cad_execution.proofs.ChoiceLaws.{stays_some}
+use Rattle.cad_statement_leaves.proofs.ChoiceLaws.{stays_some}
 use Rattle.cad_execution.proofs.chosen.nil_stays.Goals as goal
 
 pub returns-in-Some : goal.returns-in-Some

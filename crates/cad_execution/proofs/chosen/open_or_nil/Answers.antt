@@ -1,5 +1,5 @@
-use Rattle.cad_execution.proofs.ChoiceLaws.{content_err, content_ok}
 use Rattle.cad_rows.specs.Views.{pure_tree}
+use Rattle.cad_statement_leaves.proofs.ChoiceLaws.{content_err, content_ok}
 use Rattle.cad_execution.proofs.chosen.open_or_nil.Goals as goal
 
 pub returns-in-Ok : goal.returns-in-Ok

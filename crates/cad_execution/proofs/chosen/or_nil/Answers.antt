@@ -1,4 +1,4 @@
-use Rattle.cad_execution.proofs.ChoiceLaws.{nil_or, nil_or_err}
+use Rattle.cad_statement_leaves.proofs.ChoiceLaws.{nil_or, nil_or_err}
 use Rattle.cad_execution.proofs.chosen.or_nil.Goals as goal
 
 pub returns-in-Ok : goal.returns-in-Ok

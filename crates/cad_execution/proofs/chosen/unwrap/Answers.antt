@@ -1,7 +1,7 @@
 use Rattle.cad_declarations.specs.Views.{term_of}
-use Rattle.cad_execution.proofs.ChoiceLaws.{unwrap_err, unwrap_ok}
+use Rattle.cad_statement_leaves.proofs.ChoiceLaws.{unwrap_err, unwrap_ok}
 use Rattle.cad_syntax.specs.Types.{pure_type}
-use Rattle.cad_execution.specs.Code.Parts as parts
+use Rattle.cad_statement_leaves.specs.Code.Parts as parts
 use Rattle.cad_execution.proofs.chosen.unwrap.Goals as goal
 
 pub returns-in-Ok : goal.returns-in-Ok

@@ -1,6 +1,6 @@
 use Rattle.cad_declarations.specs.Typed.{arguments_of}
 use Rattle.cad_declarations.specs.Views.{argument_of}
-use Rattle.cad_execution.proofs.PartLaws.{emit_err, emit_ok}
+use Rattle.cad_statement_leaves.proofs.PartLaws.{emit_err, emit_ok}
 use Rattle.std.proofs.Common.{map}
 use Rattle.cad_execution.proofs.leaves.emit_event.Goals as goal
 

@@ -1,5 +1,5 @@
 use Rattle.cad_declarations.specs.Views.{term_of}
-use Rattle.cad_execution.proofs.PartLaws.{first_come_err, first_come_ok}
+use Rattle.cad_statement_leaves.proofs.PartLaws.{first_come_err, first_come_ok}
 use Rattle.cad_syntax.specs.Types.{pure_type}
 use Rattle.cad_execution.proofs.leaves.first_come.Goals as goal
 

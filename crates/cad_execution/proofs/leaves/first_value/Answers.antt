@@ -1,5 +1,5 @@
 use Rattle.cad_declarations.specs.Views.{term_of}
-use Rattle.cad_execution.proofs.PartLaws.{first_value_err, first_value_ok}
+use Rattle.cad_statement_leaves.proofs.PartLaws.{first_value_err, first_value_ok}
 use Rattle.cad_execution.proofs.leaves.first_value.Goals as goal
 
 pub returns-in-Ok : goal.returns-in-Ok

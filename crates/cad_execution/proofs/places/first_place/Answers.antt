@@ -1,5 +1,5 @@
 use Rattle.cad_declarations.specs.Views.{place_of}
-use Rattle.cad_execution.proofs.PartLaws.{first_place_err, first_place_ok}
+use Rattle.cad_statement_leaves.proofs.PartLaws.{first_place_err, first_place_ok}
 use Rattle.cad_execution.proofs.places.first_place.Goals as goal
 
 pub returns-in-Ok : goal.returns-in-Ok

@@ -1,5 +1,5 @@
 use Rattle.cad_declarations.specs.Views.{place_of}
-use Rattle.cad_execution.proofs.PartLaws.{locate_err, locate_ok}
+use Rattle.cad_statement_leaves.proofs.PartLaws.{locate_err, locate_ok}
 use Rattle.cad_execution.proofs.places.locate.Goals as goal
 
 pub returns-in-Ok : goal.returns-in-Ok

@@ -1,6 +1,6 @@
 use Rattle.cad_declarations.specs.Views.{term_of}
-use Rattle.cad_execution.proofs.PlainLaws.{assign_at_err, assign_at_ok}
 use Rattle.cad_locations.specs.Views.{location_of}
+use Rattle.cad_statement_leaves.proofs.PlainLaws.{assign_at_err, assign_at_ok}
 use Rattle.cad_syntax.specs.Types.{pure_type}
 use Rattle.cad_execution.proofs.plain.assign_at.Goals as goal
 

@@ -1,4 +1,4 @@
-use Rattle.cad_execution.proofs.PlainLaws.{break_err, break_ok}
+use Rattle.cad_statement_leaves.proofs.PlainLaws.{break_err, break_ok}
 use Rattle.cad_execution.proofs.plain.break_loop.Goals as goal
 
 pub returns-in-Ok : goal.returns-in-Ok

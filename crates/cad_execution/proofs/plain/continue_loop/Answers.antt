@@ -1,4 +1,4 @@
-use Rattle.cad_execution.proofs.PlainLaws.{continue_err, continue_ok}
+use Rattle.cad_statement_leaves.proofs.PlainLaws.{continue_err, continue_ok}
 use Rattle.cad_execution.proofs.plain.continue_loop.Goals as goal
 
 pub returns-in-Ok : goal.returns-in-Ok

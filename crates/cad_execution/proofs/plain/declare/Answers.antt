@@ -1,5 +1,5 @@
 use Rattle.cad_declarations.specs.Views.{term_of, variable_of}
-use Rattle.cad_execution.proofs.PlainLaws.{declare_err, declare_ok}
+use Rattle.cad_statement_leaves.proofs.PlainLaws.{declare_err, declare_ok}
 use Rattle.cad_execution.proofs.plain.declare.Goals as goal
 
 pub returns-in-Ok : goal.returns-in-Ok

@@ -1,6 +1,6 @@
 use Rattle.cad_declarations.specs.Typed.{arguments_of}
 use Rattle.cad_declarations.specs.Views.{argument_of}
-use Rattle.cad_execution.proofs.PlainLaws.{emitted_next}
+use Rattle.cad_statement_leaves.proofs.PlainLaws.{emitted_next}
 use Rattle.std.proofs.Common.{map}
 use Rattle.cad_execution.proofs.plain.emit.Goals as goal
 

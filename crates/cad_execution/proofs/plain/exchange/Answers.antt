@@ -1,5 +1,5 @@
 use Rattle.cad_declarations.specs.Views.{place_of, term_of, variable_of}
-use Rattle.cad_execution.proofs.PlainLaws.{exchange_err, exchange_ok}
+use Rattle.cad_statement_leaves.proofs.PlainLaws.{exchange_err, exchange_ok}
 use Rattle.cad_syntax.specs.Types.{pure_type}
 use Rattle.cad_execution.proofs.plain.exchange.Goals as goal
 

@@ -1,6 +1,6 @@
 use Rattle.cad_declarations.specs.Views.{term_of}
-use Rattle.cad_execution.proofs.PlainLaws.{exchange_value_err, exchange_value_ok}
 use Rattle.cad_locations.specs.Views.{location_of}
+use Rattle.cad_statement_leaves.proofs.PlainLaws.{exchange_value_err, exchange_value_ok}
 use Rattle.cad_syntax.specs.Types.{pure_type}
 use Rattle.cad_execution.proofs.plain.exchange_value.Goals as goal
 

@@ -1,5 +1,5 @@
 use Rattle.cad_declarations.specs.Views.{term_of}
-use Rattle.cad_execution.proofs.PlainLaws.{expression_err, expression_ok}
+use Rattle.cad_statement_leaves.proofs.PlainLaws.{expression_err, expression_ok}
 use Rattle.cad_execution.proofs.plain.expression.Goals as goal
 
 pub returns-in-Ok : goal.returns-in-Ok

@@ -1,6 +1,6 @@
 use Rattle.cad_declarations.specs.Typed.{arguments_of}
 use Rattle.cad_declarations.specs.Views.{argument_of}
-use Rattle.cad_execution.proofs.PlainLaws.{first_emit_err, first_emit_ok}
+use Rattle.cad_statement_leaves.proofs.PlainLaws.{first_emit_err, first_emit_ok}
 use Rattle.std.proofs.Common.{map}
 use Rattle.cad_execution.proofs.plain.first_emit.Goals as goal
 

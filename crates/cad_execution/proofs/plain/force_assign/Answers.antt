@@ -1,5 +1,5 @@
 use Rattle.cad_declarations.specs.Views.{place_of, term_of}
-use Rattle.cad_execution.proofs.PlainLaws.{force_assign_err, force_assign_ok}
+use Rattle.cad_statement_leaves.proofs.PlainLaws.{force_assign_err, force_assign_ok}
 use Rattle.cad_syntax.specs.Types.{pure_type}
 use Rattle.cad_execution.proofs.plain.force_assign.Goals as goal
 

@@ -1,6 +1,6 @@
 use Rattle.cad_declarations.specs.Views.{term_of}
-use Rattle.cad_execution.proofs.PlainLaws.{force_assign_at_err, force_assign_at_ok}
 use Rattle.cad_locations.specs.Views.{location_of}
+use Rattle.cad_statement_leaves.proofs.PlainLaws.{force_assign_at_err, force_assign_at_ok}
 use Rattle.cad_syntax.specs.Types.{pure_type}
 use Rattle.cad_execution.proofs.plain.force_assign_at.Goals as goal
 

@@ -1,4 +1,4 @@
-use Rattle.cad_execution.proofs.PlainLaws.{return_err, return_ok}
+use Rattle.cad_statement_leaves.proofs.PlainLaws.{return_err, return_ok}
 use Rattle.cad_execution.proofs.plain.return_nothing.Goals as goal
 
 pub returns-in-Ok : goal.returns-in-Ok

@@ -1,4 +1,4 @@
-use Rattle.cad_execution.proofs.PlainLaws.{given_back, nothing_back}
+use Rattle.cad_statement_leaves.proofs.PlainLaws.{given_back, nothing_back}
 use Rattle.cad_execution.proofs.plain.return_value.Goals as goal
 
 pub returns-in-Some : goal.returns-in-Some

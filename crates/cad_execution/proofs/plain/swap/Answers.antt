@@ -1,5 +1,5 @@
 use Rattle.cad_declarations.specs.Views.{place_of}
-use Rattle.cad_execution.proofs.PlainLaws.{swap_err, swap_ok}
+use Rattle.cad_statement_leaves.proofs.PlainLaws.{swap_err, swap_ok}
 use Rattle.cad_syntax.specs.Types.{pure_type}
 use Rattle.cad_execution.proofs.plain.swap.Goals as goal
 

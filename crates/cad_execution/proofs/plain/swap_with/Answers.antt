@@ -1,6 +1,6 @@
 use Rattle.cad_declarations.specs.Views.{place_of}
-use Rattle.cad_execution.proofs.PlainLaws.{swap_with_err, swap_with_ok}
 use Rattle.cad_locations.specs.Views.{location_of}
+use Rattle.cad_statement_leaves.proofs.PlainLaws.{swap_with_err, swap_with_ok}
 use Rattle.cad_syntax.specs.Types.{pure_type}
 use Rattle.cad_execution.proofs.plain.swap_with.Goals as goal
 

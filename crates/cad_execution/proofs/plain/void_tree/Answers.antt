@@ -1,6 +1,6 @@
 use Rattle.cad_evaluation.specs.Containers.{void_tree}
-use Rattle.cad_execution.proofs.PlainLaws.{void_given}
 use Rattle.cad_expressions.proofs.Passed.{gives_boxed}
+use Rattle.cad_statement_leaves.proofs.PlainLaws.{void_given}
 use Rattle.cad_values.specs.Values.{pure_value}
 use Rattle.cad_world.specs.State.{give}
 use Rattle.std.specs.Prelude.{Ok}

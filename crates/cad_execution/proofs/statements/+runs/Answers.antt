@@ -1,13 +1,6 @@
 use Rattle.cad_declarations.specs.Typed.{arguments_of, block, cases_of, statements_of}
 use Rattle.cad_declarations.specs.Views.{argument_of, block_of, case_of, place_of, return_of, statement_of, term_of, variable_of}
 use Rattle.cad_evaluation.specs.Statements.{exec}
-use Rattle.cad_execution.proofs.Choosing.{case_block, case_err, cases_done, cases_end, cases_go, cast_err, cast_none, cast_some, chosen_run, chosen_stop, else_ok, if_err, if_ok, let_err, let_none, let_some, switch_err, switch_none, switch_some, while_ok, while_stop}
-use Rattle.cad_execution.proofs.Elements.{all_turned, counted_err, counted_ok, counter_err, counter_ok, element_err, element_none, element_some, first_none, for_err, for_ok, next_turn, no_turn, others_none, place_err, place_ok, run_ended}
-use Rattle.cad_execution.proofs.FlowLaws.{all_done, all_ends, all_goes, block_err, block_ok, over_err, over_ok, turn_err, turn_ok, turns_left, while_done, while_ends, while_err, while_goes, while_over, with_err, with_ok}
-use Rattle.cad_execution.proofs.PlainLaws.{at_fails, at_form}
-use Rattle.cad_execution.proofs.Steps.{Fails}
-use Rattle.cad_execution.proofs.Trees.{assign_at, block_at, break_at, case_at, continue_at, declare_at, emit_at, exchange_at, expression_at, for_at, force_assign_at, if_at, if_cast_at, if_let_at, return_at, swap_at, switch_at, while_at}
-use Rattle.cad_execution.specs.Views.{flow_of}
 use Rattle.cad_expressions.specs.Passed.{tree_in}
 use Rattle.cad_labels.specs.Laws.{HasNoneInRow}
 use Rattle.cad_outcomes.specs.Outcomes.{Gives}
@@ -16,6 +9,13 @@ use Rattle.cad_outcomes.specs.declared.stop.Stop.TheVariants.{Limit}
 use Rattle.cad_rows.specs.Views.{as_row, pure_place, pure_tree}
 use Rattle.cad_rows.specs.declared.tree.Tree.{Tree}
 use Rattle.cad_state.specs.Views.{FindsAndCarriesOut}
+use Rattle.cad_statement_leaves.proofs.Choosing.{case_block, case_err, cases_done, cases_end, cases_go, cast_err, cast_none, cast_some, chosen_run, chosen_stop, else_ok, if_err, if_ok, let_err, let_none, let_some, switch_err, switch_none, switch_some, while_ok, while_stop}
+use Rattle.cad_statement_leaves.proofs.Elements.{all_turned, counted_err, counted_ok, counter_err, counter_ok, element_err, element_none, element_some, first_none, for_err, for_ok, next_turn, no_turn, others_none, place_err, place_ok, run_ended}
+use Rattle.cad_statement_leaves.proofs.FlowLaws.{all_done, all_ends, all_goes, block_err, block_ok, over_err, over_ok, turn_err, turn_ok, turns_left, while_done, while_ends, while_err, while_goes, while_over, with_err, with_ok}
+use Rattle.cad_statement_leaves.proofs.PlainLaws.{at_fails, at_form}
+use Rattle.cad_statement_leaves.proofs.Steps.{Fails}
+use Rattle.cad_statement_leaves.proofs.Trees.{assign_at, block_at, break_at, case_at, continue_at, declare_at, emit_at, exchange_at, expression_at, for_at, force_assign_at, if_at, if_cast_at, if_let_at, return_at, swap_at, switch_at, while_at}
+use Rattle.cad_statement_leaves.specs.Views.{flow_of}
 use Rattle.cad_syntax.specs.Types.{pure_type}
 use Rattle.std.proofs.Common.{[], ap, arith, drop, map, rules, subst, sym, ◌+◌, ◌-◌, ◌∙◌, ◌∷◌, ◌≡◌}
 use Rattle.std.proofs.lemmas.List.{drop_all, nil_from_length}
@@ -23,8 +23,8 @@ use Rattle.std.specs.Global.{Box}
 use Rattle.std.specs.Prelude.{Err, None, Ok, Result, option_map, suc}
 use Rattle.std.specs.Vec.Iter.{into_iter_items}
 use Rattle.cad_declarations.specs.Typed as e
-use Rattle.cad_execution.specs.Code.Parts as parts
-use Rattle.cad_execution.specs.declared.flow.Flow.TheVariants as flow
+use Rattle.cad_statement_leaves.specs.Code.Parts as parts
+use Rattle.cad_statement_leaves.specs.declared.flow.Flow.TheVariants as flow
 use Rattle.cad_execution.proofs.statements.+runs.Goals as goal
 
 pub exec-returns-in-Declare : goal.exec-returns-in-Declare

@@ -9,10 +9,10 @@ use Rattle.std.specs.Prelude.{Option, Result}
 use Rattle.cad_declarations.specs.Typed as e
 use Rattle.cad_declarations.specs.Views.{block_of, case_of, statement_of, term_of}
 use Rattle.cad_evaluation.specs.Statements as spec
-use Rattle.cad_execution.proofs.FlowLaws.{turns_left}
-use Rattle.cad_execution.specs.Code.Parts as parts
-use Rattle.cad_execution.specs.Views.{flow_of}
-use Rattle.cad_execution.specs.declared.flow.Flow.{Flow}
+use Rattle.cad_statement_leaves.proofs.FlowLaws.{turns_left}
+use Rattle.cad_statement_leaves.specs.Code.Parts as parts
+use Rattle.cad_statement_leaves.specs.Views.{flow_of}
+use Rattle.cad_statement_leaves.specs.declared.flow.Flow.{Flow}
 use Rattle.cad_outcomes.specs.declared.stop.Stop.{Stop}
 use Rattle.cad_rows.specs.Views.{pure_tree}
 use Rattle.cad_state.specs.Views.{FindsAndCarriesOut}

@@ -1,5 +1,5 @@
 use Rattle.cad_rows.specs.Views.{pure_tree}
-use Rattle.cad_members.specs.Optionals.{left_or_none}
+use Rattle.cad_value_operations.specs.Optionals.{left_or_none}
 use Rattle.cad_expression_leaves.proofs.Boxing.{value_given}
 use Rattle.cad_expression_leaves.proofs.Going.{goes_stopped}
 use Rattle.cad_expression_leaves.proofs.values.content_or_whole.Goals as goal

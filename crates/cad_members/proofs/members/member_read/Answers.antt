@@ -1,11 +1,11 @@
 use Rattle.cad_evaluation.specs.Builtins.{paid_for}
-use Rattle.cad_members.proofs.GroupLaws.{paid_group}
-use Rattle.cad_members.proofs.Looks.{looked_alike}
-use Rattle.cad_members.specs.Code.Members.{read_by, spot_member}
-use Rattle.cad_members.specs.declared.groups.Group.{Group}
 use Rattle.cad_receivers.specs.Views.{at_spot, settled_of}
 use Rattle.cad_rows.specs.Views.{pure_row, pure_tree}
 use Rattle.cad_state.specs.Views.{FindsAndCarriesOut}
+use Rattle.cad_value_operations.proofs.GroupLaws.{paid_group}
+use Rattle.cad_value_operations.proofs.Looks.{looked_alike}
+use Rattle.cad_value_operations.specs.Code.Members.{read_by, spot_member}
+use Rattle.cad_value_operations.specs.declared.groups.Group.{Group}
 use Rattle.cad_world.specs.Receivers.{look_at}
 use Rattle.std.proofs.Common.{subst, sym}
 use Rattle.cad_members.proofs.members.member_read.Goals as goal

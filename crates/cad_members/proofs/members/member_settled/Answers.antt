@@ -1,14 +1,14 @@
 use Rattle.cad_evaluation.specs.Builtins.{member}
-use Rattle.cad_members.proofs.GroupLaws.{member_by_group, read_group}
-use Rattle.cad_members.proofs.Looks.{looked_alike}
-use Rattle.cad_members.specs.Code.Members.{by_group, read_by}
-use Rattle.cad_members.specs.declared.groups.Group.{Group}
-use Rattle.cad_members.specs.declared.groups.Group.TheVariants.{Container, Search, Service}
 use Rattle.cad_receivers.specs.Views.{settled_of}
 use Rattle.cad_rows.specs.Views.{pure_row, pure_tree}
 use Rattle.cad_rows.specs.declared.tree.Place.{Place}
 use Rattle.cad_state.specs.Views.{FindsAndCarriesOut}
 use Rattle.cad_syntax.specs.Types.{pure_type}
+use Rattle.cad_value_operations.proofs.GroupLaws.{member_by_group, read_group}
+use Rattle.cad_value_operations.proofs.Looks.{looked_alike}
+use Rattle.cad_value_operations.specs.Code.Members.{by_group, read_by}
+use Rattle.cad_value_operations.specs.declared.groups.Group.{Group}
+use Rattle.cad_value_operations.specs.declared.groups.Group.TheVariants.{Container, Search, Service}
 use Rattle.cad_world.specs.Receivers.{look_at}
 use Rattle.cad_world.specs.State.{◌>>=◌}
 use Rattle.std.proofs.Common.{List, ap, map, subst, sym, ◌∙◌}

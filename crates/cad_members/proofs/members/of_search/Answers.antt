@@ -1,8 +1,8 @@
 use Rattle.cad_evaluation.specs.Builtins.{plain_member}
-use Rattle.cad_members.proofs.ChargeLaws.{count_stops, search_stops, searched}
 use Rattle.cad_receivers.specs.Views.{settled_of}
 use Rattle.cad_rows.specs.Views.{pure_row}
 use Rattle.cad_state.specs.Views.{state_over}
+use Rattle.cad_value_operations.proofs.ChargeLaws.{count_stops, search_stops, searched}
 use Rattle.cad_world.specs.Receivers.{look_at}
 use Rattle.cad_world.specs.Trees.{row_weight}
 use Rattle.cad_members.proofs.members.of_search.Goals as goal

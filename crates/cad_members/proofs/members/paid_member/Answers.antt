@@ -1,8 +1,8 @@
-use Rattle.cad_members.proofs.ChargeLaws.{paid_behind, paid_stops}
-use Rattle.cad_members.specs.Code.Members.{spot_member}
 use Rattle.cad_receivers.specs.Views.{settled_of}
 use Rattle.cad_rows.specs.Views.{pure_row}
 use Rattle.cad_state.specs.Views.{state_over}
+use Rattle.cad_value_operations.proofs.ChargeLaws.{paid_behind, paid_stops}
+use Rattle.cad_value_operations.specs.Code.Members.{spot_member}
 use Rattle.cad_world.specs.Receivers.{look_at}
 use Rattle.cad_members.proofs.members.paid_member.Goals as goal
 

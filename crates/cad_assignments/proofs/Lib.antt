@@ -1,0 +1,5 @@
+mod Emptied
+mod Asked
+mod Fills
+mod Changes
+mod Swaps

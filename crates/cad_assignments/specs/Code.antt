@@ -1,0 +1,4 @@
+pub mod Emptied
+pub mod Contents
+pub mod Fills
+pub mod Changes

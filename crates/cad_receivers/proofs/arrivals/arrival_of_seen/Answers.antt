@@ -1,4 +1,0 @@
-use Rattle.cad_receivers.proofs.arrivals.arrival_of_seen.Goals as goal
-
-pub returns-in-Some : goal.returns-in-Some
-returns-in-Some c = λ rights x s. rw c.in-Some.is (c.arrival_of_value.ensures rights x s)

@@ -1,4 +1,0 @@
-use Rattle.cad_receivers.proofs.arrivals.arrive.Goals as goal
-
-pub returns-in-Here : goal.returns-in-Here
-returns-in-Here c = rw c.in-Here.is c.stand.ensures

@@ -1,4 +1,0 @@
-use Rattle.cad_receivers.proofs.fields.read_member.Goals as goal
-
-pub returns-in-Some : goal.returns-in-Some
-returns-in-Some c = rw (← c.in-Some.ensures) c.read_typed.ensures

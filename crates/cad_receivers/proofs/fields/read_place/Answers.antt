@@ -1,4 +1,0 @@
-use Rattle.cad_receivers.proofs.fields.read_place.Goals as goal
-
-pub returns-in-Some : goal.returns-in-Some
-returns-in-Some c = rw c.in-Some.is c.read_part.ensures

@@ -1,4 +1,0 @@
-use Rattle.cad_receivers.proofs.readings.read_out.Goals as goal
-
-pub returns-in-Link : goal.returns-in-Link
-returns-in-Link c = rw c.in-Link.is c.link_to.ensures

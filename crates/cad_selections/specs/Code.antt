@@ -1,0 +1,4 @@
+pub mod Arrivals
+pub mod Fields
+pub mod Indices
+pub mod Readings

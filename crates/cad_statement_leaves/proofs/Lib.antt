@@ -1,0 +1,10 @@
+pub mod ChoiceLaws
+pub mod Choosing
+pub mod Contents
+pub mod Elements
+pub mod FlowLaws
+pub mod Keeping
+pub mod PartLaws
+pub mod PlainLaws
+pub mod Steps
+pub mod Trees
