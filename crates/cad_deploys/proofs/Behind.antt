@@ -16,7 +16,7 @@ use Rattle.cad_runs.specs.Run.{run_deploy}
 use Rattle.cad_state.proofs.Finding.{find_any, find_same, find_stopped, find_then}
 use Rattle.cad_state.specs.Views.{state_over, CarriesOut, FindsAndCarriesOut}
 use Rattle.cad_state.specs.declared.state.RunState.{RunState}
-use Rattle.cad_transaction_runs.specs.OverStorable.{CarriesOutOverStorable, FindsAndCarriesOutOverStorable}
+use Rattle.cad_transaction_ends.specs.OverStorable.{CarriesOutOverStorable, FindsAndCarriesOutOverStorable}
 use Rattle.cad_world.specs.Rows.{Row, Tree}
 use Rattle.cad_world.specs.State.{Contract, Outcome, ok, failed, limit, ill, bind, ◌>>=◌, tick}
 use Rattle.cad_world.specs.Storable.{values_last}

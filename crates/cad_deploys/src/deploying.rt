@@ -1,19 +1,20 @@
 // A contract is deployed.
 ghost use Rattle.cad_deploys.specs.Code.Parts as parts;
 ghost use Rattle.cad_evaluation.specs.Evaluation.{calls_to};
-ghost use Rattle.cad_transaction_runs.specs.Passed.{callee_of, tree_in};
+ghost use Rattle.cad_calls.specs.Passed.{callee_of, tree_in};
 ghost use Rattle.cad_outcomes.specs.Outcomes.{no_value};
 ghost use Rattle.cad_rows.specs.Views.{pure_row, pure_tree};
 ghost use Rattle.cad_runs.specs.Run as spec;
 ghost use Rattle.cad_state.specs.Views.{FindsAndCarriesOut, contract_of};
-ghost use Rattle.cad_transaction_runs.specs.OverStorable.{CarriesOutOverStorable, FindsAndCarriesOutOverStorable};
+ghost use Rattle.cad_transaction_ends.specs.OverStorable.{CarriesOutOverStorable, FindsAndCarriesOutOverStorable};
 
+use cad_calls::{Callee, FrontEnd, Level, call_with};
 use cad_installations::{Initializers, install};
 use cad_making::let_go;
 use cad_outcomes::Stop;
 use cad_rows::{Place, Tree, discard_row};
 use cad_state::{Contract, RunState, discard_contract};
-use cad_transaction_runs::{Callee, FrontEnd, Level, call_with, judge_stored};
+use cad_transaction_ends::judge_stored;
 
 /// Calls, nested at most so deep. Errors are those of what is called.
 fn call<E: FrontEnd>(

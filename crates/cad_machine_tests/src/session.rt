@@ -11,7 +11,8 @@ use cad_state::{
 };
 use cad_syntax::{Address, Num};
 use cad_tables::no_contracts;
-use cad_transaction_runs::{Left, left_accounts, run_transaction};
+use cad_transaction_ends::{Left, left_accounts};
+use cad_transaction_runs::run_transaction;
 use std::alloc::Global;
 use std::process::Abort;
 

@@ -5,7 +5,7 @@ use Rattle.std.proofs.lemmas.Bool.{le-leb}
 use Rattle.std.proofs.lemmas.List.Elements.{recursion_from_All}
 use Rattle.std.specs.List.{AllByRecursion, list_all}
 use Rattle.cad_syntax.specs.declared.text.Name.{Name}
-use Rattle.cad_transaction_runs.specs.OverStorable.{AreStorable}
+use Rattle.cad_transaction_ends.specs.OverStorable.{AreStorable}
 use Rattle.cad_values.specs.Forms.{is_storable_value, all_values, all_entries, all_fields, is_plain_storable}
 use Rattle.cad_values.specs.Shapes.{Shapes}
 use Rattle.cad_values.specs.Sizes.{height, values_height, entries_height, fields_height, most_high}

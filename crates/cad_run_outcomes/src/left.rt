@@ -7,7 +7,7 @@ ghost use Rattle.cad_runs.specs.Commands.{ran};
 ghost use Rattle.cad_state.specs.Views.{contract_of, state_over};
 ghost use Rattle.cad_run_outcomes.specs.Outcomes as spec;
 ghost use Rattle.cad_run_outcomes.specs.Views.{TellsOver, event_items};
-ghost use Rattle.cad_transaction_runs.specs.Left as runs;
+ghost use Rattle.cad_transaction_ends.specs.Left as runs;
 ghost use Rattle.cad_values.specs.Shapes.{declarations};
 ghost use Rattle.cad_values.specs.Values.{pure_value};
 ghost use Rattle.cad_world.specs.Begin.{kept_account};
@@ -20,7 +20,7 @@ use cad_contract_shapes::sorts_of_contracts;
 use cad_run_worlds::{RunWorld, Unfinished};
 use cad_state::{Accounts, Contract, RunState, discard_state, discard_values};
 use cad_syntax::Text;
-use cad_transaction_runs::{Left, discard_left, left_accounts};
+use cad_transaction_ends::{Left, discard_left, left_accounts};
 use cad_values::Value;
 use std::alloc::{AllocError, Global};
 

@@ -1,9 +1,3 @@
-pub mod AccountTests
 pub mod Entering
 pub mod Keeping
-pub mod Kept
-pub mod KnownAccounts
-pub mod Order
-pub mod Signing
 pub mod Staging
-pub mod Stored

@@ -17,7 +17,7 @@ use Rattle.cad_state.specs.Views.{state_over, IsReady, CarriesOut, FindsAndCarri
 use Rattle.cad_state.specs.declared.state.RunState.{RunState}
 use Rattle.cad_transaction_runs.proofs.Keeping as keeping
 use Rattle.cad_transaction_runs.specs.Code.Parts as parts
-use Rattle.cad_transaction_runs.specs.OverStorable.{AreStorable, CarriesOutOverStorable, FindsAndCarriesOutOverStorable}
+use Rattle.cad_transaction_ends.specs.OverStorable.{AreStorable, CarriesOutOverStorable, FindsAndCarriesOutOverStorable}
 use Rattle.cad_world.specs.Rows.{Row}
 use Rattle.cad_world.specs.State.{Account}
 use Rattle.cad_world.specs.Storable.{values_last}

@@ -1,4 +1,1 @@
 pub mod Code
-pub mod Left
-pub mod OverStorable
-pub mod Passed

@@ -10,12 +10,10 @@ ghost use Rattle.cad_rows.specs.Views.{pure_row};
 ghost use Rattle.cad_runs.specs.Run as spec;
 ghost use Rattle.cad_state.specs.Views.{CarriesOut, FindsAndCarriesOut, frame_of};
 ghost use Rattle.cad_transaction_runs.specs.Code.Parts as parts;
-ghost use Rattle.cad_transaction_runs.specs.OverStorable.{FindsAndCarriesOutOverStorable};
+ghost use Rattle.cad_transaction_ends.specs.OverStorable.{FindsAndCarriesOutOverStorable};
 ghost use Rattle.cad_world.specs.Rows.{empty_places, join};
 
 use crate::entries::run_entry;
-use crate::signers::with_signers;
-use crate::storable::judge_stored;
 use cad_calls::{
     Callee, Callees, FrontEnd, Level, call_with, is_unnamed, keep_values, test_conditions,
 };
@@ -25,6 +23,7 @@ use cad_outcomes::Stop;
 use cad_rows::{Place, Tree, discard_place, discard_row};
 use cad_state::{Call, RunState, discard_call};
 use cad_syntax::Address;
+use cad_transaction_ends::{judge_stored, with_signers};
 use std::alloc::{AllocError, Global};
 
 /// Places of fields, which aren't set, come before the arguments.

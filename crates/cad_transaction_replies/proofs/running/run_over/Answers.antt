@@ -7,7 +7,7 @@ use Rattle.cad_runs.proofs.Kept.{is_kept}
 use Rattle.cad_runs.specs.Run.{bound, run_transaction}
 use Rattle.cad_run_worlds.proofs.Runs.{fuel, ran_so}
 use Rattle.cad_state.specs.Views.{program_of}
-use Rattle.cad_transaction_runs.specs.OverStorable.{FindsAndCarriesOutOverStorable}
+use Rattle.cad_transaction_ends.specs.OverStorable.{FindsAndCarriesOutOverStorable}
 use Rattle.cad_world.specs.Begin.{begun}
 use Rattle.cad_worlds.specs.Standing.{any_accepted}
 use Rattle.cad_run_outcomes.proofs.Results.{if_ok}

@@ -1,0 +1,6 @@
+pub mod AccountTests
+pub mod Kept
+pub mod KnownAccounts
+pub mod Order
+pub mod Signing
+pub mod Stored

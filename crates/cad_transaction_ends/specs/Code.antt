@@ -1,0 +1,2 @@
+pub mod AccountTests
+pub mod Sorting
