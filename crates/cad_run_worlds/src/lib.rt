@@ -10,8 +10,7 @@ pub use reply::{ScriptReply, Unfinished};
 pub use run_worlds::{RunWorld, discard_run_world, of_part, of_world};
 pub use signers::has_account;
 
-// For the crates above alone: states in which runs begin, rows of arguments, signers, and what is told of stops, by the definitions
-// that the code follows.
+// For the crates above alone: states in which runs begin, rows of arguments, signers, and what is told of stops.
 pub use arguments::{row_for, row_of};
 pub use reply::{reply_to_stop, unfinished};
 pub use run_worlds::begin_over;

@@ -5,3 +5,6 @@ mod entries;
 mod stages;
 
 pub use stages::run_transaction;
+
+// What the crates above use of the ones below.
+pub use cad_calls::FrontEnd;
