@@ -5,7 +5,7 @@ use Rattle.std.proofs.Math.Seq.{take-append-add, take-length}
 use Rattle.cad_world.specs.State.{World}
 use Rattle.serde_json.specs.Data.{Data}
 use Rattle.cad_runs.specs.Commands.{Reply}
-use Rattle.cad_serve.specs.Answer.{answer_line}
+use Rattle.cad_answers.specs.Answer.{answer_line}
 use Rattle.cad_serve.specs.Served.{AnswersAll, answer_lines, Served, ServedSome, Broken, Begun}
 
 pub all_append : (w u v : World) (xs ys : List (List ℕ)) (answers others : List (Reply Data)) → AnswersAll w xs answers u → AnswersAll u ys others v → AnswersAll w (xs ++ ys) (answers ++ others) v

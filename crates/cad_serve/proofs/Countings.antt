@@ -7,11 +7,11 @@ use Rattle.std.proofs.lemmas.List.Elements.{filter-append}
 use Rattle.serde_json.specs.Data.{Data}
 use Rattle.cad_runs.specs.Commands.{Reply, account_made, result, ran, rejected, failed, limit, bad, ill, is_ok}
 use Rattle.cad_serve.specs.Code.Counted.{made_in, destroyed_in, ok_in, failed_in, IsCounted}
-use Rattle.cad_serve.specs.Code.Views.{Tells}
+use Rattle.cad_answers.specs.Code.Views.{Tells}
 use Rattle.cad_serve.specs.Generated.{made_by, destroyed_by, is_failed}
 use Rattle.cad_serve.specs.declared.counting.Counts.{Counts}
-use Rattle.cad_serve.specs.declared.reply.Reply as own
-use Rattle.cad_serve.specs.declared.reply.Reply.TheVariants as reply
+use Rattle.cad_answers.specs.declared.reply.Reply as own
+use Rattle.cad_answers.specs.declared.reply.Reply.TheVariants as reply
 
 -- a count of one reply, by what the reply is
 is_of : (F : Reply Data → ℕ) (n : ℕ) (a b : Reply Data) → a ≡ b → n ≡ F b → n ≡ F a

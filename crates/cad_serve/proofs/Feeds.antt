@@ -2,7 +2,7 @@
 use Rattle.std.proofs.Common.{◌≡◌, ℕ, zero, suc, ◌+◌, ◌≤◌, ◌==◌, Bool, true, false, if◌then◌else◌, List, [], ◌∷◌, ◌++◌, length, take, refl, ◌∙◌, ap, arith}
 use Rattle.serde_json.specs.Data.{Data}
 use Rattle.cad_runs.specs.Commands.{Reply}
-use Rattle.cad_serve.specs.Answer.{answer_line}
+use Rattle.cad_answers.specs.Answer.{answer_line}
 use Rattle.cad_serve.specs.Served.{answer_lines}
 use Rattle.cad_serve.specs.Replied.{line_feeds}
 

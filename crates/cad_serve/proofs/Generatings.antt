@@ -18,7 +18,7 @@ use Rattle.cad_wire.specs.declared.entry.Entry.{Entry}
 use Rattle.cad_world.specs.State.{World}
 use Rattle.cad_worlds.specs.Standing.{StandsFor, any_accepted}
 use Rattle.cad_serve.proofs.Batches.{all_append}
-use Rattle.cad_serve.specs.Answer.{Answers}
+use Rattle.cad_answers.specs.Answer.{Answers}
 use Rattle.cad_serve.specs.Code.Counted.{IsCounted, HasRunAll}
 use Rattle.cad_serve.specs.declared.counting.Counts.{Counts}
 

@@ -10,7 +10,7 @@ use Rattle.serde_json.specs.Data.{Num, unsigned, negative, float, Data, null, bo
 use Rattle.serde_json.specs.Written.{number_text, comma_if, compact_text, items_text, members_text}
 use Rattle.cad_syntax.specs.Addresses.{hex_digits, address_text}
 use Rattle.cad_runs.specs.Commands.{Reply, account_made, result, ran, failed, limit, bad, rejected, ill}
-use Rattle.cad_serve.specs.Answer.{answer_line, number_items, ill_typed}
+use Rattle.cad_answers.specs.Answer.{answer_line, number_items, ill_typed}
 use Rattle.cad_run_outcomes.specs.Views.{event_items}
 use Rattle.cad_rejections.specs.Texts.{phase_name, joined, rejected_text}
 use Rattle.cad_grammar.specs.declared.phase.Phase.{Phase}

@@ -11,7 +11,7 @@ use Rattle.cad_store.specs.Opening.{in_use, opened, IsOpening}
 use Rattle.cad_store.proofs.Beginning.{opened_reads}
 use Rattle.serde_json.specs.Data.{Data}
 use Rattle.cad_runs.specs.Commands.{Reply}
-use Rattle.cad_serve.specs.Answer.{Answers, answer_line}
+use Rattle.cad_answers.specs.Answer.{Answers, answer_line}
 use Rattle.cad_serve.specs.Replied.{line_feeds, acknowledged}
 use Rattle.cad_serve.specs.Served.{AnswersAll}
 use Rattle.cad_serve.specs.Crashes.{DiskStands, HasPrefix, IsPrefix, Survives, in_opening, after_opening}

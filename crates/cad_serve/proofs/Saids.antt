@@ -17,7 +17,7 @@ use Rattle.cad_store.specs.declared.place.Place.TheVariants.{Behind, Onto}
 use Rattle.cad_store.specs.Stores.{DiskHolds, held, IsAt, IsOn, Keeps, BreaksRecord}
 use Rattle.serde_json.specs.Data.{Data}
 use Rattle.cad_runs.specs.Commands.{Reply}
-use Rattle.cad_serve.specs.Answer.{Answers, answer_line}
+use Rattle.cad_answers.specs.Answer.{Answers, answer_line}
 use Rattle.cad_serve.specs.Served.{Served, Broken}
 use Rattle.cad_serve.specs.Writing.{Written, nothing, Wrote, WroteBroken, WroteStopped, writing}
 use Rattle.cad_serve.specs.Crashes.{DiskStands, HasPrefix, IsPrefix, KeepsPrefix}

@@ -5,7 +5,7 @@ use Rattle.cad_generation.specs.Lines.{generated}
 use Rattle.cad_runs.specs.Commands.{Reply}
 use Rattle.cad_world.specs.Begin.{empty_world}
 use Rattle.cad_world.specs.State.{World}
-use Rattle.cad_serve.specs.Answer.{Answers}
+use Rattle.cad_answers.specs.Answer.{Answers}
 use Rattle.cad_serve.specs.Generated.{IsCountsLine, counts_line}
 use Rattle.cad_serve.specs.Served.{AnswersAll}
 

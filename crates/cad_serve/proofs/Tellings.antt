@@ -11,7 +11,7 @@ use Rattle.cad_runs.specs.Commands.{Reply}
 use Rattle.cad_serve_parts.specs.Code.Worlds.{AreSound}
 use Rattle.cad_store.specs.declared.store.Store.{Store}
 use Rattle.cad_store.specs.Stores.{held, IsOn, Keeps, recorded}
-use Rattle.cad_serve.specs.Answer.{Answers, answer_line}
+use Rattle.cad_answers.specs.Answer.{Answers, answer_line}
 use Rattle.cad_serve.specs.Writing.{Written, one_record}
 use Rattle.cad_serve.specs.Code.Progress.{Said, Halted}
 use Rattle.cad_serve.specs.declared.status.Status.{Status}

@@ -6,7 +6,7 @@ use Rattle.cad_tape.specs.Framing.{framed}
 use Rattle.cad_tape.specs.Reading.{chosen, pick_of, ending, four_calls}
 use Rattle.cad_store.specs.Stores.{other, recorded}
 use Rattle.cad_world.specs.State.{World}
-use Rattle.cad_serve.specs.Answer.{answer_line}
+use Rattle.cad_answers.specs.Answer.{answer_line}
 use Rattle.cad_serve.specs.Replied.{HasReplied}
 use Rattle.cad_serve.specs.Writing.{TakesAll, TakesInput, Wrote, WroteSome, WroteBroken, WroteStopped, Stopped, writing}
 

@@ -1,6 +1,3 @@
-pub mod Views
-pub mod Outcomes
-pub mod Programs
 pub mod Progress
 pub mod Ending
 pub mod Counted

@@ -1,4 +1,3 @@
-pub mod Answer
 pub mod Replied
 pub mod Served
 pub mod Writing

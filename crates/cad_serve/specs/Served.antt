@@ -6,7 +6,7 @@ use Rattle.cad_world.specs.State.{World}
 use Rattle.cad_serve_parts.specs.Lines.{lines, commands_among}
 use Rattle.serde_json.specs.Data.{Data}
 use Rattle.cad_runs.specs.Commands.{Reply}
-use Rattle.cad_serve.specs.Answer.{Answers, answer_line}
+use Rattle.cad_answers.specs.Answer.{Answers, answer_line}
 use Rattle.cad_serve.specs.Writing.{Wrote}
 
 -- each command has its reply, over the World that those before it left

@@ -9,7 +9,7 @@ use Rattle.cad_worlds.specs.Standing.{StandsFor}
 use Rattle.cad_store.specs.Stores.{recorded, BreaksRecord}
 use Rattle.serde_json.specs.Data.{Data}
 use Rattle.cad_runs.specs.Commands.{Reply}
-use Rattle.cad_serve.specs.Answer.{Answers, answer_line}
+use Rattle.cad_answers.specs.Answer.{Answers, answer_line}
 use Rattle.cad_serve.specs.Replied.{HasReplied}
 
 -- What a command writes: nothing, where it leaves the World as it was; or one record, of exactly the registers that

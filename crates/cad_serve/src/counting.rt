@@ -7,9 +7,9 @@ ghost use Rattle.cad_world.specs.State.{World};
 ghost use Rattle.cad_serve.specs.Generated as spec;
 ghost use Rattle.cad_serve.specs.Code.Counted as code;
 ghost use Rattle.cad_serve.specs.Code.Counted.{IsCounted};
-ghost use Rattle.cad_serve.specs.Code.Views.{Tells};
+ghost use Rattle.cad_answers.specs.Code.Views.{Tells};
 
-use crate::reply::Reply;
+use cad_answers::Reply;
 use cad_syntax::Text;
 use std::alloc::{AllocError, Global};
 

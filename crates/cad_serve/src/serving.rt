@@ -16,7 +16,7 @@ ghost use Rattle.cad_serve.specs.Generated.{IsCountsLine, EndsGenerated};
 ghost use Rattle.cad_serve_parts.specs.Words.{IsRun, IsGenerate};
 ghost use Rattle.serde_json.specs.Data.{Data};
 ghost use Rattle.cad_runs.specs.Commands.{Reply};
-ghost use Rattle.cad_serve.specs.Answer.{Answers, answer_line, most_bytes};
+ghost use Rattle.cad_answers.specs.Answer.{Answers, answer_line, most_bytes};
 ghost use Rattle.cad_serve.specs.Served.{Served, ServedSome, Broken, Begun, Finished};
 ghost use Rattle.cad_serve.specs.Writing.{Wrote, WroteSome, WroteBroken, WroteStopped};
 ghost use Rattle.cad_serve.specs.Crashes.{DiskStands, Survives};
@@ -27,8 +27,8 @@ ghost use Rattle.cad_serve.specs.declared.status.Status.TheVariants as status;
 ghost use Rattle.cad_serve.specs.declared.status.Status.{Status};
 
 use crate::generating::generate;
-use crate::prepare::{Prepared, prepare};
 use crate::status::Status;
+use cad_answers::{Prepared, prepare};
 use cad_host::{Failed, Host};
 use cad_serve_parts::{
     Line, Programs, Worlds, discard_kept, is_run, nothing_kept, one_world, transfers_asked,

@@ -6,7 +6,7 @@ ghost use Rattle.cad_world.specs.State.{World};
 ghost use Rattle.cad_serve.specs.Generated.{IsCountsLine};
 ghost use Rattle.cad_serve.specs.Served.{AnswersAll};
 
-use crate::laws::one_reply;
+use cad_answers::one_reply;
 
 /// Commands that run one after another have one list of replies at most, and lead to one World.
 pub fn one_session()

@@ -11,8 +11,8 @@ use Rattle.cad_worlds.specs.Standing.{StandsFor}
 use Rattle.cad_serve.specs.Generated.{made_by, destroyed_by, is_failed}
 use Rattle.cad_serve.specs.Served.{AnswersAll}
 use Rattle.cad_serve.specs.declared.counting.Counts.{Counts}
-use Rattle.cad_serve.specs.declared.reply.Reply.{Reply}
-use Rattle.cad_serve.specs.declared.reply.Reply.TheVariants as reply
+use Rattle.cad_answers.specs.declared.reply.Reply.{Reply}
+use Rattle.cad_answers.specs.declared.reply.Reply.TheVariants as reply
 
 -- what a reply of the program adds to each count
 abbrev pub made_in : Reply → ℕ

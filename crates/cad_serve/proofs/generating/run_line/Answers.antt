@@ -1,9 +1,9 @@
 use Rattle.std.proofs.Common.{refl, arith, ◌≤◌, length}
 use Rattle.std.proofs.lemmas.Result.{IfOk-weaker}
 use Rattle.cad_runs.specs.Commands.{bad}
-use Rattle.cad_serve.specs.Answer.{too_long}
+use Rattle.cad_answers.specs.Answer.{too_long}
 use Rattle.cad_serve_parts.specs.Held.{longest}
-use Rattle.cad_serve.proofs.Readies.{answers_line}
+use Rattle.cad_answers.proofs.Readies.{answers_line}
 use Rattle.cad_serve.proofs.generating.run_line.Goals as goal
 
 pub returns-then-long-clause-reply : goal.returns-then-long-clause-reply

@@ -1,0 +1,9 @@
+pub mod Comings
+pub mod Readies
+pub mod Judgements
+pub mod Receipts
+pub mod Replying
+pub mod Transacting
+pub mod OneMoreAccount
+pub mod Uniques
+pub mod Leaving

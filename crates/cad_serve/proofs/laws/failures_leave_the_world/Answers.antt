@@ -1,5 +1,0 @@
-use Rattle.cad_serve.proofs.Leaving.{failures_leave}
-use Rattle.cad_serve.proofs.laws.failures_leave_the_world.Goals as goal
-
-pub returns : goal.returns
-returns c = failures_leave

@@ -1,5 +1,0 @@
-use Rattle.cad_serve.proofs.Leaving.{scripts_leave}
-use Rattle.cad_serve.proofs.laws.scripts_leave_the_world.Goals as goal
-
-pub returns : goal.returns
-returns c = scripts_leave
