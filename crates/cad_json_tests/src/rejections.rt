@@ -1,7 +1,7 @@
 // The text of rejections.
-use crate::rejected_text;
 use cad_declarations::Rejected;
 use cad_grammar::Phase;
+use cad_rejections::rejected_text;
 use cad_syntax::{Name, Names, Text};
 use std::alloc::{AllocError, Global};
 use std::test::Fail;

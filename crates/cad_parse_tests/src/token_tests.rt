@@ -1,5 +1,5 @@
 // Texts with their tokens.
-use crate::rows::{GAPS, NUMBERS, QUOTATIONS, SIGNS, WORDS};
+use crate::token_rows::{GAPS, NUMBERS, QUOTATIONS, SIGNS, WORDS};
 use cad_grammar::{Token, TokenKind};
 use cad_lex::*;
 use std::alloc::{AllocError, Global};

@@ -1,5 +1,5 @@
 // What is told of values that are read from bytes.
-use crate::rows::{TOLD, UNTOLD};
+use crate::told_rows::{TOLD, UNTOLD};
 use cad_codec::decode;
 use cad_json_export::export;
 use cad_syntax::{Address, Name, Names, Text, TypeId, TypeIds, Types};

@@ -1,5 +1,5 @@
 // What lines ask for.
-use crate::{Command, command};
+use cad_commands::{Command, command};
 use std::alloc::{AllocError, Global};
 use std::test::Fail;
 
