@@ -1,12 +1,6 @@
-//! Tests of the machine: scripts and transactions beside a contract as texts, and what running them comes to; operators and built-in members.
+//! Tests of the machine over accounts of which a run knows some.
 #![tactic(auto)]
 
-#[cfg(test)]
-mod accounts;
-#[cfg(test)]
-mod capabilities;
-#[cfg(test)]
-mod operators;
 #[cfg(test)]
 mod parts;
 #[cfg(test)]
@@ -15,5 +9,3 @@ mod rows;
 mod running;
 #[cfg(test)]
 mod session;
-#[cfg(test)]
-mod tests;

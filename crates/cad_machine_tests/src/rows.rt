@@ -1,5 +1,5 @@
 // Rows of tests over accounts: transactions beside a contract, and what they come to.
-use crate::session::{End, asked, asked_known, transacted, transacted_known};
+use crate::session::{End, asked_known, transacted_known};
 use cad_outcomes::{RunError, Stop};
 use cad_syntax::{Kind, Num};
 use std::alloc::Global;
@@ -45,9 +45,6 @@ const CONTRACT: &str = "access(all) contract C {
         return 7 }
 }";
 
-/// What a command is to come to: its numbers, or its error.
-pub(crate) type Wanted<'a> = Result<&'a [u64], RunError>;
-
 /// A number of the kind Int.
 fn int(rt: &impl Abort, value: u64) -> Num {
     Num::new(Kind::Int, false, value as u128).expect(rt, "in range")
@@ -62,79 +59,12 @@ fn code(rt: &impl Abort, alloc: Global, statements: &str) -> String {
     .expect(rt, "memory")
 }
 
-/// Asserts what transactions with these statements, one behind the other, come to: the numbers that the last one tells, or the
-/// error of one of them.
-pub(crate) fn ends(
-    rt: &impl Abort,
-    alloc: Global,
-    statements: &[&str],
-    units: u64,
-    wanted: Result<&[u64], Stop>,
-) {
-    let mut texts: Vec<String> = Vec::new(alloc);
-    for one in statements {
-        texts.push(code(rt, alloc, one)).expect(rt, "memory");
-    }
-    let mut codes: Vec<&str> = Vec::new(alloc);
-    for text in texts.as_slice() {
-        codes.push(text.as_str()).expect(rt, "memory");
-    }
-    let last = match statements.last() {
-        Some(one) => *one,
-        None => "",
-    };
-    match transacted(rt, alloc, CONTRACT, codes.as_slice(), units) {
-        Ok(told) => {
-            assert_eq!(rt; wanted.is_ok(), true, "{last}");
-            let numbers = wanted.unwrap_or(&[]);
-            assert_eq!(rt; told.len(), numbers.len(), "{last}");
-            for (number, one) in told.as_slice().iter().zip(numbers) {
-                assert_eq!(rt; *number, Some(int(rt, *one)), "{last}");
-            }
-        }
-        Err(stop) => assert_eq!(rt; wanted.err(), Some(stop), "{last}"),
-    }
-}
-
-/// Asserts what each row's transaction comes to.
-pub(crate) fn hold(rt: &impl Abort, alloc: Global, rows: &[(&str, Wanted<'_>)]) {
-    for (statements, wanted) in rows {
-        let stopped = match *wanted {
-            Ok(numbers) => Ok(numbers),
-            Err(error) => Err(Stop::Failed(error)),
-        };
-        ends(rt, alloc, &[*statements], UNITS, stopped);
-    }
-}
-
-/// Asserts what the second of each row's transactions comes to.
-pub(crate) fn follow(rt: &impl Abort, alloc: Global, rows: &[(&str, &str, Wanted<'_>)]) {
-    for (first, second, wanted) in rows {
-        let stopped = match *wanted {
-            Ok(numbers) => Ok(numbers),
-            Err(error) => Err(Stop::Failed(error)),
-        };
-        ends(rt, alloc, &[*first, *second], UNITS, stopped);
-    }
-}
-
 /// A script whose `main` has these statements.
 fn script(rt: &impl Abort, alloc: Global, statements: &str) -> String {
     let text = format!(in alloc;
         "import C from 0x1\naccess(all) fun main(): Int {{ {statements} }}"
     );
     text.expect(rt, "memory")
-}
-
-/// Asserts the number that a script with these statements gives behind a transaction.
-pub(crate) fn reads(rt: &impl Abort, alloc: Global, rows: &[(&str, &str, u64)]) {
-    for (first, statements, wanted) in rows {
-        let before = code(rt, alloc, first);
-        let text = script(rt, alloc, statements);
-        let codes = [before.as_str()];
-        let end = asked(rt, alloc, CONTRACT, &codes, text.as_str(), UNITS);
-        assert_end(rt, &end, Expected::Tells(&[*wanted]), statements);
-    }
 }
 
 // ---- where some accounts are known

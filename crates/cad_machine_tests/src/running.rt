@@ -1,17 +1,14 @@
-// What running a script beside a contract comes to.
+// Texts as programs, and a contract as a check and as a run have it.
 use cad_check::check_text;
 use cad_declarations::{Checked, Deployed, Installed};
 use cad_discards::{discard_checked, discard_deployed, discard_installed, hold};
-use cad_outcomes::Stop;
 use cad_rows::{Place, Shape, Tree, add_last};
-use cad_run_starts::begin;
-use cad_scripts::{FrontEnd, run_script};
-use cad_state::{Accounts, Contract, RunState, discard_contract, discard_state};
-use cad_syntax::{Address, Bytes, Name, Names, Num, Numbers, Text, TypeId};
+use cad_scripts::FrontEnd;
+use cad_state::{Contract, discard_contract};
+use cad_syntax::{Address, Bytes, Name, Names, Num, Text, TypeId};
 use cad_tables::{no_contracts, with_contract};
 use cad_values::Value;
 use std::alloc::{AllocError, Global};
-use std::mem::replace;
 use std::process::Abort;
 use std::rc::Rc;
 
@@ -35,16 +32,6 @@ impl FrontEnd for Closed {
     ) -> Result<Option<Rc<Checked>>, AllocError> {
         Ok(None)
     }
-}
-
-/// What a run comes to: the number that the script gives, and what its state lists.
-#[derive(Drop)]
-pub(crate) struct Outcome {
-    pub number: Result<Option<Num>, Stop>,
-    pub made: Numbers,
-    pub destroyed: Numbers,
-    /// The first field of each event, where it is a number.
-    pub events: Vec<Option<Num>>,
 }
 
 /// A program that several may hold.
@@ -159,58 +146,4 @@ pub(crate) fn number_in(event: &Value) -> Option<Num> {
         },
         _ => None,
     }
-}
-
-/// What a run came to.
-fn told(
-    rt: &impl Abort,
-    alloc: Global,
-    given: Result<Value, Stop>,
-    mut state: RunState,
-) -> Outcome {
-    let mut events = Vec::new(alloc);
-    for event in state.events.as_slice() {
-        events.push(number_in(event)).expect(rt, "memory");
-    }
-    let made = replace(&mut state.made, Numbers::new(alloc));
-    let destroyed = replace(&mut state.destroyed, Numbers::new(alloc));
-    discard_state(state);
-    let number = match given {
-        Ok(value) => Ok(number_of(&value)),
-        Err(stop) => Err(stop),
-    };
-    Outcome {
-        number,
-        made,
-        destroyed,
-        events,
-    }
-}
-
-/// What a script comes to with so many units, beside a contract `C` at address 1.
-pub(crate) fn ran(
-    rt: &impl Abort,
-    alloc: Global,
-    contract: &str,
-    script: &str,
-    units: u64,
-) -> Outcome {
-    let none = no_contracts(alloc);
-    let own = checked(rt, alloc, contract, Some(PLACE), &none);
-    let contracts = running(rt, alloc, &own);
-    let beside = deployed(rt, alloc, &none, own);
-    discard_deployed(none);
-    let program = checked(rt, alloc, script, None, &beside);
-    discard_deployed(beside);
-    let mut state = begin(
-        alloc,
-        program,
-        Accounts::All(Vec::new(alloc)),
-        contracts,
-        1,
-        units,
-    );
-    let fuel = units.saturating_mul(2).saturating_add(2);
-    let given = run_script(fuel, &Closed, Vec::new(alloc), &mut state);
-    told(rt, alloc, given, state)
 }

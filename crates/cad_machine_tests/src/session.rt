@@ -248,27 +248,6 @@ fn opened(rt: &impl Abort, alloc: Global, contract: &str) -> (Session, Deployed)
     (session, beside)
 }
 
-/// The events of the last of these transactions, which are signed by accounts 1 and 2 and run beside a contract `C` of account 1,
-/// each with so many units; or why one of them failed.
-pub(crate) fn transacted(
-    rt: &impl Abort,
-    alloc: Global,
-    contract: &str,
-    codes: &[&str],
-    units: u64,
-) -> Result<Vec<Option<Num>>, Stop> {
-    let (session, beside) = opened(rt, alloc, contract);
-    let ended = after(rt, alloc, session, &beside, codes, units);
-    discard_deployed(beside);
-    match ended {
-        Ok((last, told)) => {
-            discard_session(last);
-            Ok(told)
-        }
-        Err(stop) => Err(stop),
-    }
-}
-
 /// What a command comes to over accounts of which some are known.
 #[derive(Drop)]
 pub(crate) struct End {
@@ -376,25 +355,8 @@ fn scripted(
     }
 }
 
-/// What a script comes to behind these transactions, or the one of them that stopped.
-pub(crate) fn asked(
-    rt: &impl Abort,
-    alloc: Global,
-    contract: &str,
-    codes: &[&str],
-    script: &str,
-    units: u64,
-) -> End {
-    let (session, beside) = opened(rt, alloc, contract);
-    let end = match after(rt, alloc, session, &beside, codes, units) {
-        Ok((last, _told)) => scripted(rt, alloc, last, &beside, script, units),
-        Err(stop) => end_by(alloc, stop, None),
-    };
-    discard_deployed(beside);
-    end
-}
-
-/// The same where the script knows those accounts that have these indices, the last first.
+/// What a script comes to behind these transactions, or the one of them that stopped, where the script knows those accounts that have
+/// these indices, the last first.
 pub(crate) fn asked_known(
     rt: &impl Abort,
     alloc: Global,

@@ -1,4 +1,4 @@
-//! Tests of names, numbers, texts, types, bytes of values and keys.
+//! Tests of names, numbers, texts, types, bytes of values, keys, and operators.
 #![tactic(auto)]
 
 #[cfg(test)]
@@ -9,6 +9,8 @@ mod codec_tests;
 mod keys_tests;
 #[cfg(test)]
 mod num_tests;
+#[cfg(test)]
+mod operators_tests;
 #[cfg(test)]
 mod syntax_tests;
 #[cfg(test)]
