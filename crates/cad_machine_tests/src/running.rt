@@ -1,11 +1,11 @@
 // What running a script beside a contract comes to.
 use cad_check::check_text;
+use cad_command_runs::{FrontEnd, run_script};
 use cad_declarations::{Checked, Deployed, Installed};
 use cad_discards::{discard_checked, discard_deployed, discard_installed, hold};
 use cad_outcomes::Stop;
 use cad_rows::{Place, Shape, Tree, add_last};
 use cad_run_starts::begin;
-use cad_scripts::{FrontEnd, run_script};
 use cad_state::{Accounts, Contract, RunState, discard_contract, discard_state};
 use cad_syntax::{Address, Bytes, Name, Names, Num, Numbers, Text, TypeId};
 use cad_tables::{no_contracts, with_contract};
