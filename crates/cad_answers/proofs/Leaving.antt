@@ -4,11 +4,11 @@ use Rattle.serde_json.specs.Data.{Data}
 use Rattle.cad_syntax.specs.declared.address.Address.{Address}
 use Rattle.cad_syntax.specs.declared.type_id.TypeId.{TypeId}
 use Rattle.cad_commands.specs.Commands.{command_of}
-use Rattle.cad_deploy_replies.specs.Passed.{contract_named}
-use Rattle.cad_deploy_replies.specs.Replies as deployment
+use Rattle.cad_replies.specs.Passed.{contract_named}
+use Rattle.cad_replies.specs.Deployments as deployment
 use Rattle.cad_runs.specs.Commands as command
 use Rattle.cad_runs.specs.Commands.{Command, Reply, is_ok}
-use Rattle.cad_transaction_replies.specs.Replies as transaction
+use Rattle.cad_replies.specs.Transactions as transaction
 use Rattle.cad_run_outcomes.specs.Outcomes.{Outcome, stays, leads, settled}
 use Rattle.cad_world.specs.Fronts.{Front}
 use Rattle.cad_world.specs.State as run

@@ -6,18 +6,18 @@ use Rattle.cad_syntax.specs.declared.type_id.TypeId.{TypeId}
 use Rattle.cad_acceptance.specs.Acceptance.{CheckedProgram, AcceptsText}
 use Rattle.cad_fronts.specs.Passed.{OneFirstStop, OneAcceptance, AcceptedTextsHaveNoStop}
 use Rattle.cad_commands.specs.Commands.{command_of}
-use Rattle.cad_deploy_replies.specs.Passed.{contract_named, is_taken}
-use Rattle.cad_deploy_replies.specs.Replies as deployment
+use Rattle.cad_replies.specs.Passed.{contract_named, is_taken}
+use Rattle.cad_replies.specs.Deployments as deployment
 use Rattle.cad_fronts.specs.Laws.{OneVerdict}
 use Rattle.cad_bounds.specs.Fronts.{join}
 use Rattle.cad_loads.specs.Fronts.{IsRight}
 use Rattle.cad_loads.specs.Loads.{program_in}
 use Rattle.cad_runs.specs.Commands.{Command, Reply, failed, rejected, is_account}
-use Rattle.cad_script_replies.specs.Replies as script
-use Rattle.cad_script_replies.specs.Replies.{OneAnswer, AnswersExtend}
-use Rattle.cad_transaction_replies.specs.Replies as transaction
+use Rattle.cad_replies.specs.Scripts as script
+use Rattle.cad_replies.specs.Scripts.{OneAnswer, AnswersExtend}
+use Rattle.cad_replies.specs.Transactions as transaction
 use Rattle.cad_run_outcomes.specs.Outcomes.{Outcome, stays}
-use Rattle.cad_transaction_replies.specs.Replies.{OneOutcome, OutcomesExtend}
+use Rattle.cad_replies.specs.Transactions.{OneOutcome, OutcomesExtend}
 use Rattle.cad_world.specs.Fronts.{Front}
 use Rattle.cad_world.specs.Registers.{map_of, size}
 use Rattle.cad_world.specs.State.{World}

@@ -13,14 +13,14 @@ use Rattle.cad_declarations.specs.Imports.{ContractEntry}
 use Rattle.cad_declarations.specs.declared.stop.Rejected.{Rejected}
 use Rattle.cad_rejections.specs.Texts.{rejected_text}
 use Rattle.cad_commands.specs.Commands.{command_of}
-use Rattle.cad_deploy_replies.specs.Passed.{contract_named, is_taken}
-use Rattle.cad_deploy_replies.specs.Replies as deployment
+use Rattle.cad_replies.specs.Passed.{contract_named, is_taken}
+use Rattle.cad_replies.specs.Deployments as deployment
 use Rattle.cad_loads.specs.Fronts.{IsRight}
 use Rattle.cad_loads.specs.Loads.{entries_of, loaded_of, program_in}
 use Rattle.cad_runs.specs.Commands as command
 use Rattle.cad_runs.specs.Commands.{Command, Reply, account_made, result, ran, rejected, failed, limit, bad, ill, is_account}
-use Rattle.cad_script_replies.specs.Replies as script
-use Rattle.cad_transaction_replies.specs.Replies as transaction
+use Rattle.cad_replies.specs.Scripts as script
+use Rattle.cad_replies.specs.Transactions as transaction
 use Rattle.cad_run_outcomes.specs.Outcomes.{Outcome, stays, leads}
 use Rattle.cad_run_outcomes.specs.Views.{event_items}
 use Rattle.cad_world.specs.Begin.{new_account}

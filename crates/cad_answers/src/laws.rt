@@ -3,29 +3,15 @@ ghost use Rattle.std.specs.Prelude.{◌≡◌, false, List, ℕ};
 ghost use Rattle.cad_world.specs.State.{World};
 ghost use Rattle.cad_worlds.specs.Standing.{Becomes, IsSound, WorldHasBytes};
 ghost use Rattle.serde_json.specs.Data.{Data};
-ghost use Rattle.cad_deploy_replies.specs.Replies as deployment;
 ghost use Rattle.cad_commands.specs.Commands.{command_of};
 ghost use Rattle.cad_runs.specs.Commands.{Reply, is_ok, script};
 ghost use Rattle.cad_answers.specs.Answer.{Answers};
 
 use cad_fronts::{no_stop_of_accepted, one_acceptance, one_stop, one_verdict};
-use cad_script_replies::{answers_extend, one_answer};
+use cad_replies::{
+    answers_extend, deployments_extend, one_answer, one_deployment, one_outcome, outcomes_extend,
+};
 use cad_serve_parts::one_world;
-use cad_transaction_replies::{one_outcome, outcomes_extend};
-
-// A deploy comes to one outcome at most.
-fn one_deployment()
-    ensures { deployment.OneOutcome }
-{
-    cad_deploy_replies::one_outcome();
-}
-
-// A deploy that comes to an outcome under a front end comes to it under one that says more.
-fn deployments_extend()
-    ensures { deployment.OutcomesExtend }
-{
-    cad_deploy_replies::outcomes_extend();
-}
 
 /// A command has one reply at most, and leads to one World.
 pub fn one_reply()

@@ -1,9 +1,9 @@
 // Texts as programs, and a contract as a check and as a run have it.
 use cad_check::check_text;
+use cad_command_runs::FrontEnd;
 use cad_declarations::{Checked, Deployed, Installed};
 use cad_discards::{discard_checked, discard_deployed, discard_installed, hold};
 use cad_rows::{Place, Shape, Tree, add_last};
-use cad_scripts::FrontEnd;
 use cad_state::{Contract, discard_contract};
 use cad_syntax::{Address, Bytes, Name, Names, Num, Text, TypeId};
 use cad_tables::{no_contracts, with_contract};

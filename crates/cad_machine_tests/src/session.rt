@@ -1,10 +1,10 @@
 // What transactions over accounts come to, one behind the other, and what a script behind them gives.
 use crate::running::{Closed, PLACE, checked, deployed, number_in, number_of, running};
+use cad_command_runs::{run_script, run_transaction};
 use cad_declarations::Deployed;
 use cad_discards::discard_deployed;
 use cad_outcomes::Stop;
 use cad_run_starts::begin;
-use cad_scripts::run_script;
 use cad_state::{
     Account, Accounts, Contract, Known, RunState, discard_account, discard_accounts,
     discard_run_accounts, discard_shared, discard_state, discard_values,
@@ -12,7 +12,6 @@ use cad_state::{
 use cad_syntax::{Address, Num};
 use cad_tables::no_contracts;
 use cad_transaction_ends::{Left, left_accounts};
-use cad_transaction_runs::run_transaction;
 use std::alloc::Global;
 use std::process::Abort;
 

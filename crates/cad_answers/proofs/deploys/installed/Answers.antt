@@ -2,7 +2,7 @@ use Rattle.std.proofs.Common.{◌≡◌, ◌≢◌, sym, subst}
 use Rattle.std.specs.Prelude.{map}
 use Rattle.serde_json.specs.View.{view}
 use Rattle.cad_acceptance.specs.Acceptance.{checked_of}
-use Rattle.cad_deploy_replies.specs.Replies.{Comes}
+use Rattle.cad_replies.specs.Deployments.{Comes}
 use Rattle.cad_fronts.specs.Views.{front_of}
 use Rattle.cad_loads.specs.Loads.{program_in}
 use Rattle.cad_runs.specs.Commands.{failed}

@@ -1,6 +1,6 @@
 use Rattle.std.proofs.Common.{List, refl, sym, ap, ◌∙◌}
 use Rattle.std.specs.Prelude.{map}
-use Rattle.cad_deploy_replies.specs.Passed.{is_taken}
+use Rattle.cad_replies.specs.Passed.{is_taken}
 use Rattle.cad_runs.specs.Commands.{failed, rejected}
 use Rattle.cad_state.specs.Views.{contract_of}
 use Rattle.cad_state.specs.declared.state.Contract.{Contract}

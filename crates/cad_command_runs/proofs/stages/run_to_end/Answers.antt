@@ -1,0 +1,12 @@
+use Rattle.cad_declarations.specs.Views.{transaction_of}
+use Rattle.cad_rows.specs.Views.{pure_row}
+use Rattle.cad_command_runs.proofs.Staging.{to_end_err, to_end_ok}
+use Rattle.cad_command_runs.proofs.stages.run_to_end.Goals as goal
+
+pub returns-in-Ok : goal.returns-in-Ok
+returns-in-Ok g c none =
+    to_end_ok (g.C.Callees.front c.args.callees.now) (g.C.Callees.calls c.args.callees.now) c.args.turns (transaction_of c.args.transaction.now) (pure_row c.args.arguments.items) c.args.signers.now c.args.state.now c.run_to_post.new.state c.look_out.new.state c.look_out.result (c.in-Ok.ensures none) c.look_out.ensures
+
+pub returns-in-Err : goal.returns-in-Err
+returns-in-Err g c none =
+    to_end_err (g.C.Callees.front c.args.callees.now) (g.C.Callees.calls c.args.callees.now) c.args.turns (transaction_of c.args.transaction.now) (pure_row c.args.arguments.items) c.args.signers.now c.args.state.now c.in-Err.stop (c.in-Err.ensures none)

@@ -1,0 +1,3 @@
+pub mod Deployments
+pub mod Scripts
+pub mod Transactions

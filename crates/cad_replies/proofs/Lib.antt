@@ -1,0 +1,10 @@
+pub mod DeploymentComing
+pub mod DeploymentExtending
+pub mod DeploymentUniqueness
+pub mod ScriptExtending
+pub mod ScriptRuns
+pub mod ScriptTold
+pub mod ScriptUniqueness
+pub mod TransactionComing
+pub mod TransactionExtending
+pub mod TransactionUniqueness

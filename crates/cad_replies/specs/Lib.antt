@@ -1,0 +1,5 @@
+pub mod Code
+pub mod Deployments
+pub mod Passed
+pub mod Scripts
+pub mod Transactions

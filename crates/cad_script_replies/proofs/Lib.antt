@@ -1,4 +1,0 @@
-pub mod Extending
-pub mod Runs
-pub mod Told
-pub mod Uniqueness

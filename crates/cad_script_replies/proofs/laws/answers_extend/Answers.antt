@@ -1,5 +1,0 @@
-use Rattle.cad_script_replies.proofs.Extending.{answers_extend}
-use Rattle.cad_script_replies.proofs.laws.answers_extend.Goals as goal
-
-pub returns : goal.returns
-returns c = answers_extend c.scripts_extend.ensures

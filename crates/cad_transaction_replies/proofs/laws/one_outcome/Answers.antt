@@ -1,5 +1,0 @@
-use Rattle.cad_transaction_replies.proofs.Uniqueness.{one_outcome}
-use Rattle.cad_transaction_replies.proofs.laws.one_outcome.Goals as goal
-
-pub returns : goal.returns
-returns c = one_outcome
