@@ -6,8 +6,6 @@ mod kinds;
 mod laws;
 mod line;
 mod run;
-#[cfg(test)]
-mod tests;
 
 pub use kinds::Command;
 pub use laws::limits_are_bounded;

@@ -1,7 +1,17 @@
-//! Tests of JSON both ways, as rows of a type, a JSON and what is told of its value.
+//! Tests of JSON: values both ways, what lines ask for, and the text of rejections.
 #![tactic(auto)]
 
+#[cfg(test)]
+mod commands;
+#[cfg(test)]
+mod heights;
+#[cfg(test)]
+mod rejections;
 #[cfg(test)]
 mod rows;
 #[cfg(test)]
 mod tests;
+#[cfg(test)]
+mod told;
+#[cfg(test)]
+mod told_rows;

@@ -1,10 +1,12 @@
-//! Tests of the machine: scripts and transactions beside a contract as texts, and what running them comes to.
+//! Tests of the machine: scripts and transactions beside a contract as texts, and what running them comes to; operators and built-in members.
 #![tactic(auto)]
 
 #[cfg(test)]
 mod accounts;
 #[cfg(test)]
 mod capabilities;
+#[cfg(test)]
+mod operators;
 #[cfg(test)]
 mod parts;
 #[cfg(test)]

@@ -1,4 +1,4 @@
-//! Tests of the readers of types, expressions, statements and programs, as rows of a text and what is told of it.
+//! Tests of the lexer and of the readers of types, expressions, statements and programs, as rows of a text and what is told of it.
 #![tactic(auto)]
 
 #[cfg(test)]
@@ -15,6 +15,10 @@ mod statement_tests;
 mod telling;
 #[cfg(test)]
 mod tests;
+#[cfg(test)]
+mod token_rows;
+#[cfg(test)]
+mod token_tests;
 #[cfg(test)]
 mod type_rows;
 #[cfg(test)]

@@ -1,5 +1,11 @@
-//! Tests of commits, of stores that are full or bad, and of disk calls that fail.
+//! Tests of hosts, tapes, registers and the store.
 #![tactic(auto)]
 
 #[cfg(test)]
-mod tests;
+mod accounts_tests;
+#[cfg(test)]
+mod host_tests;
+#[cfg(test)]
+mod store_tests;
+#[cfg(test)]
+mod tape_tests;

@@ -1,5 +1,0 @@
-//! Tests of what diagnostics say.
-#![tactic(auto)]
-
-#[cfg(test)]
-mod tests;

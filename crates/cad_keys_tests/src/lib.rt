@@ -1,5 +1,0 @@
-//! Tests of keys of dictionaries.
-#![tactic(auto)]
-
-#[cfg(test)]
-mod tests;

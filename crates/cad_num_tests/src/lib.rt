@@ -1,5 +1,0 @@
-//! Tests of arithmetic and decimal texts.
-#![tactic(auto)]
-
-#[cfg(test)]
-mod tests;

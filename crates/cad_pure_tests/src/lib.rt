@@ -1,5 +1,0 @@
-//! Tests of when fields are set, and of which may be set but once.
-#![tactic(auto)]
-
-#[cfg(test)]
-mod tests;

@@ -1,0 +1,19 @@
+//! Tests of names, numbers, texts, types, bytes of values and keys.
+#![tactic(auto)]
+
+#[cfg(test)]
+mod codec_rows;
+#[cfg(test)]
+mod codec_tests;
+#[cfg(test)]
+mod keys_tests;
+#[cfg(test)]
+mod num_tests;
+#[cfg(test)]
+mod syntax_tests;
+#[cfg(test)]
+mod text_tests;
+#[cfg(test)]
+mod types_tests;
+#[cfg(test)]
+mod wire_tests;
