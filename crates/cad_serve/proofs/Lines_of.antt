@@ -11,7 +11,7 @@ use Rattle.serde_json.specs.Written.{number_text, comma_if, compact_text, items_
 use Rattle.cad_syntax.specs.Addresses.{hex_digits, address_text}
 use Rattle.cad_runs.specs.Commands.{Reply, account_made, result, ran, failed, limit, bad, rejected, ill}
 use Rattle.cad_answers.specs.Answer.{answer_line, number_items, ill_typed}
-use Rattle.cad_run_outcomes.specs.Views.{event_items}
+use Rattle.cad_answers.specs.Passed.{event_items}
 use Rattle.cad_rejections.specs.Texts.{phase_name, joined, rejected_text}
 use Rattle.cad_grammar.specs.declared.phase.Phase.{Phase}
 use Rattle.cad_grammar.specs.declared.phase.Phase.TheVariants.{Lex, Parse, Resolve, Types, Conformance, Moves, Purity, Initialisation}
