@@ -2,8 +2,8 @@
 use Rattle.std.proofs.Common.{◌≡◌, ◌<◌, ◌≤◌, ℕ, zero, suc, List, [], ◌∷◌, ◌++◌, map, length, get_or, refl, sym, ap, ◌∙◌, arith}
 use Rattle.std.proofs.lemmas.List.{map-append}
 use Rattle.std.specs.Prelude.{slice_set}
-use Rattle.cad_loading.specs.Views.{source_of}
-use Rattle.cad_loading.specs.declared.loading.Source.{Source}
+use Rattle.cad_loads.specs.Views.{source_of}
+use Rattle.cad_loads.specs.declared.sources.Source.{Source}
 use Rattle.cad_values.specs.declared.value.Value.{Value}
 use Rattle.cad_world.specs.Labels.{change_account}
 use Rattle.cad_world.specs.State as s

@@ -4,8 +4,8 @@ use Rattle.std.specs.declared.alloc.Global.{Global}
 use Rattle.std.specs.declared.rc.Rc.{Rc}
 use Rattle.std.proofs.lemmas.List.{map-append, length-append, length-map}
 use Rattle.cad_declarations.specs.declared.program.Checked.{Checked}
-use Rattle.cad_loading.specs.Views.{source_of}
-use Rattle.cad_loading.specs.declared.loading.Source.{Source}
+use Rattle.cad_loads.specs.Views.{source_of}
+use Rattle.cad_loads.specs.declared.sources.Source.{Source}
 use Rattle.cad_loads.specs.Loads as loads
 use Rattle.cad_state.specs.Views.{account_of, contract_of}
 use Rattle.cad_state.specs.declared.state.Account.{Account}

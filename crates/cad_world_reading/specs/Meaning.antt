@@ -5,8 +5,8 @@ use Rattle.std.specs.declared.rc.Rc.{Rc}
 use Rattle.cad_accounts.specs.Registers.{same_key}
 use Rattle.cad_accounts.specs.declared.row.Row as kept
 use Rattle.cad_declarations.specs.declared.program.Checked.{Checked}
-use Rattle.cad_loading.specs.Views.{source_of}
 use Rattle.cad_loads.specs.Loads.{Source}
+use Rattle.cad_loads.specs.Views.{source_of}
 use Rattle.cad_state.specs.Views.{account_of, publication_of, controller_of, program_of}
 use Rattle.cad_values.specs.Values.{pure_value}
 use Rattle.cad_values.specs.declared.value.Value.{Value}

@@ -3,7 +3,7 @@ ghost use Rattle.std.specs.Prelude.{◌≡◌, ◌<◌, ◌≤◌, ◌++◌, ◌
 ghost use Rattle.cad_accounts.specs.Memory.{rows_in_blocks};
 ghost use Rattle.cad_codec.specs.Answers.{GivesAs};
 ghost use Rattle.cad_rows.specs.Views.{pure_tree};
-ghost use Rattle.cad_loading.specs.Views.{source_of};
+ghost use Rattle.cad_loads.specs.Views.{source_of};
 ghost use Rattle.cad_state.specs.Views.{account_of, controller_of, publication_of};
 ghost use Rattle.cad_values.specs.Values.{pure_value};
 ghost use Rattle.cad_world.specs.Labels as labels;
@@ -19,7 +19,7 @@ use crate::saying::{Change, Said, read_row};
 use cad_accounts::{Block, Row};
 use cad_codec::DecodeError;
 use cad_declarations::discard_type;
-use cad_loading::Source;
+use cad_loads::Source;
 use cad_rows::{Tree, add_last, discard_tree};
 use cad_state::{Account, Controller, Publication, discard_account, discard_value};
 use cad_syntax::{Bytes, Name, TypeId};

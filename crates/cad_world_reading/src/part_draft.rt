@@ -14,7 +14,7 @@ use crate::saying::{Change, Said, read_row};
 use crate::selection::is_selected;
 use cad_accounts::Row;
 use cad_codec::DecodeError;
-use cad_loading::Source;
+use cad_loads::Source;
 use cad_state::{Known, discard_account, discard_known};
 use cad_values::Value;
 use std::alloc::{AllocError, Global};

@@ -1,5 +1,5 @@
 // A World of which the programs of its contracts aren't known.
-use cad_loading::Source;
+use cad_loads::Source;
 use cad_state::{Account, discard_accounts, discard_values};
 use cad_values::Value;
 

@@ -1,7 +1,7 @@
 -- What is made of the registers that are read of a World of which some accounts are wanted.
 use Rattle.std.specs.Prelude.{◌≡◌, ℕ, zero, suc, ◌-◌, ◌==◌, Bool, true, false, List, [], ◌∷◌, ◌++◌, map, Option, Some, None, option_map, if◌then◌else◌}
-use Rattle.cad_loading.specs.Views.{source_of}
 use Rattle.cad_loads.specs.Loads.{Source}
+use Rattle.cad_loads.specs.Views.{source_of}
 use Rattle.cad_state.specs.Views.{account_of}
 use Rattle.cad_state.specs.declared.state.Known.{Known}
 use Rattle.cad_world.specs.Registers.{Register}

@@ -1,6 +1,6 @@
 use Rattle.std.proofs.Common.{◌≡◌, subst}
 use Rattle.std.specs.Prelude.{IfOk}
-use Rattle.cad_loading.specs.Views.{source_of}
+use Rattle.cad_loads.specs.Views.{source_of}
 use Rattle.cad_state.specs.Views.{contract_of}
 use Rattle.cad_world.specs.Rows.{Row}
 use Rattle.cad_world_reading.specs.Meaning.{contract_from, program_in}
