@@ -5,9 +5,10 @@ use Rattle.cad_syntax.specs.declared.address.Address.{Address}
 use Rattle.cad_fronts.specs.declared.codes.Verdict.{Verdict}
 use Rattle.cad_fronts.specs.declared.codes.Verdicts.{Verdicts}
 use Rattle.cad_loading.specs.Again.{same_source}
-use Rattle.cad_loading.specs.Views.{shared_program, source_of}
+use Rattle.cad_loading.specs.Views.{shared_program}
 use Rattle.cad_loads.specs.Fronts.{sources_of}
 use Rattle.cad_loads.specs.Loads.{Source}
+use Rattle.cad_loads.specs.Views.{source_of}
 use Rattle.cad_world.specs.Fronts as fronts
 use Rattle.cad_world.specs.Fronts.{Front, said, unknown}
 use Rattle.cad_world.specs.State.{Program}

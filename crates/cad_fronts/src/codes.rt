@@ -4,7 +4,8 @@ ghost use Rattle.cad_fronts.specs.Views.{front_of, known_of};
 ghost use Rattle.cad_loads.specs.Fronts.{IsRight};
 
 use cad_declarations::Checked;
-use cad_loading::{Programs, Source, discard_kept, nothing_kept};
+use cad_loading::{Programs, discard_kept, nothing_kept};
+use cad_loads::Source;
 use cad_state::discard_shared;
 use cad_syntax::{Address, Bytes};
 use std::alloc::{AllocError, Global};

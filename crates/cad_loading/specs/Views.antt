@@ -1,4 +1,4 @@
--- What the sources and the programs of contracts are.
+-- What the programs of contracts are.
 use Rattle.std.specs.Prelude.{Option, List, map, option_map}
 use Rattle.std.specs.declared.alloc.Global.{Global}
 use Rattle.std.specs.declared.rc.Rc.{Rc}
@@ -8,10 +8,6 @@ use Rattle.cad_loads.specs.Loads as loads
 use Rattle.cad_state.specs.Views.{program_of}
 use Rattle.cad_world.specs.State.{Program}
 use Rattle.cad_loading.specs.declared.held.Held.{Held}
-use Rattle.cad_loading.specs.declared.loading.Source.{Source}
-
-abbrev pub source_of : Source → loads.Source
-source_of x = record { id = x.id; code = x.code.value }
 
 abbrev pub shared_program : Rc Checked Global → Program
 shared_program c = program_of c.value

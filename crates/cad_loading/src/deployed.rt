@@ -3,16 +3,17 @@ ghost use Rattle.std.specs.Prelude.{◌≡◌, ◌++◌, ◌∷◌, [], IfOk, On
 ghost use Rattle.cad_contracts.specs.Views as views;
 ghost use Rattle.cad_declarations.specs.Imports.{contract_entry, is_deployed};
 ghost use Rattle.cad_declarations.specs.Views.{tables_of};
-ghost use Rattle.cad_loading.specs.Views.{held_of, shared_program, source_of};
+ghost use Rattle.cad_loading.specs.Views.{held_of, shared_program};
 ghost use Rattle.cad_loads.specs.Loads.{entries_of, loaded_by, loaded_of};
+ghost use Rattle.cad_loads.specs.Views.{source_of};
 ghost use Rattle.cad_state.specs.Views.{contract_of};
 ghost use Rattle.cad_tables.specs.Views.{contracts_of};
 
 use crate::held::Held;
-use crate::loading::Source;
 use cad_contracts::find_contract_at;
 use cad_declarations::{Checked, Deployed, Installed};
 use cad_discards::{discard_deployed, discard_installed, hold};
+use cad_loads::Source;
 use cad_state::Contract;
 use cad_syntax::{Bytes, Name, TypeId};
 use cad_tables::no_contracts;

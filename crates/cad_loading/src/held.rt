@@ -1,12 +1,13 @@
 // Contracts with their programs, as they are kept.
 ghost use Rattle.std.specs.Prelude.{◌≡◌, ◌++◌, ◌∷◌, [], IfOk, OnOk, map};
-ghost use Rattle.cad_loading.specs.Views.{held_of, shared_program, source_of};
+ghost use Rattle.cad_loading.specs.Views.{held_of, shared_program};
 ghost use Rattle.cad_loads.specs.Loads.{loaded_as, loaded_by};
+ghost use Rattle.cad_loads.specs.Views.{source_of};
 ghost use Rattle.cad_state.specs.Views.{program_of};
 
-use crate::loading::Source;
 use cad_declarations::Checked;
 use cad_discards::hold;
+use cad_loads::Source;
 use cad_state::discard_shared;
 use std::alloc::{AllocError, Global};
 use std::rc::Rc;

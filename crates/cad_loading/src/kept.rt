@@ -2,16 +2,17 @@
 ghost use Rattle.std.specs.Prelude.{◌≡◌, Some, IfOk, map, option_map};
 ghost use Rattle.cad_loading.specs.Answers.{Loading};
 ghost use Rattle.cad_loading.specs.Slots.{IsLoaded};
-ghost use Rattle.cad_loading.specs.Views.{held_of, programs_of, slots_of, source_of};
+ghost use Rattle.cad_loading.specs.Views.{held_of, programs_of, slots_of};
 ghost use Rattle.cad_loads.specs.Loads.{Loads, loaded_by};
+ghost use Rattle.cad_loads.specs.Views.{source_of};
 ghost use Rattle.cad_tables.specs.Views.{contracts_of};
 
 use crate::held::{Held, all_held, discard_all_held};
-use crate::loading::Source;
 use crate::meeting::begun;
 use crate::passes::load_on;
 use crate::progress::{Progress, discard_programs, has_gap};
 use cad_declarations::Checked;
+use cad_loads::Source;
 use std::alloc::{AllocError, Global};
 use std::marker::Model;
 use std::mem::replace;

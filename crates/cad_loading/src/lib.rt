@@ -13,7 +13,6 @@ mod progress;
 pub use deployed::{deployed_of, deployed_with};
 pub use kept::{Programs, discard_kept, load_kept, nothing_kept};
 pub use laws::one_loading;
-pub use loading::Source;
 pub use progress::discard_programs;
 
 // What the crates above use of the ones below.

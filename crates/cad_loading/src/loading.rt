@@ -1,24 +1,17 @@
-// Contracts as they are kept, and what their codes are.
+// What the codes of contracts are that are kept.
 ghost use Rattle.std.specs.Prelude.{◌≡◌, IfOk, option_map};
 ghost use Rattle.cad_declarations.specs.Views.{tables_of};
 ghost use Rattle.cad_loading.specs.Slots.{Standing, if_fit, is_fit, is_id};
-ghost use Rattle.cad_loading.specs.Views.{source_of};
+ghost use Rattle.cad_loads.specs.Views.{source_of};
 ghost use Rattle.cad_state.specs.Views.{program_of};
 ghost use Rattle.cad_tables.specs.Views.{contracts_of};
 
 use cad_check::{check_text, no_stop_of_accepted, one_acceptance};
 use cad_declarations::{Checked, Deployed, Tables};
 use cad_discards::discard_checked;
-use cad_syntax::{Bytes, TypeId};
+use cad_loads::Source;
+use cad_syntax::TypeId;
 use std::alloc::{AllocError, Global};
-use std::rc::Rc;
-
-/// A contract as it is kept: its address and name, and its code.
-#[derive(Drop)]
-pub struct Source {
-    pub id: TypeId,
-    pub code: Rc<Bytes>,
-}
 
 /// Whether tables are those of the contract with this identifier.
 fn is_contract(id: &TypeId, tables: &Tables) -> bool

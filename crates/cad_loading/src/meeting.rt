@@ -2,18 +2,19 @@
 ghost use Rattle.std.specs.Prelude.{◌≡◌, ◌++◌, ◌∷◌, [], Some, true, IfOk, OnOk, map};
 ghost use Rattle.cad_loading.specs.Again.{all_met, first_slot, left_behind, same_source, slots_by};
 ghost use Rattle.cad_loading.specs.Slots.{IsLoaded};
-ghost use Rattle.cad_loading.specs.Views.{held_of, slots_of, source_of};
+ghost use Rattle.cad_loading.specs.Views.{held_of, slots_of};
 ghost use Rattle.cad_loads.specs.Loads as loads;
 ghost use Rattle.cad_loads.specs.Loads.{Loads, entries_of};
+ghost use Rattle.cad_loads.specs.Views.{source_of};
 ghost use Rattle.cad_state.specs.Views.{program_of};
 ghost use Rattle.cad_tables.specs.Views.{contracts_of};
 
 use crate::deployed::deployed_held;
 use crate::held::Held;
-use crate::loading::Source;
 use crate::progress::{Progress, discard_slot, discard_slots, nothing_loaded, push_empty};
 use cad_declarations::Checked;
 use cad_discards::hold;
+use cad_loads::Source;
 use std::alloc::{AllocError, Global};
 use std::rc::Rc;
 

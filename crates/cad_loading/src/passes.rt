@@ -2,15 +2,17 @@
 ghost use Rattle.std.specs.Prelude.{◌≡◌, Some, List, IfOk, OnOk, map, option_map, slice_get};
 ghost use Rattle.cad_loading.specs.Answers.{Loading};
 ghost use Rattle.cad_loading.specs.Slots.{AreAtRest, IsLoaded, Passed, Tried};
-ghost use Rattle.cad_loading.specs.Views.{programs_of, slots_of, source_of};
+ghost use Rattle.cad_loading.specs.Views.{programs_of, slots_of};
 ghost use Rattle.cad_loads.specs.Loads as loads;
+ghost use Rattle.cad_loads.specs.Views.{source_of};
 ghost use Rattle.cad_tables.specs.Views.{contracts_of};
 
 use crate::deployed::is_taken;
-use crate::loading::{Source, standing_program};
+use crate::loading::standing_program;
 use crate::progress::{Progress, discard_progress, finished, is_left, put};
 use cad_check::one_acceptance;
 use cad_declarations::Checked;
+use cad_loads::Source;
 use cad_table_laws::imports_are_enough;
 use std::alloc::{AllocError, Global};
 use std::rc::Rc;

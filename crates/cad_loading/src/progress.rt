@@ -7,9 +7,9 @@ ghost use Rattle.cad_state.specs.Views.{program_of};
 ghost use Rattle.cad_tables.specs.Views.{contracts_of};
 
 use crate::deployed::push_installed;
-use crate::loading::Source;
 use cad_declarations::{Checked, Deployed};
 use cad_discards::{discard_checked, discard_deployed, hold};
+use cad_loads::Source;
 use cad_state::discard_shared;
 use cad_tables::no_contracts;
 use std::alloc::{AllocError, Global};

@@ -4,8 +4,8 @@ use Rattle.std.specs.declared.alloc.Global.{Global}
 use Rattle.std.specs.declared.rc.Rc.{Rc}
 use Rattle.std.proofs.lemmas.List.{map-append, length-append, length-map}
 use Rattle.cad_declarations.specs.declared.program.Checked.{Checked}
-use Rattle.cad_loading.specs.Views.{source_of}
-use Rattle.cad_loading.specs.declared.loading.Source.{Source}
+use Rattle.cad_loads.specs.Views.{source_of}
+use Rattle.cad_loads.specs.declared.sources.Source.{Source}
 use Rattle.cad_loads.specs.Loads as loads
 use Rattle.cad_state.specs.Views.{account_of, contract_of}
 use Rattle.cad_state.specs.declared.state.Account.{Account}
@@ -15,7 +15,8 @@ use Rattle.cad_world.specs.Rows.{Row}
 use Rattle.cad_world.specs.State as s
 use Rattle.cad_worlds.proofs.Lists.{from_item}
 use Rattle.cad_worlds.specs.Items.{contracts_from, world_from}
-use Rattle.cad_world_reading.specs.Meaning.{contract_from, program_in, value_row}
+use Rattle.cad_world_reading.specs.Contracts.{contract_from, program_in}
+use Rattle.cad_world_registers.specs.Meaning.{value_row}
 
 pub contracts_more : (cs : List Contract) (c : Contract) → map contract_of (cs ++ c ∷ []) ≡ map contract_of cs ++ contract_of c ∷ []
 contracts_more cs c = map-append contract_of cs (c ∷ [])

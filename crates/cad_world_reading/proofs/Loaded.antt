@@ -10,8 +10,9 @@ use Rattle.cad_declarations.specs.declared.program.Checked.{Checked}
 use Rattle.cad_loading.specs.Answers.{Loading}
 use Rattle.cad_loading.specs.Laws.{OneLoading}
 use Rattle.cad_loading.specs.Views as views
-use Rattle.cad_loading.specs.declared.loading.Source as held
 use Rattle.cad_loads.specs.Loads.{Loaded, Loads, Source, loaded_by, loaded_of, source_of}
+use Rattle.cad_loads.specs.Views as code_views
+use Rattle.cad_loads.specs.declared.sources.Source as held
 use Rattle.cad_state.specs.Views.{account_of, contract_of}
 use Rattle.cad_state.specs.declared.state.Contract as kept
 use Rattle.cad_world.specs.Rows.{Row}
@@ -20,8 +21,9 @@ use Rattle.cad_worlds.proofs.OneWorld.{world_again}
 use Rattle.cad_worlds.specs.Items.{Draft, contracts_from, draft_of, programs_of, world_from}
 use Rattle.cad_worlds.specs.Standing.{IsSound, world_of}
 use Rattle.cad_worlds.specs.declared.kept.World as own
-use Rattle.cad_world_reading.specs.Meaning.{Stands, parts_of, program_in, value_row}
-use Rattle.cad_world_reading.specs.declared.parts.Parts.{Parts}
+use Rattle.cad_world_reading.specs.Contracts.{program_in}
+use Rattle.cad_world_registers.specs.Meaning.{Stands, parts_of, value_row}
+use Rattle.cad_world_registers.specs.declared.parts.Parts.{Parts}
 
 -- ---- codes and programs
 
@@ -64,21 +66,21 @@ known one ss ps v same count loads deployed =
 -- ---- the contracts of a World
 
 -- the codes as they were handed to the loading, and the programs that it gave
-module _ (sources given : List held.Source) (same : given ≡ sources) (answer : Option (Vec (Rc Checked Global) Global)) (loading : Loading (map views.source_of given) (option_map views.programs_of answer)) (programs : Vec (Rc Checked Global) Global) (e : answer ≡ Some programs) where
-  loads_all : Loading (map views.source_of sources) (Some (views.programs_of programs))
-  loads_all = subst (λ (ss : List held.Source). Loading (map views.source_of ss) (Some (views.programs_of programs))) same (subst (Loading (map views.source_of given)) (ap (option_map views.programs_of) e) loading)
+module _ (sources given : List held.Source) (same : given ≡ sources) (answer : Option (Vec (Rc Checked Global) Global)) (loading : Loading (map code_views.source_of given) (option_map views.programs_of answer)) (programs : Vec (Rc Checked Global) Global) (e : answer ≡ Some programs) where
+  loads_all : Loading (map code_views.source_of sources) (Some (views.programs_of programs))
+  loads_all = subst (λ (ss : List held.Source). Loading (map code_views.source_of ss) (Some (views.programs_of programs))) same (subst (Loading (map code_views.source_of given)) (ap (option_map views.programs_of) e) loading)
 
   pub as_many_programs : length programs.items ≡ length sources
-  as_many_programs = sym (length-map programs.items program_in) ∙ loads_all.0 ∙ length-map sources views.source_of
+  as_many_programs = sym (length-map programs.items program_in) ∙ loads_all.0 ∙ length-map sources code_views.source_of
 
   -- by its codes and values
-  contracts_are : (rows : List Row) (v : World) → OneLoading → map views.source_of sources ≡ (draft_of v).sources → rows ≡ (draft_of v).values → IsSound v → contracts_from (map views.source_of sources) (views.programs_of programs) rows ≡ v.contracts
+  contracts_are : (rows : List Row) (v : World) → OneLoading → map code_views.source_of sources ≡ (draft_of v).sources → rows ≡ (draft_of v).values → IsSound v → contracts_from (map code_views.source_of sources) (views.programs_of programs) rows ≡ v.contracts
   contracts_are rows v one codes values sound =
-      let programs_are = known one (map views.source_of sources) (views.programs_of programs) v codes loads_all.0 loads_all.1 sound.1 in
+      let programs_are = known one (map code_views.source_of sources) (views.programs_of programs) v codes loads_all.0 loads_all.1 sound.1 in
       (λ i. contracts_from (codes i) (programs_are i) (values i)) ∙ ap (λ (u : World). u.contracts) (world_again v sound.0)
 
-  pub contracts_known : {E : Type 0} (rows : List Row) (r : Result (Vec kept.Contract Global) E) → OneLoading → IfOk r (λ cs. map contract_of cs.items ≡ contracts_from (map views.source_of sources) (views.programs_of programs) rows)
-      → (v : World) → map views.source_of sources ≡ (draft_of v).sources → rows ≡ (draft_of v).values → IsSound v → IfOk r (λ cs. map contract_of cs.items ≡ v.contracts)
+  pub contracts_known : {E : Type 0} (rows : List Row) (r : Result (Vec kept.Contract Global) E) → OneLoading → IfOk r (λ cs. map contract_of cs.items ≡ contracts_from (map code_views.source_of sources) (views.programs_of programs) rows)
+      → (v : World) → map code_views.source_of sources ≡ (draft_of v).sources → rows ≡ (draft_of v).values → IsSound v → IfOk r (λ cs. map contract_of cs.items ≡ v.contracts)
   contracts_known rows (Ok cs) one h v codes values sound = h ∙ contracts_are rows v one codes values sound
   contracts_known rows (Err x) one h v codes values sound = tt
 
@@ -93,13 +95,13 @@ world_known made contracts v is are = λ i. record { accounts = (is i).accounts;
 pub as_many : (made : Parts) (v : World) → parts_of made ≡ draft_of v → length made.values.items ≡ length made.sources.items
 as_many made v is =
     let values : length made.values.items ≡ length v.contracts = sym (length-map made.values.items value_row) ∙ ap (λ (d : Draft). length d.values) is ∙ length-map v.contracts (λ (c : Contract). c.value) in
-    let sources : length made.sources.items ≡ length v.contracts = sym (length-map made.sources.items views.source_of) ∙ ap (λ (d : Draft). length d.sources) is ∙ length-map v.contracts (λ (c : Contract). source_of (loaded_of c)) in
+    let sources : length made.sources.items ≡ length v.contracts = sym (length-map made.sources.items code_views.source_of) ∙ ap (λ (d : Draft). length d.sources) is ∙ length-map v.contracts (λ (c : Contract). source_of (loaded_of c)) in
     values ∙ sym sources
 
 -- the codes as they were handed to the loading, and what that answered
-module _ (made : Parts) (given : List held.Source) (same : given ≡ made.sources.items) (answer : Option (Vec (Rc Checked Global) Global)) (loading : Loading (map views.source_of given) (option_map views.programs_of answer)) where
+module _ (made : Parts) (given : List held.Source) (same : given ≡ made.sources.items) (answer : Option (Vec (Rc Checked Global) Global)) (loading : Loading (map code_views.source_of given) (option_map views.programs_of answer)) where
   known_loading : (o : Option (List Program)) → option_map views.programs_of answer ≡ o → Loading (parts_of made).sources o
-  known_loading o e = subst (λ (ss : List held.Source). Loading (map views.source_of ss) o) same (subst (Loading (map views.source_of given)) e loading)
+  known_loading o e = subst (λ (ss : List held.Source). Loading (map code_views.source_of ss) o) same (subst (Loading (map code_views.source_of given)) e loading)
 
   pub none_loads : (v : World) → answer ≡ None → parts_of made ≡ draft_of v → IsSound v → ⊥
   none_loads v e is sound = known_loading None (ap (option_map views.programs_of) e) (map loaded_of v.contracts) (own_sources v.contracts ∙ sym (ap (λ (d : Draft). d.sources) is)) sound.1
@@ -113,7 +115,7 @@ module _ (made : Parts) (given : List held.Source) (same : given ≡ made.source
         → IfOk r (λ o. IfSome o (λ w. (world_of w ≡ world_from (parts_of made) (views.programs_of programs)) × Stands rows (world_of w)))
         → IfOk r (λ o. IfSome o (λ w. Stands rows (world_of w) × Loads (map loaded_of (world_of w).contracts)))
     found rows (Ok (Some w)) many h =
-        let rows_many : length (parts_of made).values ≡ length (parts_of made).sources = length-map made.values.items value_row ∙ many ∙ sym (length-map made.sources.items views.source_of) in
+        let rows_many : length (parts_of made).values ≡ length (parts_of made).sources = length-map made.values.items value_row ∙ many ∙ sym (length-map made.sources.items code_views.source_of) in
         let these : map loaded_of (world_of w).contracts ≡ loaded_by (parts_of made).sources (views.programs_of programs) =
         ap (λ (u : World). map loaded_of u.contracts) h.0 ∙ loaded_from (parts_of made).sources (views.programs_of programs) (parts_of made).values loads.0 rows_many in
         (h.1, subst Loads (sym these) loads.1)

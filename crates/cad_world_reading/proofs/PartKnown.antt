@@ -19,11 +19,12 @@ use Rattle.cad_worlds.specs.Code.Passing.{LeavesOut}
 use Rattle.cad_worlds.specs.Items.{draft_of}
 use Rattle.cad_worlds.specs.Standing.{IsSound, StandsFor, register_of}
 use Rattle.cad_worlds.specs.declared.part.WorldPart.{WorldPart}
-use Rattle.cad_world_reading.proofs.PartMade.{part_follows}
-use Rattle.cad_world_reading.proofs.PartPassed.{take_left}
-use Rattle.cad_world_reading.specs.Code.PartDrafts.{Follows, empty_part, known_at, known_of, part_of, take_all}
-use Rattle.cad_world_reading.specs.Wanted.{IsPartOf, is_wanted, wanted_account}
-use Rattle.cad_world_reading.specs.declared.part_draft.PartDraft.{PartDraft}
+use Rattle.cad_world_reading.specs.Wanted.{IsPartOf}
+use Rattle.cad_world_registers.proofs.PartMade.{part_follows}
+use Rattle.cad_world_registers.proofs.PartPassed.{take_left}
+use Rattle.cad_world_registers.specs.Code.PartDrafts.{Follows, empty_part, known_at, known_of, part_of, take_all}
+use Rattle.cad_world_registers.specs.Wanted.{is_wanted, wanted_account}
+use Rattle.cad_world_registers.specs.declared.part_draft.PartDraft.{PartDraft}
 
 known_is : (known : List Known) (i : ℕ) → known_in known i ≡ known_at (map known_of known) i
 known_is [] i = refl

@@ -1,8 +1,4 @@
-pub mod Told
-pub mod Meaning
-pub mod Exact
-pub mod Listed
+pub mod Contracts
 pub mod Laws
 pub mod Wanted
-pub mod Code
 pub mod Passed

@@ -1,21 +1,23 @@
 // Contracts of their codes, their values and their programs.
 ghost use Rattle.std.specs.Prelude.{◌≡◌, ◌++◌, ◌∷◌, [], IfOk, OnOk, length, map};
-ghost use Rattle.cad_loading.specs.Views.{programs_of, source_of};
+ghost use Rattle.cad_loading.specs.Views.{programs_of};
+ghost use Rattle.cad_loads.specs.Views.{source_of};
 ghost use Rattle.cad_rows.specs.Views.{pure_row};
 ghost use Rattle.cad_state.specs.Views.{contract_of};
 ghost use Rattle.cad_world.specs.State as s;
-ghost use Rattle.cad_world_reading.specs.Meaning as spec;
-ghost use Rattle.cad_world_reading.specs.Meaning.{parts_of, value_row};
+ghost use Rattle.cad_world_reading.specs.Contracts as spec;
+ghost use Rattle.cad_world_registers.specs.Meaning.{parts_of, value_row};
 ghost use Rattle.cad_worlds.specs.Items as items;
 ghost use Rattle.cad_worlds.specs.Standing.{IsSound, world_of};
 
-use crate::parts::{Parts, discard_contract_parts};
 use cad_declarations::Checked;
-use cad_loading::{Programs, Source, load_kept, one_loading};
+use cad_loading::{Programs, load_kept, one_loading};
+use cad_loads::Source;
 use cad_rows::{Place, add_last, discard_row};
 use cad_state::{Contract, discard_accounts, discard_contract, discard_contracts, discard_shared};
 use cad_value_trees::tree_from_value;
 use cad_values::Value;
+use cad_world_registers::{Parts, discard_contract_parts};
 use cad_worlds::World;
 use std::alloc::{AllocError, Global};
 use std::rc::Rc;

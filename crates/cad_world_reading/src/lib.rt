@@ -1,20 +1,10 @@
 //! The World for which registers stand.
 #![tactic(auto)]
 
-mod comparing;
 mod contracts;
-mod counting;
-mod fields;
 mod laws;
-mod listing;
-mod making;
 mod part;
-mod part_draft;
-mod parts;
 mod reading;
-mod rising;
-mod saying;
-mod selection;
 
 pub use laws::one_world;
 pub use part::known_part;

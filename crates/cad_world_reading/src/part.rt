@@ -3,16 +3,16 @@ ghost use Rattle.std.specs.Prelude.{◌≡◌, ℕ, List, true, IfOk, length};
 ghost use Rattle.cad_accounts.specs.Memory.{rows_in_blocks};
 ghost use Rattle.cad_accounts.specs.Registers.{at, are_rising};
 ghost use Rattle.cad_world.specs.State as s;
-ghost use Rattle.cad_world_reading.specs.Code.PartDrafts.{Follows, part_of};
 ghost use Rattle.cad_world_reading.specs.Wanted.{IsPartOf};
+ghost use Rattle.cad_world_registers.specs.Code.PartDrafts.{Follows, part_of};
 ghost use Rattle.cad_worlds.specs.Items as items;
 ghost use Rattle.cad_worlds.specs.Standing.{IsSound, StandsFor};
 
 use crate::contracts::load_contracts;
-use crate::part_draft::{PartDraft, make_part};
 use cad_accounts::Block;
 use cad_loading::Programs;
 use cad_state::discard_known;
+use cad_world_registers::{PartDraft, make_part};
 use cad_worlds::{WorldPart, part_rows};
 use std::alloc::{AllocError, Global};
 

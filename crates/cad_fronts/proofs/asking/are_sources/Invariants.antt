@@ -2,8 +2,8 @@ use Rattle.std.proofs.Common.{◌≡◌, map, drop}
 use Rattle.std.specs.Cmp.Lexicographic.{pointwise}
 use Rattle.cad_evaluation.specs.Adding.{standing}
 use Rattle.cad_loading.specs.Again.{same_source}
-use Rattle.cad_loading.specs.Views.{source_of}
 use Rattle.cad_loads.specs.Fronts.{sources_of}
+use Rattle.cad_loads.specs.Views.{source_of}
 use Rattle.cad_state.specs.Views.{contract_of}
 use Rattle.cad_fronts.proofs.asking.are_sources.Given as goal
 

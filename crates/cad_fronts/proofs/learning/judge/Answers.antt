@@ -2,7 +2,8 @@ use Rattle.std.specs.Prelude.{map, option_map}
 use Rattle.std.proofs.Common.{subst}
 use Rattle.cad_fronts.proofs.Right.{so_in}
 use Rattle.cad_loading.specs.Answers.{Loading}
-use Rattle.cad_loading.specs.Views.{programs_of, shared_program, source_of}
+use Rattle.cad_loading.specs.Views.{programs_of, shared_program}
+use Rattle.cad_loads.specs.Views.{source_of}
 use Rattle.cad_fronts.proofs.learning.judge.Goals as goal
 
 pub returns-in-Some : goal.returns-in-Some

@@ -1,7 +1,7 @@
 use Rattle.std.specs.Prelude.{map}
 use Rattle.cad_fronts.specs.Views.{known_of}
 use Rattle.cad_fronts.proofs.Right.{stays_right, stays_said, said_now}
-use Rattle.cad_loading.specs.Views.{source_of}
+use Rattle.cad_loads.specs.Views.{source_of}
 use Rattle.cad_fronts.proofs.learning.learn_beside.Goals as goal
 
 pub returns-in-Ok : goal.returns-in-Ok

@@ -1,7 +1,7 @@
 use Rattle.std.proofs.Common.{◌≡◌, ◌++◌, map, drop}
 use Rattle.cad_evaluation.specs.Adding.{standing}
-use Rattle.cad_loading.specs.Views.{source_of}
 use Rattle.cad_loads.specs.Fronts.{sources_of}
+use Rattle.cad_loads.specs.Views.{source_of}
 use Rattle.cad_state.specs.Views.{contract_of}
 use Rattle.cad_fronts.proofs.learning.standing_sources.Given as goal
 

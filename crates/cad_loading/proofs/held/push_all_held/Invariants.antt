@@ -1,6 +1,7 @@
 use Rattle.std.proofs.Common.{◌≡◌, ◌++◌, map, drop}
 use Rattle.cad_loads.specs.Loads.{loaded_by}
-use Rattle.cad_loading.specs.Views.{held_of, shared_program, source_of}
+use Rattle.cad_loading.specs.Views.{held_of, shared_program}
+use Rattle.cad_loads.specs.Views.{source_of}
 use Rattle.cad_loading.proofs.held.push_all_held.Given as goal
 
 abbrev pub invariant-loop-source : goal.invariant-loop-source

@@ -3,8 +3,9 @@ use Rattle.std.specs.declared.alloc.Global.{Global}
 use Rattle.std.specs.declared.rc.Rc.{Rc}
 use Rattle.std.proofs.Common.{◌∙◌, ap, sym, subst}
 use Rattle.cad_declarations.specs.declared.program.Checked.{Checked}
-use Rattle.cad_loading.specs.Views.{shared_program, source_of}
+use Rattle.cad_loading.specs.Views.{shared_program}
 use Rattle.cad_loads.specs.Loads.{Loaded, Loads, loaded_by}
+use Rattle.cad_loads.specs.Views.{source_of}
 use Rattle.cad_loading.proofs.kept.kept_too.Goals as goal
 
 -- the programs that were handed over are these (`as_slice`)

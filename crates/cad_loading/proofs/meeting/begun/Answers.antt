@@ -4,7 +4,8 @@ use Rattle.std.specs.declared.alloc.Global.{Global}
 use Rattle.std.specs.declared.rc.Rc.{Rc}
 use Rattle.cad_declarations.specs.declared.program.Checked.{Checked}
 use Rattle.cad_loading.specs.Again.{slots_by}
-use Rattle.cad_loading.specs.Views.{held_of, slot_of, slots_of, source_of}
+use Rattle.cad_loading.specs.Views.{held_of, slot_of, slots_of}
+use Rattle.cad_loads.specs.Views.{source_of}
 use Rattle.cad_tables.specs.Views.{contracts_of}
 use Rattle.cad_loading.proofs.Again.{kept_loaded}
 use Rattle.cad_loading.proofs.Turns.{begins}

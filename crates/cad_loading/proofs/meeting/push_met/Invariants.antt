@@ -1,6 +1,7 @@
 use Rattle.std.proofs.Common.{◌≡◌, ◌++◌, map, drop}
 use Rattle.cad_loading.specs.Again.{all_met, slots_by}
-use Rattle.cad_loading.specs.Views.{held_of, slots_of, source_of}
+use Rattle.cad_loading.specs.Views.{held_of, slots_of}
+use Rattle.cad_loads.specs.Views.{source_of}
 use Rattle.cad_loading.proofs.meeting.push_met.Given as goal
 
 abbrev pub invariant-loop-source : goal.invariant-loop-source

@@ -2,7 +2,8 @@ use Rattle.std.proofs.Common.{◌∙◌, refl, sym, subst}
 use Rattle.std.specs.Prelude.{Option, option_map}
 use Rattle.cad_declarations.specs.declared.program.Checked.{Checked}
 use Rattle.cad_loading.specs.Slots.{Standing}
-use Rattle.cad_loading.specs.Views.{slots_of, source_of}
+use Rattle.cad_loading.specs.Views.{slots_of}
+use Rattle.cad_loads.specs.Views.{source_of}
 use Rattle.cad_state.specs.Views.{program_of}
 use Rattle.cad_tables.specs.Views.{contracts_of}
 use Rattle.cad_loading.proofs.Turns.{gap_within, loaded_there, rests_full, rests_refused, rests_taken}

@@ -1,7 +1,8 @@
 use Rattle.std.proofs.Common.{map}
 use Rattle.std.specs.Prelude.{[]}
 use Rattle.cad_loading.specs.Slots.{gathered}
-use Rattle.cad_loading.specs.Views.{programs_of, slots_of, source_of}
+use Rattle.cad_loading.specs.Views.{programs_of, slots_of}
+use Rattle.cad_loads.specs.Views.{source_of}
 use Rattle.cad_tables.specs.Views.{contracts_of}
 use Rattle.cad_loading.proofs.Settled.{settled}
 use Rattle.cad_loading.proofs.Verdicts.{loading_told}

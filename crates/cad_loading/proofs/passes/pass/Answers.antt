@@ -2,7 +2,8 @@ use Rattle.std.proofs.Common.{◌≡◌, ◌∙◌, map, length, refl, ap, arith
 use Rattle.std.proofs.lemmas.List.{length-map}
 use Rattle.std.proofs.lemmas.Option.{slice_get-map, slice_get_read}
 use Rattle.std.specs.Prelude.{Some, option_map, slice_get}
-use Rattle.cad_loading.specs.Views.{slots_of, source_of}
+use Rattle.cad_loading.specs.Views.{slots_of}
+use Rattle.cad_loads.specs.Views.{source_of}
 use Rattle.cad_tables.specs.Views.{contracts_of}
 use Rattle.cad_loading.proofs.Turns.{all_passed, loaded_now, none_passed, turn}
 use Rattle.cad_loading.proofs.passes.pass.Goals as goal

@@ -1,5 +1,6 @@
 use Rattle.std.proofs.Common.{map}
-use Rattle.cad_loading.specs.Views.{slots_of, source_of}
+use Rattle.cad_loading.specs.Views.{slots_of}
+use Rattle.cad_loads.specs.Views.{source_of}
 use Rattle.cad_tables.specs.Views.{contracts_of}
 use Rattle.cad_loading.proofs.Turns.{at_rest, comes_on}
 use Rattle.cad_loading.proofs.passes.settle.Goals as goal

@@ -1,6 +1,7 @@
 use Rattle.std.proofs.Common.{map}
 use Rattle.cad_loading.specs.Slots.{IsLoaded, gaps}
-use Rattle.cad_loading.specs.Views.{slots_of, source_of}
+use Rattle.cad_loading.specs.Views.{slots_of}
+use Rattle.cad_loads.specs.Views.{source_of}
 use Rattle.cad_tables.specs.Views.{contracts_of}
 use Rattle.cad_loading.proofs.passes.settle.Given as goal
 

@@ -1,9 +1,9 @@
 use Rattle.std.proofs.Common.{◌≡◌, subst}
 use Rattle.std.specs.Prelude.{IfOk}
-use Rattle.cad_loading.specs.Views.{source_of}
+use Rattle.cad_loads.specs.Views.{source_of}
 use Rattle.cad_state.specs.Views.{contract_of}
 use Rattle.cad_world.specs.Rows.{Row}
-use Rattle.cad_world_reading.specs.Meaning.{contract_from, program_in}
+use Rattle.cad_world_reading.specs.Contracts.{contract_from, program_in}
 use Rattle.cad_world_reading.proofs.contracts.contract_from.Goals as goal
 
 pub returns-in-Ok : goal.returns-in-Ok

@@ -1,6 +1,6 @@
 use Rattle.std.proofs.Common.{map}
 use Rattle.cad_world_reading.proofs.Loaded as loading
-use Rattle.cad_world_reading.specs.Meaning.{value_row}
+use Rattle.cad_world_registers.specs.Meaning.{value_row}
 use Rattle.cad_world_reading.proofs.contracts.load_contracts.Goals as goal
 
 pub join_contracts-requires-clause-programs : goal.join_contracts-requires-clause-programs

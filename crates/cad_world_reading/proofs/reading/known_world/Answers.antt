@@ -3,8 +3,8 @@ use Rattle.cad_accounts.specs.Memory.{rows_in_blocks}
 use Rattle.cad_accounts.specs.declared.row.Row.{Row}
 use Rattle.cad_worlds.specs.Items.{empty_draft}
 use Rattle.cad_worlds.specs.Standing.{register_of}
-use Rattle.cad_world_reading.proofs.ReadBack.{known}
-use Rattle.cad_world_reading.specs.Told.{all_made}
+use Rattle.cad_world_registers.proofs.ReadBack.{known}
+use Rattle.cad_world_registers.specs.Told.{all_made}
 use Rattle.cad_world_reading.proofs.reading.known_world.Goals as goal
 
 pub returns-in-Ok : goal.returns-in-Ok

@@ -1,4 +1,4 @@
-use Rattle.cad_world_reading.proofs.ReadBack.{rising, found, only, none_made}
+use Rattle.cad_world_registers.proofs.ReadBack.{rising, found, only, none_made}
 use Rattle.cad_worlds.specs.RowLists.{rows_listed}
 use Rattle.cad_world_reading.proofs.reading.read_world.Goals as goal
 

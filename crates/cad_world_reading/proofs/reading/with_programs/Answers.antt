@@ -1,7 +1,7 @@
-use Rattle.cad_world_reading.proofs.ReadBack.{same_found, same_only}
+use Rattle.cad_world_registers.proofs.ReadBack.{same_found, same_only}
 use Rattle.cad_worlds.specs.RowLists.{rows_listed}
 use Rattle.cad_loading.specs.Views.{programs_of}
-use Rattle.cad_world_reading.specs.Meaning.{parts_of}
+use Rattle.cad_world_registers.specs.Meaning.{parts_of}
 use Rattle.cad_world_reading.proofs.reading.with_programs.Goals as goal
 
 pub returns-in-Ok-clause-found : goal.returns-in-Ok-clause-found

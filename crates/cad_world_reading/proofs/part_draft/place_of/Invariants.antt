@@ -1,5 +1,0 @@
-use Rattle.cad_world_reading.specs.Code.PartDrafts.{HasNoneBefore}
-use Rattle.cad_world_reading.proofs.part_draft.place_of.Given as goal
-
-abbrev pub invariant-loop-i : goal.invariant-loop-i
-invariant-loop-i l = HasNoneBefore l.address l.known l.i

@@ -1,0 +1,14 @@
+pub mod Again
+pub mod Exact
+pub mod Says
+pub mod InOrder
+pub mod Found
+pub mod Made
+pub mod Same
+pub mod Listed
+pub mod ReadBack
+pub mod Judged
+pub mod PartSteps
+pub mod WantedAccounts
+pub mod PartMade
+pub mod PartPassed
