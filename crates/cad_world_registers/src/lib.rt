@@ -12,7 +12,7 @@ mod rising;
 mod saying;
 mod selection;
 
-// For the crate above alone.
+// For the crates above alone: what registers make, and whether they stand for it, by the definitions that the code follows.
 pub use comparing::stand_for;
 pub use making::make;
 pub use part_draft::{PartDraft, make_part};
