@@ -24,7 +24,8 @@ use cad_json_export::export;
 use cad_outcomes::Stop;
 use cad_rows::{Place, discard_row};
 use cad_run_worlds::{
-    RunWorld, ScriptReply, Unfinished, begin_over, discard_run_world, reply_to_stop, unfinished,
+    RunWorld, ScriptReply, Unfinished, begin_over, discard_run_world, reply_to_stop,
+    why_unfinished,
 };
 use cad_state::{Contract, RunState, discard_state, discard_value};
 use cad_types::DeclaredTypes;
@@ -87,7 +88,7 @@ fn reply_over(
             discard_state(state);
             Ok(told)
         }
-        Err(_) => Err(unfinished(state)),
+        Err(_) => Err(why_unfinished(state)),
     }
 }
 

@@ -11,7 +11,7 @@ ghost use Rattle.cad_world.specs.State as machine;
 use crate::left::outcome_of_state;
 use crate::outcome::{Receipt, RunOutcome, TransactionOutcome};
 use cad_outcomes::Stop;
-use cad_run_worlds::{RunWorld, Unfinished, reply_to_stop, unfinished};
+use cad_run_worlds::{RunWorld, Unfinished, reply_to_stop, why_unfinished};
 use cad_state::{Accounts, RunState, discard_contracts, discard_known, discard_state};
 use cad_worlds::World;
 use std::alloc::Global;
@@ -34,7 +34,7 @@ pub fn outcome_of_run(
                 discard_state(state);
                 Ok(RunOutcome::Stays(reply))
             }
-            Err(_) => Err(unfinished(state)),
+            Err(_) => Err(why_unfinished(state)),
         },
     }
 }

@@ -12,6 +12,6 @@ pub use signers::has_account;
 
 // For the crates above alone: states in which runs begin, rows of arguments, signers, and what is told of stops.
 pub use arguments::{row_for, row_of};
-pub use reply::{reply_to_stop, unfinished};
+pub use reply::{reply_to_stop, why_unfinished};
 pub use run_worlds::begin_over;
 pub use signers::are_signers;

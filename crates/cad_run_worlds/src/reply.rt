@@ -57,7 +57,7 @@ pub fn reply_to_stop(stop: Stop) -> Result<ScriptReply, AllocError>
 
 /// Why there is no reply of a run that stopped in a state for want of memory: the account that it lacked, or the code of which it
 /// asked, where it did.
-pub fn unfinished(state: RunState) -> Unfinished {
+pub fn why_unfinished(state: RunState) -> Unfinished {
     let wanted = state.wanted;
     match unknown_of(state) {
         Some(unknown) => Unfinished::Unknown(unknown),
