@@ -24,8 +24,7 @@ use cad_json_export::export;
 use cad_outcomes::Stop;
 use cad_rows::{Place, discard_row};
 use cad_run_worlds::{
-    RunWorld, ScriptReply, Unfinished, begin_over, discard_run_world, reply_to_stop,
-    why_unfinished,
+    RunWorld, ScriptReply, Unfinished, begin_over, discard_run_world, reply_to_stop, why_unfinished,
 };
 use cad_state::{Contract, RunState, discard_state, discard_value};
 use cad_types::DeclaredTypes;
