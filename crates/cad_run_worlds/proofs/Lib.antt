@@ -1,4 +1,4 @@
-pub mod Arguments
+pub mod ArgumentLaws
 pub mod Runs
 pub mod Signing
 pub mod Sorts

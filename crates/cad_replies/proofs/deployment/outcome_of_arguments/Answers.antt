@@ -1,7 +1,7 @@
 use Rattle.std.proofs.Common.{map, arith, refl}
 use Rattle.serde_json.specs.View.{view}
 use Rattle.cad_runs.specs.Commands.{failed}
-use Rattle.cad_run_worlds.proofs.Arguments.{distinct_of}
+use Rattle.cad_run_worlds.proofs.ArgumentLaws.{distinct_of}
 use Rattle.cad_state.specs.Views.{program_of}
 use Rattle.cad_run_outcomes.proofs.Results.{if_ok, refused_with}
 use Rattle.cad_run_outcomes.specs.Outcomes.{stays}

@@ -7,7 +7,7 @@ use Rattle.cad_runs.specs.Commands.{Reply, failed, bad}
 use Rattle.cad_state.specs.Views.{program_of}
 use Rattle.cad_replies.specs.Scripts.{Answers, unfit}
 use Rattle.cad_run_worlds.specs.Views.{Tells}
-use Rattle.cad_run_worlds.proofs.Arguments.{row_found, row_missing, distinct_of, counts_agree}
+use Rattle.cad_run_worlds.proofs.ArgumentLaws.{row_found, row_missing, distinct_of, counts_agree}
 use Rattle.cad_replies.proofs.ScriptTold.{refused_with, ran_answers}
 use Rattle.cad_replies.proofs.script.answer_arguments.Goals as goal
 

@@ -5,7 +5,7 @@ use Rattle.cad_runs.specs.Commands.{Reply, failed, bad}
 use Rattle.cad_state.specs.Views.{program_of}
 use Rattle.cad_replies.specs.Scripts.{Answers, miscounted}
 use Rattle.cad_run_worlds.specs.Views.{Tells}
-use Rattle.cad_run_worlds.proofs.Arguments.{counts_differ}
+use Rattle.cad_run_worlds.proofs.ArgumentLaws.{counts_differ}
 use Rattle.cad_replies.proofs.ScriptTold.{refused_with}
 use Rattle.cad_replies.proofs.script.answer_main.Goals as goal
 

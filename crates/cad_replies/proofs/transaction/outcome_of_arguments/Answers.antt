@@ -1,7 +1,7 @@
 use Rattle.std.proofs.Common.{map, refl}
 use Rattle.serde_json.specs.View.{view}
 use Rattle.cad_runs.specs.Commands.{bad}
-use Rattle.cad_run_worlds.proofs.Arguments.{row_found, row_missing, distinct_of, counts_agree}
+use Rattle.cad_run_worlds.proofs.ArgumentLaws.{row_found, row_missing, distinct_of, counts_agree}
 use Rattle.cad_state.specs.Views.{program_of}
 use Rattle.cad_run_outcomes.proofs.Results.{if_ok, refused_with}
 use Rattle.cad_replies.proofs.TransactionComing.{IsOutcome}

@@ -1,7 +1,7 @@
 use Rattle.std.proofs.Common.{map, arith, refl, sym, ◌∙◌}
 use Rattle.serde_json.specs.View.{view}
 use Rattle.cad_runs.specs.Commands.{bad}
-use Rattle.cad_run_worlds.proofs.Arguments.{counts_differ}
+use Rattle.cad_run_worlds.proofs.ArgumentLaws.{counts_differ}
 use Rattle.cad_state.specs.Views.{program_of}
 use Rattle.cad_run_outcomes.proofs.Results.{refused_with}
 use Rattle.cad_replies.proofs.TransactionComing.{IsOutcome}

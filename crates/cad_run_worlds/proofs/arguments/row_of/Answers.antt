@@ -6,7 +6,7 @@ use Rattle.cad_rows.specs.Views.{pure_row}
 use Rattle.cad_rows.specs.declared.tree.Place.{Place}
 use Rattle.cad_values.specs.Shapes.{Shapes}
 use Rattle.cad_run_worlds.specs.Code.{IsRow}
-use Rattle.cad_run_worlds.proofs.Arguments.{all_ok}
+use Rattle.cad_run_worlds.proofs.ArgumentLaws.{all_ok}
 use Rattle.cad_run_worlds.proofs.Turns.{type_at}
 use Rattle.cad_run_worlds.proofs.arguments.row_of.Goals as goal
 
