@@ -25,8 +25,8 @@ use Rattle.cad_serve_parts.specs.declared.line.Line.{Line}
 use Rattle.cad_answers.specs.declared.reply.Reply as own
 use Rattle.cad_answers.specs.declared.outcome.Outcome.{Outcome}
 use Rattle.cad_answers.specs.declared.outcome.Outcome.TheVariants.{Stays as Staying, Leads as Leading}
-use Rattle.cad_answers.specs.declared.prepare.Prepared.{Prepared}
-use Rattle.cad_answers.specs.declared.prepare.Prepared.TheVariants as prepared
+use Rattle.cad_answers.specs.declared.ready.Prepared.{Prepared}
+use Rattle.cad_answers.specs.declared.ready.Prepared.TheVariants as prepared
 use Rattle.cad_answers.specs.declared.settling.Settled.{Settled}
 use Rattle.cad_answers.specs.declared.settling.Settled.TheVariants as settled
 

@@ -8,7 +8,7 @@ mod judging;
 mod laws;
 mod making;
 mod outcome;
-mod prepare;
+mod ready;
 mod reply;
 mod scripts;
 mod settling;
@@ -19,6 +19,6 @@ pub use laws::{
 };
 
 // For the crates above alone: replies, and commands that are answered over a store.
-pub use prepare::{Prepared, prepare};
+pub use ready::{Prepared, prepare};
 pub use reply::{Reply, reply_line};
 pub use settling::{Settled, settle};

@@ -15,7 +15,7 @@ use Rattle.cad_world.specs.Rows.{Row}
 use Rattle.cad_world.specs.State as s
 use Rattle.cad_worlds.proofs.Lists.{from_item}
 use Rattle.cad_worlds.specs.Items.{contracts_from, world_from}
-use Rattle.cad_world_reading.specs.Contracts.{contract_from, program_in}
+use Rattle.cad_world_reading.specs.Loading.{contract_from, program_in}
 use Rattle.cad_world_registers.specs.Meaning.{value_row}
 
 pub contracts_more : (cs : List Contract) (c : Contract) → map contract_of (cs ++ c ∷ []) ≡ map contract_of cs ++ contract_of c ∷ []

@@ -21,7 +21,7 @@ use Rattle.cad_worlds.proofs.OneWorld.{world_again}
 use Rattle.cad_worlds.specs.Items.{Draft, contracts_from, draft_of, programs_of, world_from}
 use Rattle.cad_worlds.specs.Standing.{IsSound, world_of}
 use Rattle.cad_worlds.specs.declared.kept.World as own
-use Rattle.cad_world_reading.specs.Contracts.{program_in}
+use Rattle.cad_world_reading.specs.Loading.{program_in}
 use Rattle.cad_world_registers.specs.Meaning.{Stands, parts_of, value_row}
 use Rattle.cad_world_registers.specs.declared.parts.Parts.{Parts}
 

@@ -1,4 +1,4 @@
-pub mod Contracts
+pub mod Loading
 pub mod Laws
 pub mod Wanted
 pub mod Passed

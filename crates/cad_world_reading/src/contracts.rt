@@ -5,7 +5,7 @@ ghost use Rattle.cad_loads.specs.Views.{source_of};
 ghost use Rattle.cad_rows.specs.Views.{pure_row};
 ghost use Rattle.cad_state.specs.Views.{contract_of};
 ghost use Rattle.cad_world.specs.State as s;
-ghost use Rattle.cad_world_reading.specs.Contracts as spec;
+ghost use Rattle.cad_world_reading.specs.Loading as spec;
 ghost use Rattle.cad_world_registers.specs.Meaning.{parts_of, value_row};
 ghost use Rattle.cad_worlds.specs.Items as items;
 ghost use Rattle.cad_worlds.specs.Standing.{IsSound, world_of};

@@ -15,8 +15,8 @@ use Rattle.cad_answers.specs.Answer.{Does, Commits, answer_line}
 use Rattle.cad_answers.specs.Code.Views.{Tells}
 use Rattle.cad_answers.specs.declared.outcome.Outcome.{Outcome}
 use Rattle.cad_answers.specs.declared.outcome.Outcome.TheVariants as outcome
-use Rattle.cad_answers.specs.declared.prepare.Prepared.{Prepared}
-use Rattle.cad_answers.specs.declared.prepare.Prepared.TheVariants as prepared
+use Rattle.cad_answers.specs.declared.ready.Prepared.{Prepared}
+use Rattle.cad_answers.specs.declared.ready.Prepared.TheVariants as prepared
 use Rattle.cad_answers.specs.declared.settling.Settled.{Settled}
 use Rattle.cad_answers.specs.declared.settling.Settled.TheVariants as settled
 

@@ -3,7 +3,7 @@ use Rattle.std.specs.Prelude.{IfOk}
 use Rattle.cad_loads.specs.Views.{source_of}
 use Rattle.cad_state.specs.Views.{contract_of}
 use Rattle.cad_world.specs.Rows.{Row}
-use Rattle.cad_world_reading.specs.Contracts.{contract_from, program_in}
+use Rattle.cad_world_reading.specs.Loading.{contract_from, program_in}
 use Rattle.cad_world_reading.proofs.contracts.contract_from.Goals as goal
 
 pub returns-in-Ok : goal.returns-in-Ok

@@ -1,4 +1,4 @@
-use Rattle.cad_answers.proofs.prepare.with_line.Goals as goal
+use Rattle.cad_answers.proofs.ready.with_line.Goals as goal
 
 pub returns-in_ok-text-in-Reply-clause-ready : goal.returns-in_ok-text-in-Reply-clause-ready
 returns-in_ok-text-in-Reply-clause-ready c = λ w line is.

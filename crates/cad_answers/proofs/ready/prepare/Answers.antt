@@ -3,7 +3,7 @@ use Rattle.cad_store.specs.Stores.{held}
 use Rattle.cad_runs.specs.Commands.{bad}
 use Rattle.cad_answers.specs.Code.Outcomes.{IsSettled, RunsTo}
 use Rattle.cad_answers.proofs.Readies.{long_line, ready_line}
-use Rattle.cad_answers.proofs.prepare.prepare.Goals as goal
+use Rattle.cad_answers.proofs.ready.prepare.Goals as goal
 
 pub returns-then-line-clause-ready : goal.returns-then-line-clause-ready
 returns-then-line-clause-ready c = λ w is_w. (bad 27, w, λ pending h. long_line w c.args.line.now pending c.if-line.true h, c.in_ok-text.ensures (bad 27) refl, is_w)
