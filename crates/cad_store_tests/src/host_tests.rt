@@ -2,7 +2,6 @@
 use cad_host::{Failed, FileHost, Host, MemHost, SureHost, Tape};
 use std::alloc::AllocError;
 use std::fs;
-use std::process::Abort;
 use std::test::Fail;
 
 /// A call of a host, or a look at what it holds, and what comes of it.
@@ -22,7 +21,7 @@ enum Step<'a> {
     Now(u64),
 }
 
-/// Whether it comes so, of a call that each host takes at any time.
+/// Whether it comes so, of a step that each host takes at any time.
 fn is_common<H: Host>(host: &mut H, room: &mut [u8], step: Step) -> bool {
     match step {
         Step::Take(count) => host.take(room) == count,
@@ -54,11 +53,14 @@ fn is_so(host: &mut MemHost, room: &mut [u8], step: Step) -> bool {
     }
 }
 
-/// Asserts it of all steps.
-fn are_so(rt: &impl Abort, host: &mut MemHost, room: &mut [u8], steps: &[Step]) {
+/// The first of the steps where it does not.
+fn wrong(host: &mut MemHost, room: &mut [u8], steps: &[Step]) -> Option<usize> {
     for (i, step) in steps.iter().enumerate() {
-        assert!(rt; is_so(host, room, *step), "step {i}");
+        if !is_so(host, room, *step) {
+            return Some(i);
+        }
     }
+    None
 }
 
 /// Whether a crash at that moment leaves those bytes on the tape, and no output.
@@ -99,7 +101,7 @@ fn calls_in_the_lists_fail(rt: HostRuntime) -> Result<(), Fail> {
         Step::Length(Tape::A, Ok(0)),
     ];
     let mut host = MemHost::new(rt.alloc(), b"abcde", &[1], &[0, 2], &[0, 1, 2, 3])?;
-    are_so(&rt, &mut host, &mut [0; 2], &steps);
+    assert_eq!(rt; wrong(&mut host, &mut [0; 2], &steps), None);
     Ok(())
 }
 
@@ -111,7 +113,7 @@ fn a_filled_tape_has_nothing_pending(rt: HostRuntime) -> Result<(), Fail> {
         Step::Now(2),
     ];
     let mut host = MemHost::new(rt.alloc(), b"", &[], &[], &[])?;
-    are_so(&rt, &mut host, &mut [], &steps);
+    assert_eq!(rt; wrong(&mut host, &mut [], &steps), None);
     assert!(rt; leaves(&host, 2, 0, Tape::Pick, b"1")?);
     Ok(())
 }
@@ -132,7 +134,7 @@ fn a_write_that_fails_leaves_half(rt: HostRuntime) -> Result<(), Fail> {
         Step::Now(7),
     ];
     let mut host = MemHost::new(rt.alloc(), b"ab", &[1], &[], &[2, 3, 4])?;
-    are_so(&rt, &mut host, &mut [0], &steps);
+    assert_eq!(rt; wrong(&mut host, &mut [0], &steps), None);
     assert!(rt; leaves(&host, 7, b'.', Tape::A, b"hel..")?);
     Ok(())
 }
@@ -156,11 +158,14 @@ fn is_surely_so(host: &mut SureHost, room: &mut [u8], step: Step) -> bool {
     }
 }
 
-/// Asserts it of all steps.
-fn are_surely_so(rt: &impl Abort, host: &mut SureHost, room: &mut [u8], steps: &[Step]) {
+/// The first of the steps where it does not.
+fn surely_wrong(host: &mut SureHost, room: &mut [u8], steps: &[Step]) -> Option<usize> {
     for (i, step) in steps.iter().enumerate() {
-        assert!(rt; is_surely_so(host, room, *step), "step {i}");
+        if !is_surely_so(host, room, *step) {
+            return Some(i);
+        }
     }
+    None
 }
 
 #[test]
@@ -185,7 +190,7 @@ fn tapes_read_what_was_written(rt: HostRuntime) -> Result<(), Fail> {
     ];
     let mut host = SureHost::new(rt.alloc(), b"in")?;
     let mut room = *b"....";
-    are_surely_so(&rt, &mut host, &mut room, &steps);
+    assert_eq!(rt; surely_wrong(&mut host, &mut room, &steps), None);
     Ok(())
 }
 
@@ -209,7 +214,7 @@ fn crashes_leave_images(rt: HostRuntime) -> Result<(), Fail> {
         Step::Now(5),
     ];
     let mut host = SureHost::new(rt.alloc(), b"")?;
-    are_surely_so(&rt, &mut host, &mut [], &steps);
+    assert_eq!(rt; surely_wrong(&mut host, &mut [], &steps), None);
     for (moment, image) in [
         (0, ""),
         (1, "....."),
@@ -230,19 +235,28 @@ fn is_so_on_files(host: &mut FileHost<HostRuntime>, room: &mut [u8], step: Step)
     }
 }
 
-/// Asserts it of all steps of a new host over the folder.
-fn are_so_on_files(rt: HostRuntime, room: &mut [u8], steps: &[Step]) -> Result<(), AllocError> {
+/// The first of the steps where it does not, of a new host over the folder.
+fn wrong_on_files(
+    rt: HostRuntime,
+    room: &mut [u8],
+    steps: &[Step],
+) -> Result<Option<usize>, AllocError> {
     let mut host = FileHost::new(rt.alloc(), rt, "store")?;
     for (i, step) in steps.iter().enumerate() {
-        assert!(rt; is_so_on_files(&mut host, room, *step), "step {i}");
+        if !is_so_on_files(&mut host, room, *step) {
+            return Ok(Some(i));
+        }
     }
-    Ok(())
+    Ok(None)
 }
 
 #[test]
 fn files_keep_what_was_written(rt: HostRuntime) -> Result<(), Fail> {
     // no folder yet
-    are_so_on_files(rt, &mut [], &[Step::Length(Tape::A, Err(Failed))])?;
+    assert_eq!(rt;
+        wrong_on_files(rt, &mut [], &[Step::Length(Tape::A, Err(Failed))])?,
+        None
+    );
     fs::create_dir(&rt, "store")?;
     let written = [
         Step::Length(Tape::A, Ok(0)),
@@ -253,7 +267,7 @@ fn files_keep_what_was_written(rt: HostRuntime) -> Result<(), Fail> {
         Step::Sync(Tape::A, Ok(())),
         Step::Take(Ok(0)),
     ];
-    are_so_on_files(rt, &mut [], &written)?;
+    assert_eq!(rt; wrong_on_files(rt, &mut [], &written)?, None);
     let read = [
         Step::Length(Tape::A, Ok(7)),
         Step::Read(Tape::A, 5, Ok(2)),
@@ -263,7 +277,7 @@ fn files_keep_what_was_written(rt: HostRuntime) -> Result<(), Fail> {
         Step::Put(b"put\n", Ok(())),
     ];
     let mut room = *b"....";
-    are_so_on_files(rt, &mut room, &read)?;
+    assert_eq!(rt; wrong_on_files(rt, &mut room, &read)?, None);
     assert_eq!(rt; fs::read(&rt, "store/pick")?.as_slice(), b"1".as_slice());
     Ok(())
 }
