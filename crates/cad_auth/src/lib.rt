@@ -4,8 +4,6 @@
 mod grant;
 pub mod laws;
 mod mapping;
-#[cfg(test)]
-mod tests;
 
 pub use grant::{grants, weaker};
 pub use mapping::{Mapping, image};

@@ -13,6 +13,3 @@ pub use laws::one_spelling;
 pub use reading::{decode, number_of, parts_of};
 pub use value::Value;
 pub use writing::{encode, write_number};
-
-#[cfg(test)]
-mod tests;

@@ -2,6 +2,8 @@
 #![tactic(auto)]
 
 #[cfg(test)]
+mod auth_tests;
+#[cfg(test)]
 mod codec_rows;
 #[cfg(test)]
 mod codec_tests;
@@ -9,6 +11,8 @@ mod codec_tests;
 mod keys_tests;
 #[cfg(test)]
 mod num_tests;
+#[cfg(test)]
+mod number_codec_tests;
 #[cfg(test)]
 mod operators_tests;
 #[cfg(test)]

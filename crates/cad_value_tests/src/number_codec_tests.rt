@@ -1,6 +1,5 @@
 // Numbers as bytes and back, and bytes that no value has.
-use super::*;
-use crate::value::Value;
+use cad_number_codec::*;
 use cad_syntax::{Kind, Num};
 use std::test::*;
 
