@@ -5,7 +5,7 @@ ghost use Rattle.cad_host.specs.Faults.{IsCaused};
 use cad_host::{Failed, Host, Tape};
 use cad_syntax::{Bytes, Items};
 use cad_tape::{ScanStop, append, checkpoint, frame, scan};
-use cad_wire::{DecodeError, Entries, read_entries};
+use cad_wire::read_entries;
 use std::alloc::{AllocError, Global};
 use std::test::*;
 
@@ -149,45 +149,26 @@ fn frames(rt: HostRuntime) -> Result<(), Fail> {
     Ok(())
 }
 
-/// Whether a tape reads as so many records, which end there.
-fn ends(alloc: Global, host: &mut Tapes, count: usize, ending: u64) -> bool {
-    match scan(alloc, host, Tape::A) {
-        Ok(read) => read.records.len() == count && read.ending == ending,
-        Err(_) => false,
-    }
-}
-
-/// The record of one account alone.
-fn one_account(alloc: Global) -> Result<Items<Entries>, DecodeError> {
-    let mut records = Items::new(alloc);
-    records.push(read_entries(alloc, &BODY)?)?;
-    Ok(records)
-}
-
-/// Whether one account is read, and each byte of the tape once.
-fn is_read(alloc: Global, most: usize) -> Result<bool, ScanStop> {
-    let expected = one_account(alloc)?;
-    let mut host = make_tapes(alloc, &TAPE, most, 1000)?;
-    let read = scan(alloc, &mut host, Tape::A)?;
-    Ok(read.ending == 66 && host.bytes_read == 67 && read.records == expected)
-}
-
 #[test]
 fn reads_one_account(rt: HostRuntime) -> Result<(), Fail> {
     for most in [1usize, 3, 9, 66, 67, 1000] {
-        assert!(rt; is_read(rt.alloc(), most)?, "{most}");
+        let mut host = make_tapes(rt.alloc(), &TAPE, most, 1000)?;
+        let read = scan(rt.alloc(), &mut host, Tape::A)?;
+        assert_eq!(rt; read.ending, 66);
+        assert_eq!(rt; host.bytes_read, 67);
+        let mut expected = Items::new(rt.alloc());
+        expected.push(read_entries(rt.alloc(), &BODY).ok().ok_or("a body")?)?;
+        assert!(rt; read.records == expected);
     }
     Ok(())
 }
 
-fn is_empty(alloc: Global, tape: &[u8]) -> Result<bool, AllocError> {
-    let mut host = make_tapes(alloc, tape, 1000, 1000)?;
-    Ok(ends(alloc, &mut host, 0, 0))
-}
-
 #[test]
 fn each_front(rt: HostRuntime) -> Result<(), Fail> {
-    assert!(rt; is_empty(rt.alloc(), &[])?);
+    let mut host = make_tapes(rt.alloc(), &[], 1000, 1000)?;
+    let read = scan(rt.alloc(), &mut host, Tape::A)?;
+    assert!(rt; read.records.is_empty());
+    assert_eq!(rt; read.ending, 0);
     for n in 1..TAPE.len() {
         assert!(rt; is_damaged(rt.alloc(), &TAPE[..n])?);
     }
@@ -222,56 +203,45 @@ fn damaged(rt: HostRuntime) -> Result<(), Fail> {
 #[test]
 fn closed_at_once(rt: HostRuntime) -> Result<(), Fail> {
     for gate in [0u8, 2, 255] {
-        assert!(rt; is_empty(rt.alloc(), &[gate, 1, 2, 3])?, "{gate}");
+        let mut host = make_tapes(rt.alloc(), &[gate, 1, 2, 3], 1000, 1000)?;
+        let read = scan(rt.alloc(), &mut host, Tape::A)?;
+        assert!(rt; read.records.is_empty());
+        assert_eq!(rt; read.ending, 0);
     }
     Ok(())
-}
-
-/// Whether a scan by single bytes fails at the disk call of a number, and how many faults there were.
-fn fails(alloc: Global, calls: u64) -> Result<(bool, u64), AllocError> {
-    let mut host = make_tapes(alloc, &TAPE, 1, calls)?;
-    let is_failed = matches!(scan(alloc, &mut host, Tape::A), Err(ScanStop::Failed));
-    Ok((is_failed, host.faults))
-}
-
-fn is_read_by_bytes(alloc: Global, calls: u64) -> Result<bool, AllocError> {
-    let mut host = make_tapes(alloc, &TAPE, 1, calls)?;
-    Ok(scan(alloc, &mut host, Tape::A).is_ok())
 }
 
 #[test]
 fn disk_calls_fail(rt: HostRuntime) -> Result<(), Fail> {
     // the length, and then 67 reads of a byte
     for calls in 0..68 {
-        assert_eq!(rt; fails(rt.alloc(), calls)?, (true, 1), "{calls}");
+        let mut host = make_tapes(rt.alloc(), &TAPE, 1, calls)?;
+        assert!(rt; matches!(scan(rt.alloc(), &mut host, Tape::A), Err(ScanStop::Failed)));
+        assert_eq!(rt; host.faults, 1);
     }
-    assert!(rt; is_read_by_bytes(rt.alloc(), 68)?);
+    let mut host = make_tapes(rt.alloc(), &TAPE, 1, 68)?;
+    assert!(rt; scan(rt.alloc(), &mut host, Tape::A).is_ok());
     Ok(())
-}
-
-/// Writes one account onto tape a, and takes it into use.
-fn begin(alloc: Global, host: &mut Tapes) -> Result<u64, ScanStop> {
-    let record = frame(alloc, &BODY)?;
-    Ok(checkpoint(host, Tape::A, record.as_slice())?)
-}
-
-/// Adds the same behind.
-fn add(alloc: Global, host: &mut Tapes, at: u64) -> Result<u64, ScanStop> {
-    let record = frame(alloc, &BODY)?;
-    if record.is_empty() {
-        return Err(ScanStop::Damaged);
-    }
-    Ok(append(host, Tape::A, at, &record.as_slice()[1..])?)
 }
 
 #[test]
 fn writes_and_reads(rt: HostRuntime) -> Result<(), Fail> {
     let mut host = make_tapes(rt.alloc(), &[], 1000, 1000)?;
-    assert_eq!(rt; begin(rt.alloc(), &mut host)?, 66);
+    let record = frame(rt.alloc(), &BODY)?;
+    let next = checkpoint(&mut host, Tape::A, record.as_slice())
+        .ok()
+        .ok_or("no fault")?;
+    assert_eq!(rt; next, 66);
     assert_eq!(rt; host.a.as_slice(), TAPE.as_slice());
     assert_eq!(rt; host.pick.as_slice(), [1u8].as_slice());
-    assert_eq!(rt; add(rt.alloc(), &mut host, 66)?, 132);
+    assert!(rt; !record.is_empty());
+    let next = append(&mut host, Tape::A, next, &record.as_slice()[1..])
+        .ok()
+        .ok_or("no fault")?;
+    assert_eq!(rt; next, 132);
     assert_eq!(rt; host.a.len(), 133);
-    assert!(rt; ends(rt.alloc(), &mut host, 2, 132));
+    let read = scan(rt.alloc(), &mut host, Tape::A)?;
+    assert_eq!(rt; read.records.len(), 2);
+    assert_eq!(rt; read.ending, 132);
     Ok(())
 }
