@@ -38,61 +38,39 @@ fn put(
     registers.set(key, value)
 }
 
-/// Registers with these keys and values, set one behind the other.
-fn registers_of(alloc: Global, rows: &[(&[u8], &[u8])]) -> Result<MapRegisters, AllocError> {
-    let mut registers = MapRegisters::new(alloc);
-    for (key, value) in rows {
-        put(alloc, &mut registers, key, value)?;
-    }
-    Ok(registers)
-}
-
 fn one_account(alloc: Global) -> Result<MapRegisters, AllocError> {
-    registers_of(alloc, &[(&FIRST, &ONE), (&[0], &HEAD)])
-}
-
-/// Whether that stands under a key.
-fn holds(
-    alloc: Global,
-    registers: &MapRegisters,
-    key: &[u8],
-    value: Option<&[u8]>,
-) -> Result<bool, AllocError> {
-    let key = key_of(alloc, key)?;
-    Ok(registers.get(&key) == value)
+    let mut registers = MapRegisters::new(alloc);
+    put(alloc, &mut registers, &FIRST, &ONE)?;
+    put(alloc, &mut registers, &[0], &HEAD)?;
+    Ok(registers)
 }
 
 #[test]
 fn sets(rt: HostRuntime) -> Result<(), Fail> {
-    assert_eq!(rt; one_account(rt.alloc())?.len(), 2);
-    let rows: [(&[u8], &[u8]); 3] = [(&FIRST, &ONE), (&[0], &HEAD), (&FIRST, &[9])];
-    let registers = registers_of(rt.alloc(), &rows)?;
+    let mut registers = one_account(rt.alloc())?;
     assert_eq!(rt; registers.len(), 2);
-    assert!(rt; holds(rt.alloc(), &registers, &FIRST, Some(&[9]))?);
-    assert!(rt; holds(rt.alloc(), &registers, &SECOND, None)?);
+    put(rt.alloc(), &mut registers, &FIRST, &[9])?;
+    assert_eq!(rt; registers.len(), 2);
+    let key = key_of(rt.alloc(), &FIRST)?;
+    let found = registers.get(&key).ok_or("it is there")?;
+    assert_eq!(rt; found, [9].as_slice());
+    let other = key_of(rt.alloc(), &SECOND)?;
+    assert!(rt; registers.get(&other).is_none());
     Ok(())
-}
-
-fn is_row(row: &Row, key: &[u8], value: &[u8]) -> bool {
-    row.key.0.as_slice() == key && row.value.as_slice() == value
-}
-
-/// Whether the registers are in one block, and these.
-fn are(registers: &MapRegisters, rows: &[(&[u8], &[u8])]) -> bool {
-    let [block] = registers.blocks() else {
-        return false;
-    };
-    for (row, (key, value)) in block.rows().iter().zip(rows) {
-        if !is_row(row, key, value) {
-            return false;
-        }
-    }
-    block.rows().len() == rows.len()
 }
 
 #[test]
 fn in_byte_order(rt: HostRuntime) -> Result<(), Fail> {
-    assert!(rt; are(&one_account(rt.alloc())?, &[(&[0], &HEAD), (&FIRST, &ONE)]));
+    let registers = one_account(rt.alloc())?;
+    let [block] = registers.blocks() else {
+        return Err("there is one")?;
+    };
+    let [first, second] = block.rows() else {
+        return Err("there are two")?;
+    };
+    assert_eq!(rt; first.key.0.as_slice(), [0].as_slice());
+    assert_eq!(rt; second.key.0.as_slice(), FIRST.as_slice());
+    assert_eq!(rt; second.value.as_slice(), ONE.as_slice());
     Ok(())
 }
 
@@ -101,71 +79,56 @@ fn remove(alloc: Global, registers: &mut MapRegisters, key: &[u8]) -> Result<(),
     registers.apply(Entry { key, value: None })
 }
 
-/// One account, of which the first register was removed so often.
-fn removed(alloc: Global, count: u64) -> Result<MapRegisters, AllocError> {
-    let mut registers = one_account(alloc)?;
-    for _ in 0..count {
-        remove(alloc, &mut registers, &[0])?;
-    }
-    Ok(registers)
-}
-
 #[test]
 fn removes(rt: HostRuntime) -> Result<(), Fail> {
-    for count in [1, 2] {
-        let registers = removed(rt.alloc(), count)?;
-        assert_eq!(rt; (registers.len(), registers.size()), (1, 41), "{count}");
-        assert!(rt; are(&registers, &[(&FIRST, &ONE)]), "{count}");
-    }
+    let mut registers = one_account(rt.alloc())?;
+    remove(rt.alloc(), &mut registers, &[0])?;
+    assert_eq!(rt; registers.len(), 1);
+    assert_eq!(rt; registers.size(), 41);
+    let [block] = registers.blocks() else {
+        return Err("there is one")?;
+    };
+    let first = block.rows().first().ok_or("one is left")?;
+    assert_eq!(rt; first.key.0.as_slice(), FIRST.as_slice());
+    remove(rt.alloc(), &mut registers, &[0])?;
+    assert_eq!(rt; registers.len(), 1);
     Ok(())
 }
 
-fn value_of(alloc: Global, value: Option<&[u8]>) -> Result<Option<Bytes>, AllocError> {
-    match value {
-        None => Ok(None),
-        Some(bytes) => Ok(Some(bytes_of(alloc, bytes)?)),
-    }
-}
-
 fn record_of(alloc: Global, key: &[u8], value: Option<&[u8]>) -> Result<Entries, AllocError> {
-    let value = value_of(alloc, value)?;
     let key = key_of(alloc, key)?;
+    let value = match value {
+        None => None,
+        Some(bytes) => Some(bytes_of(alloc, bytes)?),
+    };
     let mut entries = Items::new(alloc);
     entries.push(Entry { key, value })?;
     Ok(entries)
 }
 
-/// Records of one register each.
-fn records_of(
-    alloc: Global,
-    rows: &[(&[u8], Option<&[u8]>)],
-) -> Result<Items<Entries>, AllocError> {
-    let mut records = Items::new(alloc);
-    for (key, value) in rows {
-        records.push(record_of(alloc, key, *value)?)?;
-    }
-    Ok(records)
-}
-
 #[test]
 fn folds(rt: HostRuntime) -> Result<(), Fail> {
-    let rows: [(&[u8], Option<&[u8]>); 5] = [
-        (&FIRST, Some(&[9])),
-        (&X, Some(&SEVEN)),
-        (&[0], Some(&HEAD)),
-        (&X, None),
-        (&FIRST, Some(&ONE)),
-    ];
-    let records = records_of(rt.alloc(), &rows)?;
+    let mut records = Items::new(rt.alloc());
+    records.push(record_of(rt.alloc(), &FIRST, Some(&[9]))?)?;
+    records.push(record_of(rt.alloc(), &X, Some(&SEVEN))?)?;
+    records.push(record_of(rt.alloc(), &[0], Some(&HEAD))?)?;
+    records.push(record_of(rt.alloc(), &X, None)?)?;
+    records.push(record_of(rt.alloc(), &FIRST, Some(&ONE))?)?;
     let registers = fold_records(rt.alloc(), records)?;
-    assert!(rt; are(&registers, &[(&[0], &HEAD), (&FIRST, &ONE)]));
+    let same = one_account(rt.alloc())?;
+    let ([block], [other]) = (registers.blocks(), same.blocks()) else {
+        return Err("there is one each")?;
+    };
+    assert!(rt; block.rows() == other.rows());
     Ok(())
 }
 
 #[test]
 fn sizes(rt: HostRuntime) -> Result<(), Fail> {
-    assert_eq!(rt; MapRegisters::new(rt.alloc()).size(), 15);
-    assert_eq!(rt; one_account(rt.alloc())?.size(), 67);
+    let none = MapRegisters::new(rt.alloc());
+    assert_eq!(rt; none.size(), 15);
+    let one = one_account(rt.alloc())?;
+    assert_eq!(rt; one.size(), 67);
     Ok(())
 }
 
@@ -191,27 +154,18 @@ fn follows(rows: &[Row], first: u16) -> Option<u16> {
     Some(next)
 }
 
-/// Whether no block has more than 512 rows, and the keys are the numbers up to 2,047.
-fn are_many(registers: &MapRegisters) -> bool {
-    let mut next = 0;
-    for block in registers.blocks() {
-        let Some(behind) = follows(block.rows(), next) else {
-            return false;
-        };
-        if block.rows().len() > 512 {
-            return false;
-        }
-        next = behind;
-    }
-    next == 2048
-}
-
 #[test]
 fn splits(rt: HostRuntime) -> Result<(), Fail> {
     let registers = many(rt.alloc())?;
     assert_eq!(rt; registers.len(), 2048);
     assert!(rt; registers.blocks().len() > 3);
-    assert!(rt; are_many(&registers));
-    assert!(rt; holds(rt.alloc(), &registers, &[4, 210], Some(&[1]))?);
+    let mut next = 0;
+    for block in registers.blocks() {
+        assert!(rt; block.rows().len() <= 512);
+        next = follows(block.rows(), next).ok_or("in order")?;
+    }
+    assert_eq!(rt; next, 2048);
+    let key = key_of(rt.alloc(), &[4, 210])?;
+    assert!(rt; registers.get(&key).is_some());
     Ok(())
 }

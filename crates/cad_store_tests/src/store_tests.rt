@@ -19,9 +19,6 @@ const TAPE: [u8; 67] = [
     0, 0, 1, 0,
 ];
 
-// What stands under the key of one zero: the number of accounts and the next identity.
-const HEAD: [u8; 16] = [0, 0, 0, 0, 0, 0, 0, 1, 0, 0, 0, 0, 0, 0, 0, 1];
-
 const ROOM: u64 = 1 << 20;
 
 // The key of a register that isn't accepted.
@@ -179,17 +176,11 @@ fn is_full(alloc: Global, room: u64) -> Result<bool, AllocError>
     }
 }
 
-// A host with these bytes on tape a, which is in use.
-fn host_of(alloc: Global, bytes: &[u8]) -> Result<MemHost, AllocError> {
+// Whether tape a with these bytes is no store.
+fn is_bad(alloc: Global, bytes: &[u8]) -> Result<bool, AllocError> {
     let mut host = MemHost::new(alloc, b"", &[], &[], &[])?;
     host.fill(Tape::A, bytes)?;
     host.fill(Tape::Pick, &[1])?;
-    Ok(host)
-}
-
-// Whether tape a with these bytes is no store.
-fn is_bad(alloc: Global, bytes: &[u8]) -> Result<bool, AllocError> {
-    let mut host = host_of(alloc, bytes)?;
     let judge = without_refused(alloc)?;
     Ok(matches!(
         open(alloc, &mut host, &judge, ROOM),
@@ -197,64 +188,45 @@ fn is_bad(alloc: Global, bytes: &[u8]) -> Result<bool, AllocError> {
     ))
 }
 
-// Whether the store has that size once one account more is committed.
-fn grows(alloc: Global, host: &mut MemHost, size: u64) -> bool {
-    match one_more(alloc, host) {
-        Ok(store) => store.size() == size,
-        Err(_) => false,
-    }
-}
-
-// Whether tape a is in use, has as many bytes, and tape b has none.
-fn is_in_use(host: &MemHost, length: usize) -> bool {
-    host.tape(Tape::Pick) == [1u8].as_slice()
-        && host.tape(Tape::A).len() == length
-        && host.tape(Tape::B).is_empty()
-}
-
 #[test]
 fn commits_accounts(rt: HostRuntime) -> Result<(), Fail> {
     let mut host = MemHost::new(rt.alloc(), b"", &[], &[], &[])?;
-    assert!(rt; grows(rt.alloc(), &mut host, 67));
-    assert!(rt; is_in_use(&host, 67));
+    let store = one_more(rt.alloc(), &mut host).ok().ok_or("no fault")?;
+    assert_eq!(rt; store.size(), 67);
+    assert_eq!(rt; host.tape(Tape::Pick), [1u8].as_slice());
     assert_eq!(rt; host.tape(Tape::A), TAPE.as_slice());
-    assert!(rt; grows(rt.alloc(), &mut host, 93));
-    assert!(rt; is_in_use(&host, 133));
+    assert!(rt; host.tape(Tape::B).is_empty());
+
+    let store = one_more(rt.alloc(), &mut host).ok().ok_or("no fault")?;
+    assert_eq!(rt; store.size(), 93);
+    assert_eq!(rt; host.tape(Tape::Pick), [1u8].as_slice());
+    assert_eq!(rt; host.tape(Tape::A).len(), 133);
+    assert!(rt; host.tape(Tape::B).is_empty());
     Ok(())
-}
-
-// Whether tape b in use with one account's record reads as that.
-fn is_read(alloc: Global, store: &Store) -> Result<bool, AllocError> {
-    let head = Key(Items::from_slice(alloc, &[0])?);
-    let [block] = store.blocks() else {
-        return Ok(false);
-    };
-    let [first, _] = block.rows() else {
-        return Ok(false);
-    };
-    let found = store.get(&head);
-    Ok(first.key == head && found == Some(HEAD.as_slice()))
-}
-
-// Opens tape b with the record of one account.
-fn open_b(alloc: Global) -> Result<Store, Failed> {
-    let Ok(judge) = without_refused(alloc) else {
-        return Err(Failed);
-    };
-    let Ok(mut host) = MemHost::new(alloc, b"", &[], &[], &[]) else {
-        return Err(Failed);
-    };
-    if host.fill(Tape::B, &TAPE).is_err() || host.fill(Tape::Pick, &[2, 1]).is_err() {
-        return Err(Failed);
-    }
-    open(alloc, &mut host, &judge, ROOM).ok().ok_or(Failed)
 }
 
 #[test]
 fn reads_registers(rt: HostRuntime) -> Result<(), Fail> {
-    let store = open_b(rt.alloc())?;
+    let mut host = MemHost::new(rt.alloc(), b"", &[], &[], &[])?;
+    host.fill(Tape::B, &TAPE)?;
+    host.fill(Tape::Pick, &[2, 1])?;
+    let judge = without_refused(rt.alloc())?;
+    let store = open(rt.alloc(), &mut host, &judge, ROOM)
+        .ok()
+        .ok_or("a store")?;
     assert_eq!(rt; store.size(), 67);
-    assert!(rt; is_read(rt.alloc(), &store)?);
+    let head = Key(Items::from_slice(rt.alloc(), &[0])?);
+    assert_eq!(rt;
+        store.get(&head),
+        Some([0u8, 0, 0, 0, 0, 0, 0, 1, 0, 0, 0, 0, 0, 0, 0, 1].as_slice())
+    );
+    let [block] = store.blocks() else {
+        return Err("there is one")?;
+    };
+    let [first, _] = block.rows() else {
+        return Err("there are two")?;
+    };
+    assert!(rt; first.key == head);
     Ok(())
 }
 
@@ -265,66 +237,54 @@ fn full(rt: HostRuntime) -> Result<(), Fail> {
     Ok(())
 }
 
-// The size of a store with one account, and whether it stands on tape a.
-fn size_on(alloc: Global, host: &mut MemHost) -> Result<(u64, bool), Failed> {
-    let store = discard_and_add(alloc, host)?;
-    Ok((store.size(), host.tape(Tape::A) == TAPE.as_slice()))
-}
-
 #[test]
 fn discarded(rt: HostRuntime) -> Result<(), Fail> {
     let mut host = MemHost::new(rt.alloc(), b"", &[], &[], &[])?;
-    assert_eq!(rt; size_on(rt.alloc(), &mut host)?, (67, true));
+    let store = discard_and_add(rt.alloc(), &mut host)
+        .ok()
+        .ok_or("no fault")?;
+    assert_eq!(rt; store.size(), 67);
+    assert_eq!(rt; host.tape(Tape::A), TAPE.as_slice());
     Ok(())
 }
 
 #[test]
 fn bad_stores(rt: HostRuntime) -> Result<(), Fail> {
+    assert!(rt; is_bad(rt.alloc(), &TAPE[..40])?);
+    assert!(rt; is_bad(rt.alloc(), &TAPE[..66])?);
+    assert!(rt; !is_bad(rt.alloc(), &TAPE)?);
     // records with a register that is refused
     let mut refused = TAPE;
     refused[18] = REFUSED;
-    let rows: [(&[u8], bool); 4] = [
-        (&TAPE[..40], true),
-        (&TAPE[..66], true),
-        (&TAPE, false),
-        (&refused, true),
-    ];
-    for (bytes, expected) in rows {
-        assert_eq!(rt; is_bad(rt.alloc(), bytes)?, expected, "{bytes:?}");
-    }
+    assert!(rt; is_bad(rt.alloc(), &refused)?);
     Ok(())
-}
-
-// The record of one account, and behind its closed gate another byte and that record without its gate.
-fn behind(alloc: Global) -> Result<Vec<u8>, AllocError> {
-    let mut bytes = Vec::from_slice(alloc, &TAPE[..66])?;
-    bytes.push(7)?;
-    bytes.extend_from_slice(&TAPE[1..])?;
-    Ok(bytes)
 }
 
 #[test]
 fn behind_a_closed_gate(rt: HostRuntime) -> Result<(), Fail> {
-    let bytes = behind(rt.alloc())?;
-    let mut host = host_of(rt.alloc(), &bytes)?;
-    assert!(rt; grows(rt.alloc(), &mut host, 93));
-    let tape = host.tape(Tape::A);
-    assert_eq!(rt; tape.len(), 133);
-    assert!(rt; tape.starts_with(&TAPE[..66]));
-    assert_eq!(rt; (tape.get(66), tape.get(97)), (Some(&1), Some(&2)));
+    let mut bytes = Vec::from_slice(rt.alloc(), &TAPE[..66])?;
+    bytes.push(7)?;
+    bytes.extend_from_slice(&TAPE[1..])?;
+    let mut host = MemHost::new(rt.alloc(), b"", &[], &[], &[])?;
+    host.fill(Tape::A, &bytes)?;
+    host.fill(Tape::Pick, &[1])?;
+    let store = one_more(rt.alloc(), &mut host).ok().ok_or("no fault")?;
+    assert_eq!(rt; store.size(), 93);
+    assert_eq!(rt; host.tape(Tape::A).len(), 133);
+    assert!(rt; host.tape(Tape::A).starts_with(&TAPE[..66]));
+    assert_eq!(rt; host.tape(Tape::A).get(66), Some(&1));
+    assert_eq!(rt; host.tape(Tape::A).get(97), Some(&2));
     Ok(())
-}
-
-fn is_done(alloc: Global, failing: u64) -> Result<bool, AllocError> {
-    let mut host = MemHost::new(alloc, b"", &[], &[], &[failing])?;
-    Ok(one_more(alloc, &mut host).is_ok())
 }
 
 #[test]
 fn disk_calls_fail(rt: HostRuntime) -> Result<(), Fail> {
     // to read `pick`, two lengths, two syncs, and two writes with a sync each
-    for call in 0..10u64 {
-        assert_eq!(rt; is_done(rt.alloc(), call)?, call == 9, "{call}");
+    for call in 0..9u64 {
+        let mut host = MemHost::new(rt.alloc(), b"", &[], &[], &[call])?;
+        assert!(rt; one_more(rt.alloc(), &mut host).is_err());
     }
+    let mut host = MemHost::new(rt.alloc(), b"", &[], &[], &[9])?;
+    assert!(rt; one_more(rt.alloc(), &mut host).is_ok());
     Ok(())
 }

@@ -1,7 +1,5 @@
 // Worked examples. The lengths are those of Unicode's examples of segmentation, the forms those of Python's unicodedata.
-use cad_syntax::Text;
 use cad_text::*;
-use std::alloc::Global;
 use std::cmp::Ordering;
 use std::test::Fail;
 
@@ -84,37 +82,29 @@ fn parts_are_cut_by_clusters(rt: HostRuntime) -> Result<(), Fail> {
 
 #[test]
 fn hexadecimal_forms(rt: HostRuntime) -> Result<(), Fail> {
-    let encoded: [(&[u8], &str); 2] = [(&[255], "ff"), (&[0, 171, 9], "00ab09")];
-    for (bytes, digits) in encoded {
-        assert_eq!(rt; encode_hex(rt.alloc(), bytes)?.as_str(), digits);
-    }
-    let decoded: [(&str, &[u8]); 2] = [("00aBFf", &[0, 171, 255]), ("", &[])];
-    for (digits, bytes) in decoded {
-        assert_eq!(rt; decode_hex(rt.alloc(), digits)?.as_slice(), bytes);
-    }
+    assert_eq!(rt; encode_hex(rt.alloc(), &[255])?.as_str(), "ff");
+    assert_eq!(rt; encode_hex(rt.alloc(), &[0, 171, 9])?.as_str(), "00ab09");
+    assert_eq!(rt;
+        decode_hex(rt.alloc(), "00aBFf")?.as_slice(),
+        [0, 171, 255].as_slice()
+    );
+    assert_eq!(rt; decode_hex(rt.alloc(), "")?.len(), 0);
     for text in ["zz", "0", "0g", "abc", "0x00", " 00", "\u{FF10}0"] {
         assert!(rt; decode_hex(rt.alloc(), text).is_err_and(|e| e == TextError::Hex));
     }
     Ok(())
 }
 
-/// The digits of as many zeros.
-fn zeros(alloc: Global, count: usize) -> Result<Text, TextError> {
-    let bytes = vec![in alloc; 0; count]?;
-    encode_hex(alloc, bytes.as_slice())
-}
-
-/// How long a text of 524,288 bytes' digits is with another text behind.
-fn length_with(alloc: Global, text: &str) -> Result<usize, TextError> {
-    let largest = zeros(alloc, 524_288)?;
-    Ok(concat(alloc, largest.as_str(), text)?.as_bytes().len())
-}
-
 #[test]
 fn texts_have_at_most_a_mebibyte(rt: HostRuntime) -> Result<(), Fail> {
-    assert_eq!(rt; length_with(rt.alloc(), "")?, 1_048_576);
-    assert!(rt; length_with(rt.alloc(), "a").is_err_and(|e| e == TextError::TooLarge));
-    assert!(rt; zeros(rt.alloc(), 524_289).is_err_and(|e| e == TextError::TooLarge));
+    let bytes = vec![in rt.alloc(); 0; 524_289]?;
+    let largest = encode_hex(rt.alloc(), &bytes.as_slice()[1..])?;
+    assert_eq!(rt;
+        concat(rt.alloc(), largest.as_str(), "")?.as_bytes().len(),
+        1_048_576
+    );
+    assert!(rt; encode_hex(rt.alloc(), bytes.as_slice()).is_err_and(|e| e == TextError::TooLarge));
+    assert!(rt; concat(rt.alloc(), largest.as_str(), "a").is_err_and(|e| e == TextError::TooLarge));
     assert_eq!(rt; concat(rt.alloc(), "a", "b")?.as_str(), "ab");
     Ok(())
 }

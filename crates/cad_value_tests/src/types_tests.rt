@@ -52,45 +52,29 @@ fn named(alloc: Global, name: &str) -> Result<CadType, AllocError> {
     if let Some(basic) = basic(name) {
         return Ok(CadType::Basic(basic));
     }
-    if name == "Capability" {
-        return Ok(CadType::Capability);
-    }
-    match interfaces_of(name) {
-        Some(names) => Ok(CadType::Intersection(ids(alloc, names)?)),
-        None => Ok(CadType::Declared(id(alloc, name)?)),
-    }
-}
-
-/// The names between the braces of an intersection.
-fn interfaces_of(name: &str) -> Option<&str> {
-    name.strip_prefix('{')?.strip_suffix('}')
-}
-
-/// A dictionary from texts.
-fn dictionary(alloc: Global, part: Box<CadType>) -> Result<CadType, AllocError> {
-    let key = Box::new(alloc, CadType::Basic(Basic::String))?;
-    Ok(CadType::Dictionary(key, part))
-}
-
-/// What a sign authorizes: the entitlements E `+`, E and F `*`, E or F `|`.
-fn authorized(alloc: Global, sign: u8) -> Result<Authorization, AllocError> {
-    match sign {
-        b'+' => Ok(Authorization::All(ids(alloc, "E")?)),
-        b'*' => Ok(Authorization::All(ids(alloc, "E,F")?)),
-        b'|' => Ok(Authorization::Any(ids(alloc, "E,F")?)),
-        _ => Ok(Authorization::Unauthorized),
+    match name {
+        "Capability" => Ok(CadType::Capability),
+        "{SI}" => Ok(CadType::Intersection(ids(alloc, "SI")?)),
+        "{RI}" => Ok(CadType::Intersection(ids(alloc, "RI")?)),
+        "{RJ}" => Ok(CadType::Intersection(ids(alloc, "RJ")?)),
+        "{RI,RJ}" => Ok(CadType::Intersection(ids(alloc, "RI,RJ")?)),
+        _ => Ok(CadType::Declared(id(alloc, name)?)),
     }
 }
 
-/// A type inside another: optional `?`, array `[`, dictionary from texts `:`, capability `C`, reference `&`, `+`, `*` or `|`.
+/// A type inside another: optional `?`, array `[`, dictionary from texts `:`, capability `C`, reference `&`, and with the
+/// entitlements E `+`, E and F `*`, E or F `|`.
 fn around(alloc: Global, sign: u8, t: CadType) -> Result<CadType, AllocError> {
     let part = Box::new(alloc, t)?;
     match sign {
         b'?' => Ok(CadType::Optional(part)),
         b'[' => Ok(CadType::Array(part)),
-        b':' => dictionary(alloc, part),
+        b':' => Ok(CadType::Dictionary(Box::new(alloc, CadType::Basic(Basic::String))?, part)),
         b'C' => Ok(CadType::CapabilityOf(part)),
-        _ => Ok(CadType::Reference(authorized(alloc, sign)?, part)),
+        b'+' => Ok(CadType::Reference(Authorization::All(ids(alloc, "E")?), part)),
+        b'*' => Ok(CadType::Reference(Authorization::All(ids(alloc, "E,F")?), part)),
+        b'|' => Ok(CadType::Reference(Authorization::Any(ids(alloc, "E,F")?), part)),
+        _ => Ok(CadType::Reference(Authorization::Unauthorized, part)),
     }
 }
 
@@ -116,24 +100,18 @@ fn sort(letter: &str) -> Sort {
     }
 }
 
-/// The types of a line's words behind the first three.
-fn fields(alloc: Global, line: &str) -> Result<Types, AllocError> {
-    let mut types = Types::new(alloc);
-    for word in line.split(' ').skip(3) {
-        types.push(typed(alloc, word)?)?;
-    }
-    Ok(types)
-}
-
 /// A declaration of a line: its name, its sort, its interfaces and the types of its fields.
 fn declaration(alloc: Global, line: &str) -> Result<Declared, AllocError> {
     let mut words = line.split(' ');
-    let name = words.next().unwrap_or("");
+    let id = id(alloc, words.next().unwrap_or(""))?;
     let sort = sort(words.next().unwrap_or(""));
     let interfaces = ids(alloc, words.next().unwrap_or(""))?;
-    let fields = fields(alloc, line)?;
+    let mut fields = Types::new(alloc);
+    for word in words {
+        fields.push(typed(alloc, word)?)?;
+    }
     Ok(Declared {
-        id: id(alloc, name)?,
+        id,
         sort,
         fields,
         interfaces,
@@ -148,18 +126,13 @@ fn declarations(alloc: Global, lines: &str) -> Result<Vec<Declared>, AllocError>
     Ok(declared)
 }
 
-/// The declared types of declarations, if they are closed.
-fn closed(alloc: Global, declared: Vec<Declared>) -> Result<Option<DeclaredTypes>, AllocError> {
+/// The declared types of lines, if they are closed.
+fn declared_types(alloc: Global, lines: &str) -> Result<Option<DeclaredTypes>, AllocError> {
+    let declared = declarations(alloc, lines)?;
     if is_closed(declared.as_slice()) {
         return Ok(Some(DeclaredTypes::new(alloc, declared)?));
     }
     Ok(None)
-}
-
-/// The declared types of lines that are closed.
-fn declared_types(alloc: Global, lines: &str) -> Result<DeclaredTypes, Fail> {
-    let declared = declarations(alloc, lines)?;
-    Ok(closed(alloc, declared)?.ok_or("they are not closed")?)
 }
 
 /// A struct with an interface, a resource with two, one of which has the other, and these interfaces.
@@ -227,7 +200,9 @@ fn is_row(declared_types: &DeclaredTypes, a: &CadType, types: &[CadType], row: &
 
 #[test]
 fn types_stand_in_their_order(rt: HostRuntime) -> Result<(), Fail> {
-    let declared_types = declared_types(rt.alloc(), INTERFACES)?;
+    let declared_types = declared_types(rt.alloc(), INTERFACES)?.ok_or(
+        "the interfaces are closed",
+    )?;
     let types = types(rt.alloc(), BELOW)?;
     assert_eq!(rt; types.len(), 32);
     for (a, line) in types.iter().zip(BELOW.lines()) {
@@ -294,7 +269,7 @@ C&/Int 100\n\
 
 #[test]
 fn types_are_judged(rt: HostRuntime) -> Result<(), Fail> {
-    let declared_types = declared_types(rt.alloc(), RECURSIVE)?;
+    let declared_types = declared_types(rt.alloc(), RECURSIVE)?.ok_or("there are no interfaces")?;
     for line in CLASSES.lines() {
         let (word, answers) = line.split_once(' ').unwrap_or((line, ""));
         let t = typed(rt.alloc(), word)?;
@@ -303,97 +278,76 @@ fn types_are_judged(rt: HostRuntime) -> Result<(), Fail> {
     Ok(())
 }
 
-/// How deep a type in bytes may nest.
-const DEEPEST: u32 = 1024;
-
-/// The type of a word with its signs again and again, the first innermost, until there are 1024; with no sign it is the name's.
-fn deep(alloc: Global, word: &str) -> Result<CadType, AllocError> {
-    let (signs, name) = word.split_once('/').unwrap_or(("", word));
+/// A type as deep as that inside types of the signs in turn.
+fn nested(alloc: Global, signs: &[u8; 4], name: &str, depth: usize) -> Result<CadType, AllocError> {
     let mut t = named(alloc, name)?;
-    for i in 0..1024usize {
-        if let Some(sign) = signs.as_bytes().get(i % 4) {
-            t = around(alloc, *sign, t)?;
-        }
+    for i in 0..depth {
+        t = around(alloc, signs[i % 4], t)?;
     }
     Ok(t)
 }
 
-/// Whether the first word's type is below the second's.
-fn is_below(
-    alloc: Global,
-    declared_types: &DeclaredTypes,
-    a: &str,
-    b: &str,
-) -> Result<bool, AllocError> {
-    let a = deep(alloc, a)?;
-    let b = deep(alloc, b)?;
-    Ok(is_subtype(declared_types, &a, &b))
-}
+/// How deep a type in bytes may nest.
+const DEEPEST: u32 = 1024;
 
 #[test]
 fn walks_go_1024_deep(rt: HostRuntime) -> Result<(), Fail> {
-    let declared_types = declared_types(rt.alloc(), RECURSIVE)?;
-    for (a, b, expected) in [
-        ("?[:&/Never", "?[:&/Ring", true),
-        ("?[:&/Ring", "?[:&/Never", false),
-        ("?[:&/Ring", "?[:&/Ring", true),
-        ("[:[:/Ring", "AnyResource", true),
-        ("[:[:/Ring", "AnyStruct", false),
-        ("[:[:/Never", "AnyResource", true),
-        ("[:[:/Never", "AnyStruct", true),
-    ] {
-        assert_eq!(rt;
-            is_below(rt.alloc(), &declared_types, a, b)?,
-            expected,
-            "{a} {b}"
-        );
-    }
+    let declared_types = declared_types(rt.alloc(), RECURSIVE)?.ok_or("there are no interfaces")?;
+    let ring = nested(rt.alloc(), b"?[:&", "Ring", 1024)?;
+    let never = nested(rt.alloc(), b"?[:&", "Never", 1024)?;
+    assert!(rt; is_subtype(&declared_types, &never, &ring));
+    assert!(rt; !is_subtype(&declared_types, &ring, &never));
+    assert!(rt; is_subtype(&declared_types, &ring, &ring));
+    let rings = nested(rt.alloc(), b"[:[:", "Ring", 1024)?;
+    assert!(rt; is_subtype(&declared_types, &rings, &CadType::Basic(Basic::AnyResource)));
+    assert!(rt; !is_subtype(&declared_types, &rings, &CadType::Basic(Basic::AnyStruct)));
+    assert!(rt; is_judged(&declared_types, &rings, "100"));
+    let nevers = nested(rt.alloc(), b"[:[:", "Never", 1024)?;
+    assert!(rt;
+        is_subtype(
+            &declared_types,
+            &nevers,
+            &CadType::Basic(Basic::AnyResource)
+        )
+    );
+    assert!(rt; is_subtype(&declared_types, &nevers, &CadType::Basic(Basic::AnyStruct)));
+    let trees = nested(rt.alloc(), b"?[:[", "Tree", 1024)?;
+    assert!(rt; is_judged(&declared_types, &trees, "111"));
+    assert_eq!(rt; trees.nesting(DEEPEST), Some(DEEPEST));
+    assert!(rt; is_resource(&declared_types, &rings));
     Ok(())
-}
-
-#[test]
-fn deep_types_are_judged(rt: HostRuntime) -> Result<(), Fail> {
-    let declared_types = declared_types(rt.alloc(), RECURSIVE)?;
-    for (word, answers, expected) in [("[:[:/Ring", "100", true), ("?[:[/Tree", "111", false)] {
-        let t = deep(rt.alloc(), word)?;
-        assert!(rt; is_judged(&declared_types, &t, answers), "{word}");
-        assert_eq!(rt; is_resource(&declared_types, &t), expected, "{word}");
-        assert_eq!(rt; t.nesting(DEEPEST), Some(DEEPEST), "{word}");
-    }
-    Ok(())
-}
-
-fn is_open(alloc: Global, lines: &str) -> Result<bool, AllocError> {
-    Ok(!is_closed(declarations(alloc, lines)?.as_slice()))
 }
 
 #[test]
 fn declarations_are_tested(rt: HostRuntime) -> Result<(), Fail> {
-    assert!(rt; is_open(rt.alloc(), "R R RJ\nRJ RI RI")?);
-    let declared_types = declared_types(rt.alloc(), INTERFACES)?;
+    let alloc = rt.alloc();
+    let open = declarations(alloc, "R R RJ\nRJ RI RI")?;
+    assert!(rt; !is_closed(open.as_slice()));
+    let declared_types = declared_types(alloc, INTERFACES)?.ok_or("the interfaces are closed")?;
+    assert!(rt; declared_types.find(&id(alloc, "R")?).is_some());
+    assert_eq!(rt; declared_types.interfaces(&id(alloc, "R")?).len(), 2);
     assert_eq!(rt; declared_types.declared().len(), 5);
-    let resource = id(rt.alloc(), "R")?;
-    assert!(rt; declared_types.find(&resource).is_some());
-    assert_eq!(rt; declared_types.interfaces(&resource).len(), 2);
-    let interface = id(rt.alloc(), "RI")?;
-    assert!(rt; declared_types.is_resource(&interface));
+    assert!(rt; declared_types.is_resource(&id(alloc, "RI")?));
     Ok(())
 }
 
 /// A struct whose field nests as deep as a type may.
-fn high(alloc: Global) -> Result<Vec<Declared>, AllocError> {
-    let mut declared = declarations(alloc, "High S .")?;
-    for d in &mut declared {
-        d.fields.push(deep(alloc, "?[:[/Int")?)?;
-    }
-    Ok(declared)
-}
-
 #[test]
 fn deep_fields_are_judged(rt: HostRuntime) -> Result<(), Fail> {
-    let declared = high(rt.alloc())?;
-    let declared_types = closed(rt.alloc(), declared)?.ok_or("it is closed")?;
-    let t = CadType::Declared(id(rt.alloc(), "High")?);
-    assert!(rt; is_judged(&declared_types, &t, "111"));
+    let alloc = rt.alloc();
+    let mut declared = declarations(alloc, "High S .")?;
+    for d in &mut declared {
+        d.fields.push(nested(alloc, b"?[:[", "Int", 1024)?)?;
+    }
+    if is_closed(declared.as_slice()) {
+        let declared_types = DeclaredTypes::new(alloc, declared)?;
+        assert!(rt;
+            is_judged(
+                &declared_types,
+                &CadType::Declared(id(alloc, "High")?),
+                "111"
+            )
+        );
+    }
     Ok(())
 }
