@@ -5,14 +5,14 @@ use crate::type_expr::{Dotted, Entitlements, TypeAnnotation};
 use cad_syntax::{Items, Name, Names};
 
 /// `import A, B from 0x1`
-#[derive(Debug, Drop, PartialEq, Eq)]
+#[derive(Debug, Drop)]
 pub struct Import {
     pub names: Names,
     pub address: u128,
 }
 
 /// Who may use a member.
-#[derive(Debug, Drop, PartialEq, Eq)]
+#[derive(Debug, Drop)]
 pub enum Access {
     /// `access(all)`
     All,
@@ -29,7 +29,7 @@ pub enum Access {
 }
 
 /// `to name: T`
-#[derive(Debug, Drop, PartialEq, Eq)]
+#[derive(Debug, Drop)]
 pub struct Parameter {
     pub label: Option<Name>,
     pub name: Name,
@@ -37,7 +37,7 @@ pub struct Parameter {
 }
 
 /// A condition before or after a function's body.
-#[derive(Debug, Drop, PartialEq, Eq)]
+#[derive(Debug, Drop)]
 pub enum Condition {
     /// `e: m`
     Test { test: Expr, message: Option<Expr> },
@@ -48,7 +48,7 @@ pub enum Condition {
 pub type Conditions = Vec<Condition>;
 
 /// A block with its conditions.
-#[derive(Debug, Drop, PartialEq, Eq)]
+#[derive(Debug, Drop)]
 pub struct FunctionBlock {
     pub pre: Option<Conditions>,
     pub post: Option<Conditions>,
@@ -56,7 +56,7 @@ pub struct FunctionBlock {
 }
 
 /// A function. In an interface it may have no block.
-#[derive(Debug, Drop, PartialEq, Eq)]
+#[derive(Debug, Drop)]
 pub struct Function {
     pub access: Access,
     pub is_view: bool,
@@ -67,7 +67,7 @@ pub struct Function {
 }
 
 /// An initializer.
-#[derive(Debug, Drop, PartialEq, Eq)]
+#[derive(Debug, Drop)]
 pub struct Init {
     pub is_view: bool,
     pub parameters: Vec<Parameter>,
@@ -75,7 +75,7 @@ pub struct Init {
 }
 
 /// A field. In an interface it may be neither `let` nor `var`.
-#[derive(Debug, Drop, PartialEq, Eq)]
+#[derive(Debug, Drop)]
 pub struct Field {
     pub access: Access,
     pub kind: Option<VariableKind>,
@@ -84,14 +84,14 @@ pub struct Field {
 }
 
 /// A parameter of an event. The event `ResourceDestroyed` alone has defaults, and one for each parameter.
-#[derive(Debug, Drop, PartialEq, Eq)]
+#[derive(Debug, Drop)]
 pub struct EventParameter {
     pub parameter: Parameter,
     pub default: Option<Expr>,
 }
 
 /// An event. Only `ResourceDestroyed` may have no access.
-#[derive(Debug, Drop, PartialEq, Eq)]
+#[derive(Debug, Drop)]
 pub struct Event {
     pub access: Option<Access>,
     pub name: Name,
@@ -104,7 +104,7 @@ pub enum CompositeKind {
     Resource,
 }
 
-#[derive(Debug, Drop, PartialEq, Eq)]
+#[derive(Debug, Drop)]
 pub enum CompositeMember {
     Field(Field),
     Function(Function),
@@ -113,7 +113,7 @@ pub enum CompositeMember {
 }
 
 /// A struct or a resource.
-#[derive(Debug, Drop, PartialEq, Eq)]
+#[derive(Debug, Drop)]
 pub struct Composite {
     pub access: Access,
     pub kind: CompositeKind,
@@ -122,14 +122,14 @@ pub struct Composite {
     pub members: Vec<CompositeMember>,
 }
 
-#[derive(Debug, Drop, PartialEq, Eq)]
+#[derive(Debug, Drop)]
 pub enum InterfaceMember {
     Field(Field),
     Function(Function),
 }
 
 /// An interface of structs or of resources.
-#[derive(Debug, Drop, PartialEq, Eq)]
+#[derive(Debug, Drop)]
 pub struct Interface {
     pub access: Access,
     pub kind: CompositeKind,
@@ -139,14 +139,14 @@ pub struct Interface {
 }
 
 /// A case of an enum.
-#[derive(Debug, Drop, PartialEq, Eq)]
+#[derive(Debug, Drop)]
 pub struct EnumCase {
     pub access: Access,
     pub name: Name,
 }
 
 /// An enum with the type of its raw values.
-#[derive(Debug, Drop, PartialEq, Eq)]
+#[derive(Debug, Drop)]
 pub struct Enum {
     pub access: Access,
     pub name: Name,
@@ -154,14 +154,14 @@ pub struct Enum {
     pub cases: Vec<EnumCase>,
 }
 
-#[derive(Debug, Drop, PartialEq, Eq)]
+#[derive(Debug, Drop)]
 pub struct Entitlement {
     pub access: Access,
     pub name: Name,
 }
 
 /// An item of an entitlement mapping.
-#[derive(Debug, Drop, PartialEq, Eq)]
+#[derive(Debug, Drop)]
 pub enum MappingItem {
     /// `include Identity`
     Identity,
@@ -170,14 +170,14 @@ pub enum MappingItem {
 }
 
 /// An entitlement mapping.
-#[derive(Debug, Drop, PartialEq, Eq)]
+#[derive(Debug, Drop)]
 pub struct Mapping {
     pub access: Access,
     pub name: Name,
     pub items: Vec<MappingItem>,
 }
 
-#[derive(Debug, Drop, PartialEq, Eq)]
+#[derive(Debug, Drop)]
 pub enum ContractMember {
     Field(Field),
     Function(Function),
@@ -190,7 +190,7 @@ pub enum ContractMember {
     Mapping(Mapping),
 }
 
-#[derive(Debug, Drop, PartialEq, Eq)]
+#[derive(Debug, Drop)]
 pub struct Contract {
     pub access: Access,
     pub name: Name,
@@ -198,7 +198,7 @@ pub struct Contract {
 }
 
 /// A field of a transaction.
-#[derive(Debug, Drop, PartialEq, Eq)]
+#[derive(Debug, Drop)]
 pub struct TransactionField {
     pub kind: VariableKind,
     pub name: Name,
@@ -206,13 +206,13 @@ pub struct TransactionField {
 }
 
 /// What a transaction does with the accounts of its signers.
-#[derive(Debug, Drop, PartialEq, Eq)]
+#[derive(Debug, Drop)]
 pub struct Prepare {
     pub parameters: Vec<Parameter>,
     pub body: Vec<Stmt>,
 }
 
-#[derive(Debug, Drop, PartialEq, Eq)]
+#[derive(Debug, Drop)]
 pub struct Transaction {
     pub parameters: Option<Vec<Parameter>>,
     pub fields: Vec<TransactionField>,
@@ -222,14 +222,14 @@ pub struct Transaction {
     pub post: Option<Conditions>,
 }
 
-#[derive(Debug, Drop, PartialEq, Eq)]
+#[derive(Debug, Drop)]
 pub enum Decl {
     Contract(Contract),
     Function(Function),
     Transaction(Transaction),
 }
 
-#[derive(Debug, Drop, PartialEq, Eq)]
+#[derive(Debug, Drop)]
 pub struct Program {
     pub imports: Vec<Import>,
     pub declarations: Vec<Decl>,

@@ -66,7 +66,7 @@ pub enum CastKind {
 
 /// An expression.
 #[cycle(expressions)]
-#[derive(Debug, Drop, PartialEq, Eq)]
+#[derive(Debug, Drop)]
 pub enum Expr {
     /// `1`, `0x1f`
     Whole {
@@ -121,7 +121,7 @@ pub enum Expr {
 
 /// An argument of a call: `e`, `n: e`
 #[cycle(expressions)]
-#[derive(Debug, Drop, PartialEq, Eq)]
+#[derive(Debug, Drop)]
 pub struct Argument {
     pub label: Option<Name>,
     pub value: Expr,
@@ -129,7 +129,7 @@ pub struct Argument {
 
 /// A pair of a dictionary: `k: v`
 #[cycle(expressions)]
-#[derive(Debug, Drop, PartialEq, Eq)]
+#[derive(Debug, Drop)]
 pub struct Entry {
     pub key: Expr,
     pub value: Expr,

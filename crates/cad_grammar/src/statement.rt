@@ -19,7 +19,7 @@ pub enum Transfer {
 }
 
 /// The test of an `if`.
-#[derive(Debug, Drop, PartialEq, Eq)]
+#[derive(Debug, Drop)]
 pub enum Test {
     Expr(Expr),
     /// `let a: T = e`
@@ -34,7 +34,7 @@ pub enum Test {
 
 /// A statement.
 #[cycle(statements)]
-#[derive(Debug, Drop, PartialEq, Eq)]
+#[derive(Debug, Drop)]
 pub enum Stmt {
     /// `let a: T <- e <- f`
     Variable {
@@ -76,7 +76,7 @@ pub enum Stmt {
 
 /// What stands behind `else`.
 #[cycle(statements)]
-#[derive(Debug, Drop, PartialEq, Eq)]
+#[derive(Debug, Drop)]
 pub enum Otherwise {
     /// There is no `else`.
     Nothing,
@@ -87,7 +87,7 @@ pub enum Otherwise {
 
 /// A case of a `switch`.
 #[cycle(statements)]
-#[derive(Debug, Drop, PartialEq, Eq)]
+#[derive(Debug, Drop)]
 pub struct Case {
     pub value: Expr,
     pub body: Vec<Stmt>,

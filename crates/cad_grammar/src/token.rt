@@ -83,7 +83,7 @@ pub enum Sign {
 }
 
 /// What a token is. A fixed literal is scaled by 10^8.
-#[derive(Debug, Drop, PartialEq, Eq)]
+#[derive(Debug, Drop)]
 pub enum TokenKind {
     Name(Name),
     Keyword(Keyword),
@@ -95,7 +95,7 @@ pub enum TokenKind {
 
 /// A token of a text: it stands at the bytes from `start` to before `end`, and `after_break` says whether a line feed
 /// stands between it and the token before it, or the text's begin.
-#[derive(Debug, Drop, PartialEq, Eq)]
+#[derive(Debug, Drop)]
 pub struct Token {
     pub kind: TokenKind,
     pub start: usize,

@@ -5,7 +5,7 @@ use cad_syntax::{Items, Names};
 pub type Dotted = Names;
 
 /// Entitlements: all of these, or any one of them.
-#[derive(Debug, Drop, PartialEq, Eq)]
+#[derive(Debug, Drop)]
 pub enum Entitlements {
     /// `E, F`
     All(Items<Dotted>),
@@ -15,7 +15,7 @@ pub enum Entitlements {
 
 /// A type.
 #[cycle(types)]
-#[derive(Debug, Drop, PartialEq, Eq)]
+#[derive(Debug, Drop)]
 pub enum TypeExpr {
     /// `T`, `A.T`, `T<U, V>`
     Named {
@@ -39,7 +39,7 @@ pub enum TypeExpr {
 
 /// A type, with `@` before it or without.
 #[cycle(types)]
-#[derive(Debug, Drop, PartialEq, Eq)]
+#[derive(Debug, Drop)]
 pub struct TypeAnnotation {
     pub is_resource: bool,
     pub written: TypeExpr,

@@ -45,18 +45,20 @@ pub(crate) fn told_program(alloc: Global, code: &str) -> Result<String, AllocErr
     }
 }
 
-// Whether two texts with `⇔` between them are programs of one tree.
-fn compared(alloc: Global, pair: &str) -> &'static str {
+// Whether two texts with `⇔` between them are programs of one tree, told by its printed form.
+fn compared(alloc: Global, pair: &str) -> Result<&'static str, AllocError> {
     let Some((one, other)) = pair.split_once(" ⇔ ") else {
-        return "no pair";
+        return Ok("no pair");
     };
     let Ok(first) = parse_program(alloc, one.as_bytes()) else {
-        return "no program";
+        return Ok("no program");
     };
     let Ok(second) = parse_program(alloc, other.as_bytes()) else {
-        return "no program";
+        return Ok("no program");
     };
-    if first == second { "same" } else { "other" }
+    let first = format!(in alloc; "{first:?}")?;
+    let second = format!(in alloc; "{second:?}")?;
+    Ok(if first == second { "same" } else { "other" })
 }
 
 /// The statements that a text begins with where so many nestings may be opened, and the number of tokens behind them.
@@ -119,7 +121,7 @@ pub(crate) fn told_type(
 fn told(alloc: Global, part: Part, code: &str) -> Result<String, AllocError> {
     match part {
         Part::Program => told_program(alloc, code),
-        Part::TwoPrograms => String::from_str(alloc, compared(alloc, code)),
+        Part::TwoPrograms => String::from_str(alloc, compared(alloc, code)?),
         Part::Statements => told_statements(alloc, 128, code),
         Part::Expression => told_expression(alloc, 0, code),
         Part::Type => told_type(alloc, TypePosition::Anywhere, code),
