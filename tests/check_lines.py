@@ -32,6 +32,16 @@ access(all) contract User {
     }
 }
 """
+LOST = """access(all) contract Token {
+    access(all) resource Vault {}
+    init() {
+        let v <- create Vault()
+        let w <- v
+        destroy w
+        destroy v
+    }
+}
+"""
 LOSER = """import Token from 0x1
 access(all) contract User {
     access(all) fun keep(flag: Bool) {
@@ -205,6 +215,8 @@ def listed():
     told = shown("User", 7, 13, "moves", "in User.keep, statement 3", "            let vault <- Token.empty()", " " * 12 + "^")
     yield asked("script", MAIN, [contract("Token", TOKEN), wrong]), rejected("moves", "User.keep", 3, 1), told
     yield asked("script", "#", [contract("Token", TOKEN), wrong, contract("Third", "#")]), rejected("moves", "User.keep", 3, 1), told
+    first = shown("Token", 7, 9, "moves", "in Token.init, statement 3", "        destroy v", "        ^")
+    yield asked("script", MAIN, [contract("Token", LOST)]), rejected("moves", "Token.init", 3, 0), first
     # contracts are judged in order: the one that is imported has to stand first
     absent = shown("User", 1, 8, "resolve", "in Token, statement 0", "import Token from 0x1", " " * 7 + "^")
     yield asked("script", MAIN, [contract("User", USER, "0x2"), contract("Token", TOKEN)]), rejected("resolve", "Token", 0, 0), absent
