@@ -194,30 +194,6 @@ access(all) event Ev(a: Int)
 }""")
 
 
-def named(beside, written):
-    """A script with a variable of a type, which is nil."""
-    sign = "<-" if written.startswith("@") else "="
-    end = "destroy x" if written.startswith("@") else ""
-    return script(f"import A from 0x1\naccess(all) fun main() {{\nlet x: {written} {sign} nil\n{end}\n}}", beside)
-
-
-DESTROYED = "event ResourceDestroyed()\n"
-
-
-def of_types():
-    """Rows of all types that a contract declares, and of what else it declares, which is no type."""
-    for written in ("A?", "{A.I}?", "@A.R?", "A.S?", "A.C?", "A.Ev?"):
-        yield accepted(named(ALL, written))
-    for written in ("A.E?", "A.M?", "A.I?", "A.R.ResourceDestroyed?", "A.red?"):
-        yield unresolved(named(ALL, written), "main")
-    twice = ALL["code"].replace(DESTROYED, DESTROYED + DESTROYED)
-    yield unresolved(deployed(twice, name="A"), "A.R.ResourceDestroyed")
-    for written in ("A?", "A.Moved?", "@{A.Receiver}?", "@A.Vault?"):
-        yield accepted(named(TOKEN, written))
-    for written in ("A.Withdraw?", "A.supply?", "A.empty?"):
-        yield unresolved(named(TOKEN, written), "main")
-
-
 ACCEPTED = [
     accepted(deployed(ALL["code"], name="A")),
     accepted(script("import A from 0x1\naccess(all) fun main() { let x: A.S? = nil\nlet y: {A.I}? = nil }", ALL)),
@@ -283,6 +259,33 @@ OF_TOKEN = [
     accepted(transaction(PUBLISH, TOKEN)),
     accepted(transaction(TRANSFER, TOKEN)),
 ]
+
+# ---- types, and what else is declared, which is no type
+
+
+def named(beside, written):
+    """A script with a variable of a type, which is nil."""
+    sign = "<-" if written.startswith("@") else "="
+    end = "destroy x" if written.startswith("@") else ""
+    return script(f"import A from 0x1\naccess(all) fun main() {{\nlet x: {written} {sign} nil\n{end}\n}}", beside)
+
+
+DESTROYED = "event ResourceDestroyed()\n"
+
+
+def of_types():
+    """Rows of all types that two contracts declare, and of other names."""
+    for written in ("A?", "{A.I}?", "@A.R?", "A.S?", "A.C?", "A.Ev?"):
+        yield accepted(named(ALL, written))
+    for written in ("A.E?", "A.M?", "A.I?", "A.R.ResourceDestroyed?", "A.red?"):
+        yield unresolved(named(ALL, written), "main")
+    twice = ALL["code"].replace(DESTROYED, DESTROYED + DESTROYED)
+    yield unresolved(deployed(twice, name="A"), "A.R.ResourceDestroyed")
+    for written in ("A?", "A.Moved?", "@{A.Receiver}?", "@A.Vault?"):
+        yield accepted(named(TOKEN, written))
+    for written in ("A.Withdraw?", "A.supply?", "A.empty?"):
+        yield unresolved(named(TOKEN, written), "main")
+
 
 # ---- defaults of interfaces
 
