@@ -83,6 +83,13 @@ def shown(name, line, column, phase, where, text, mark):
     return f"{name}:{line}:{column}: {phase}: {where}\n{text}\n{mark}"
 
 
+def shown_at(name, code, place, phase, where):
+    """The same of a place in the code, counted in characters from 0."""
+    start = code.rfind("\n", 0, place) + 1
+    space = "".join("\t" if character == "\t" else " " for character in code[start:place])
+    return shown(name, code.count("\n", 0, place) + 1, place - start + 1, phase, where, code[start:].split("\n")[0], space + "^")
+
+
 MAIN = "access(all) fun main() {}"
 
 
@@ -209,6 +216,69 @@ def programs():
     )
 
 
+# Statements in statements, with an expression over two lines and a statement in parentheses behind it.
+NESTED = """if a.length > 1 { C.g() } else if true {
+      let b = a["x"]
+        ?? 2
+      (b%s)
+    }"""
+OF_NESTED = """access(all) contract C {
+  access(all) fun f(a: {String: Int})%s {
+    %s
+  }
+  access(all) fun g() {}
+}"""
+LOSES_FIELD = """import Token from 0x1
+import C from 0x2
+transaction {
+  let vault: @Token.Vault
+  prepare() { self.vault <- Token.empty() }
+  execute {
+    let a = {"x": 1}
+    %s
+  }
+}"""
+LACKS_FUNCTION = """access(all) contract C {
+  access(all) struct interface I { access(all) fun g() }
+  access(all) struct S: I {
+    access(all) fun f() {
+      let a = 1
+    }
+  }
+}"""
+
+
+def statements():
+    """Lines whose code is refused at a statement in others, behind all of them, and at a declaration; its place is found by its text."""
+    code = "// ok\n\t/* é */ #"
+    byte = code.encode().index(b"#")
+    yield subject("C", code), rejected("lex", "", byte), shown_at("C", code, code.index("#"), "lex", f"byte {byte}")
+    code = OF_NESTED % ("", NESTED % " as Bool")
+    yield (
+        subject("C", code),
+        rejected("types", "C.f", 4),
+        shown_at("C", code, code.index("(b as Bool)"), "types", "in C.f, statement 4"),
+    )
+    code = OF_NESTED % (": Int", NESTED % "")
+    yield (
+        subject("C", code),
+        rejected("types", "C.f", 5),
+        shown_at("C", code, code.index("}\n  access(all) fun g"), "types", "in C.f, statement 5"),
+    )
+    beside = [contract("Token", TOKEN), contract("C", OF_NESTED % ("", NESTED % ""), "0x2")]
+    code = LOSES_FIELD % (NESTED % "")
+    yield (
+        asked("transaction", code, beside),
+        rejected("moves", "execute", 6),
+        shown_at("transaction", code, code.rindex("}\n}"), "moves", "in execute, statement 6"),
+    )
+    yield (
+        subject("C", LACKS_FUNCTION),
+        rejected("conformance", "C.S", 0),
+        shown_at("C", LACKS_FUNCTION, LACKS_FUNCTION.index("S: I"), "conformance", "in C.S, statement 0"),
+    )
+
+
 def listed():
     """Lines where a contract of the list is refused, or stands under another name."""
     wrong = contract("User", LOSER, "0x2")
@@ -232,6 +302,7 @@ def cases():
     for name, line in accepted():
         yield line, ACCEPTED, f"{name}: accepted"
     yield from programs()
+    yield from statements()
     yield from listed()
 
 

@@ -1,8 +1,6 @@
-//! Tests of parts of the checker: the tables of programs, when fields are set, and what diagnostics say.
+//! Tests of parts of the checker that no program shows: how many types contracts declare, and the fields of what is not declared.
 #![tactic(auto)]
 
-#[cfg(test)]
-mod diagnostics;
 #[cfg(test)]
 mod pure;
 #[cfg(test)]

@@ -107,13 +107,7 @@ fn is_read_as_typed(rt: &impl Abort, alloc: Global, level: Level, height: u32) -
 
 /// Whether it is where AnyStruct is expected.
 fn is_read_as_any(rt: &impl Abort, alloc: Global, level: Level, height: u32) -> bool {
-    is_read(
-        rt,
-        alloc,
-        &CadType::Basic(Basic::AnyStruct),
-        level,
-        height,
-    )
+    is_read(rt, alloc, &CadType::Basic(Basic::AnyStruct), level, height)
 }
 
 #[test]

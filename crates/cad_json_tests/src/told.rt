@@ -42,7 +42,8 @@ fn types(rt: &impl Abort, alloc: Global) -> Option<DeclaredTypes> {
     ];
     let mut all = Vec::new(alloc);
     for (sort, text) in sorts {
-        all.push(declared(rt, alloc, sort, text)).expect(rt, "memory");
+        all.push(declared(rt, alloc, sort, text))
+            .expect(rt, "memory");
     }
     if !is_closed(all.as_slice()) {
         return None;
