@@ -239,7 +239,10 @@ fn lent_tree(alloc: Global, lent: Option<Value>) -> Tree
     ensures { pure_tree result ≡ numbers.bool_tree (is_some (lent_of lent)) }
 {
     match lent {
-        Some(_) => bool_tree(alloc, true),
+        Some(reference) => {
+            drop(reference);
+            bool_tree(alloc, true)
+        }
         None => bool_tree(alloc, false),
     }
 }

@@ -157,7 +157,10 @@ fn read_optional(alloc: Global, inner: u32, reader: &mut Reader<'_>) -> Result<V
     let content = read_value(alloc, inner, reader)?;
     match Box::new(alloc, content) {
         Ok(b) => Ok(Value::Some(b)),
-        Err(_) => Err(DecodeError::Memory),
+        Err(refused) => {
+            drop(refused.value);
+            Err(DecodeError::Memory)
+        }
     }
 }
 
@@ -167,9 +170,29 @@ fn read_array(alloc: Global, inner: u32, reader: &mut Reader<'_>) -> Result<Valu
     ensures { ReadsAs pure_value result (spec.value_after (spec.value_at inner) form.Array reader.old) reader.new }
 {
     let element = read_whole_type(alloc, reader)?;
+    match read_list(alloc, inner, reader) {
+        Ok(values) => Ok(Value::Array {
+            element,
+            values: values.into_vec(),
+        }),
+        Err(error) => {
+            drop(element);
+            Err(error)
+        }
+    }
+}
+
+/// Reads values behind their count.
+#[cycle(reads)]
+fn read_list(
+    alloc: Global,
+    inner: u32,
+    reader: &mut Reader<'_>,
+) -> Result<Items<Value>, DecodeError>
+    ensures { ReadsAs (map pure_value) result (list_at (spec.value_at inner) reader.old) reader.new }
+{
     let count = reader.length()?;
-    let values = read_values(alloc, inner, count, reader)?.into_vec();
-    Ok(Value::Array { element, values })
+    read_values(alloc, inner, count, reader)
 }
 
 /// Reads so many values.
@@ -196,17 +219,42 @@ fn read_dictionary(alloc: Global, inner: u32, reader: &mut Reader<'_>) -> Result
     ensures { ReadsAs pure_value result (spec.value_after (spec.value_at inner) form.Dictionary reader.old) reader.new }
 {
     let key = read_whole_type(alloc, reader)?;
-    let value = read_whole_type(alloc, reader)?;
+    let value = match read_whole_type(alloc, reader) {
+        Ok(value) => value,
+        Err(error) => {
+            drop(key);
+            return Err(error);
+        }
+    };
+    match read_keyed(alloc, inner, reader) {
+        Ok(entries) => Ok(Value::Dictionary {
+            key,
+            value,
+            entries: entries.into_vec(),
+        }),
+        Err(error) => {
+            drop(key);
+            drop(value);
+            Err(error)
+        }
+    }
+}
+
+/// Reads entries behind their count.
+#[cycle(reads)]
+fn read_keyed(
+    alloc: Global,
+    inner: u32,
+    reader: &mut Reader<'_>,
+) -> Result<Items<DictionaryEntry>, DecodeError>
+    ensures { ReadsAs (map pure_entry) result (tested_at (list_at (spec.entry_at (spec.value_at inner))) spec.keys_differ reader.old) reader.new }
+{
     let count = reader.length()?;
     let entries = read_entries(alloc, inner, count, reader)?;
     if !keys_differ(alloc, entries.as_slice())? {
         return Err(DecodeError::Damaged);
     }
-    Ok(Value::Dictionary {
-        key,
-        value,
-        entries: entries.into_vec(),
-    })
+    Ok(entries)
 }
 
 /// Reads a key and what stands under it.
@@ -219,8 +267,13 @@ fn read_entry(
     ensures { ReadsAs pure_entry result (spec.entry_at (spec.value_at inner) reader.old) reader.new }
 {
     let key = read_value(alloc, inner, reader)?;
-    let value = read_value(alloc, inner, reader)?;
-    Ok(DictionaryEntry { key, value })
+    match read_value(alloc, inner, reader) {
+        Ok(value) => Ok(DictionaryEntry { key, value }),
+        Err(error) => {
+            drop(key);
+            Err(error)
+        }
+    }
 }
 
 /// Reads so many entries.
@@ -299,6 +352,7 @@ fn read_all(alloc: Global, bytes: &[u8]) -> Result<Value, DecodeError>
     let mut reader = Reader::new(bytes);
     let value = read_value(alloc, MOST_HIGH, &mut reader)?;
     if reader.left() > 0 {
+        drop(value);
         return Err(DecodeError::Damaged);
     }
     Ok(value)
@@ -322,6 +376,7 @@ fn read_all_of_type(alloc: Global, bytes: &[u8]) -> Result<CadType, DecodeError>
     let mut reader = Reader::new(bytes);
     let t = read_whole_type(alloc, &mut reader)?;
     if reader.left() > 0 {
+        drop(t);
         return Err(DecodeError::Damaged);
     }
     Ok(t)

@@ -194,7 +194,10 @@ fn boxed(alloc: Global, t: CadType) -> Result<Box<CadType>, DecodeError>
 {
     match Box::new(alloc, t) {
         Ok(b) => Ok(b),
-        Err(_) => Err(DecodeError::Memory),
+        Err(refused) => {
+            drop(refused.value);
+            Err(DecodeError::Memory)
+        }
     }
 }
 

@@ -244,7 +244,10 @@ fn enum_type(
     ensures { IfOk result (λ t. type_entry_of t ≡ spec.enum_type (scope_of scope.entry) links.now id (tree.enum_of x.now)) }
 {
     let interfaces = linearised(alloc, links, &id)?;
-    let raw = raw_kind(&raw_type(alloc, scope, &x.raw)?);
+    let written = raw_type(alloc, scope, &x.raw)?;
+    let raw = raw_kind(&written);
+    drop(written);
+    let cases = case_names(alloc, x.cases.as_slice())?;
     Ok(TypeDeclaration {
         id,
         sort: Sort::Enum,
@@ -252,7 +255,7 @@ fn enum_type(
         interfaces,
         members: Vec::new(alloc),
         initializer: None,
-        cases: case_names(alloc, x.cases.as_slice())?,
+        cases,
         raw,
     })
 }

@@ -117,8 +117,16 @@ fn call_plain_function(
     ensures { IfOk result (λ c. call_view c ≡ spec.call_builtin (environment_of env.entry) classes.void (map pure_type types.items) member (map pure_type types.items)) }
 {
     let void = CadType::Basic(Basic::Void);
-    let parameters = parameters_with(alloc, env, member, &void, types.as_slice())?;
-    let outcome = result_without(alloc, env, &void, types.as_slice(), member)?;
+    let parameters = match parameters_with(alloc, env, member, &void, types.as_slice()) {
+        Ok(parameters) => parameters,
+        Err(error) => {
+            discard_type(void);
+            return Err(error);
+        }
+    };
+    let found = result_without(alloc, env, &void, types.as_slice(), member);
+    discard_type(void);
+    let outcome = found?;
     Ok(Call {
         hidden: None,
         callee: Callee::Builtin(member, types),
@@ -132,21 +140,23 @@ fn call_plain_function(
 fn call_meta(alloc: Global, env: Environment<'_>, types: Vec<CadType>) -> Result<Call, AllocError>
     ensures { IfOk result (λ c. call_view c ≡ spec.call_built_in_function (environment_of env.entry) m.MetaType (map pure_type types.items)) }
 {
-    let outcome = result_without(
-        alloc,
-        env,
-        &CadType::Basic(Basic::Void),
-        &[],
-        Builtin::MetaType,
-    )?;
-    let callee = Callee::Type(one_type(types.as_slice())?);
-    Ok(Call {
-        hidden: None,
-        callee,
-        parameters: Vec::new(alloc),
-        count: Count::Exactly,
-        outcome,
-    })
+    let void = CadType::Basic(Basic::Void);
+    let found = result_without(alloc, env, &void, &[], Builtin::MetaType);
+    discard_type(void);
+    let outcome = found?;
+    match one_type(types.as_slice()) {
+        Ok(first) => Ok(Call {
+            hidden: None,
+            callee: Callee::Type(first),
+            parameters: Vec::new(alloc),
+            count: Count::Exactly,
+            outcome,
+        }),
+        Err(error) => {
+            discard_type(outcome);
+            Err(error)
+        }
+    }
 }
 
 /// A built-in function with its type arguments; `Type<T>()` is none that is called.

@@ -86,9 +86,7 @@ fn built_in_parameters(
         BuiltinParameters::Nothing => Ok(Vec::new(alloc)),
         BuiltinParameters::One(only) => one_parameter(alloc, built_in_parameter(only)),
         BuiltinParameters::Two(first, second) => {
-            let mut all = one_parameter(alloc, built_in_parameter(first))?;
-            all.push(built_in_parameter(second))?;
-            Ok(all)
+            two_parameters(alloc, built_in_parameter(first), second)
         }
     }
 }
@@ -100,6 +98,27 @@ fn one_parameter(alloc: Global, only: Parameter) -> Result<Vec<Parameter>, Alloc
     let mut all = Vec::new(alloc);
     all.push(only)?;
     Ok(all)
+}
+
+/// A parameter, and one of a built-in member behind it.
+fn two_parameters(
+    alloc: Global,
+    first: Parameter,
+    second: BuiltinParameter,
+) -> Result<Vec<Parameter>, AllocError>
+    ensures { IfOk result (λ all. map parameter_view all.items ≡ parameter_view first ∷ spec.built_in_parameter (builtin_parameter_of second) ∷ []) }
+{
+    match one_parameter(alloc, first) {
+        Ok(one) => {
+            let mut all = one;
+            all.push(built_in_parameter(second))?;
+            Ok(all)
+        }
+        Err(error) => {
+            drop(second);
+            Err(error)
+        }
+    }
 }
 
 /// A parameter without a label.
@@ -156,11 +175,14 @@ fn any_saved(alloc: Global, wanted: BuiltinParameters) -> Result<Vec<Parameter>,
 {
     let any = plain_parameter(Takes::AnyStorable);
     match wanted {
-        BuiltinParameters::Nothing | BuiltinParameters::One(_) => one_parameter(alloc, any),
-        BuiltinParameters::Two(_, second) => {
-            let mut all = one_parameter(alloc, any)?;
-            all.push(built_in_parameter(second))?;
-            Ok(all)
+        BuiltinParameters::Nothing => one_parameter(alloc, any),
+        BuiltinParameters::One(only) => {
+            drop(only);
+            one_parameter(alloc, any)
+        }
+        BuiltinParameters::Two(first, second) => {
+            drop(first);
+            two_parameters(alloc, any, second)
         }
     }
 }
@@ -176,6 +198,8 @@ pub(crate) fn parameters_with(
     ensures { IfOk result (λ all. map parameter_view all.items ≡ spec.parameters_with (environment_of env.entry) member (pure_type on.now) (map pure_type types.now)) }
 {
     let argument = one_type(types)?;
-    let wanted = parameters_of(alloc, env.kinds(), on, &argument, member)?;
+    let found = parameters_of(alloc, env.kinds(), on, &argument, member);
+    drop(argument);
+    let wanted = found?;
     saved_parameters(alloc, type_rule(member), types, wanted)
 }

@@ -34,8 +34,15 @@ pub fn import(
     let Some(value) = read(alloc, shapes, want, json)? else {
         return Ok(None);
     };
-    if !fits(alloc, shapes, &value, want)? {
-        return Ok(None);
+    match fits(alloc, shapes, &value, want) {
+        Ok(true) => Ok(Some(value)),
+        Ok(false) => {
+            drop(value);
+            Ok(None)
+        }
+        Err(error) => {
+            drop(value);
+            Err(error)
+        }
     }
-    Ok(Some(value))
 }

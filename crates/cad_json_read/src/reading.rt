@@ -162,12 +162,17 @@ fn read_dictionary(
         return Ok(None);
     };
     let key = key_want.clone()?;
-    let value = value_want.clone()?;
-    Ok(Some(Value::Dictionary {
-        key,
-        value,
-        entries,
-    }))
+    match value_want.clone() {
+        Ok(value) => Ok(Some(Value::Dictionary {
+            key,
+            value,
+            entries,
+        })),
+        Err(error) => {
+            drop(key);
+            Err(error)
+        }
+    }
 }
 
 /// A key and what stands under it.
@@ -188,10 +193,17 @@ fn read_entry(
     let Some(key) = read_value(alloc, shapes, inner, key_want, first)? else {
         return Ok(None);
     };
-    let Some(value) = read_value(alloc, shapes, inner, value_want, second)? else {
-        return Ok(None);
-    };
-    Ok(Some(DictionaryEntry { key, value }))
+    match read_value(alloc, shapes, inner, value_want, second) {
+        Ok(Some(value)) => Ok(Some(DictionaryEntry { key, value })),
+        Ok(None) => {
+            drop(key);
+            Ok(None)
+        }
+        Err(error) => {
+            drop(key);
+            Err(error)
+        }
+    }
 }
 
 /// The entries of a dictionary.
@@ -284,8 +296,13 @@ fn read_field(
     let Some(value) = read_value(alloc, shapes, inner, &field.is, json)? else {
         return Ok(None);
     };
-    let name = field.name.clone()?;
-    Ok(Some(CompositeField { name, value }))
+    match field.name.clone() {
+        Ok(name) => Ok(Some(CompositeField { name, value })),
+        Err(error) => {
+            drop(value);
+            Err(error)
+        }
+    }
 }
 
 /// The fields of a composite, as many as are declared.

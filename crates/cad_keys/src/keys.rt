@@ -88,7 +88,13 @@ impl Keys {
         ensures { OnOk result (self.new ≡ self.old ++ key ∷ []) }
     {
         let alloc = *self.rows.allocator();
-        let index = grown(alloc, self.index.take(), self.rows.as_slice(), &key)?;
+        let index = match grown(alloc, self.index.take(), self.rows.as_slice(), &key) {
+            Ok(index) => index,
+            Err(error) => {
+                drop(key);
+                return Err(error);
+            }
+        };
         self.rows.push(key)?;
         self.index = index;
         Ok(())

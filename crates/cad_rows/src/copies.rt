@@ -37,12 +37,17 @@ fn copy_reference(reference: &Reference) -> Result<Value, AllocError>
 {
     let authorization = reference.authorization.clone()?;
     let target = reference.target.clone()?;
-    let to = copy_target(&reference.to)?;
-    Ok(Value::Reference(Reference {
-        authorization,
-        target,
-        to,
-    }))
+    match copy_target(&reference.to) {
+        Ok(to) => Ok(Value::Reference(Reference {
+            authorization,
+            target,
+            to,
+        })),
+        Err(error) => {
+            drop(target);
+            Err(error)
+        }
+    }
 }
 
 fn copy_capability(cap: &Cap) -> Result<Value, AllocError>
@@ -106,6 +111,21 @@ pub fn field_of(name: Name, value: Value) -> CompositeField
     CompositeField { name, value }
 }
 
+/// Copies of the types of keys and of what stands under them.
+fn copy_types(key: &CadType, value: &CadType) -> Result<(CadType, CadType), AllocError>
+    ensures key { IfOk result (λ both. pure_type both.0 ≡ pure_type key.now) }
+    ensures value { IfOk result (λ both. pure_type both.1 ≡ pure_type value.now) }
+{
+    let key = key.clone()?;
+    match value.clone() {
+        Ok(value) => Ok((key, value)),
+        Err(error) => {
+            drop(key);
+            Err(error)
+        }
+    }
+}
+
 /// A copy of a value. It goes as deep as the value is high.
 #[cycle(copies)]
 pub fn copy_value(alloc: Global, value: &Value) -> Result<Value, AllocError>
@@ -123,19 +143,12 @@ pub fn copy_value(alloc: Global, value: &Value) -> Result<Value, AllocError>
         Value::Path(path) => Ok(Value::Path(path.clone()?)),
         Value::Meta(t) => Ok(Value::Meta(t.clone()?)),
         Value::Capability(cap) => copy_capability(cap),
-        Value::Array { element, values } => {
-            let element = element.clone()?;
-            Ok(array_value(element, copy_values(alloc, values.as_slice())?))
-        }
+        Value::Array { element, values } => copy_array(alloc, values.as_slice(), element),
         Value::Dictionary {
             key,
             value,
             entries,
-        } => {
-            let key = key.clone()?;
-            let value = value.clone()?;
-            Ok(dictionary_value(key, value, copy_entries(alloc, entries.as_slice())?))
-        }
+        } => copy_dictionary(alloc, entries.as_slice(), key, value),
         Value::Composite {
             id,
             identity,
@@ -145,6 +158,42 @@ pub fn copy_value(alloc: Global, value: &Value) -> Result<Value, AllocError>
             Ok(composite_value(id, *identity, copy_fields(alloc, fields.as_slice())?))
         }
         Value::Reference(reference) => copy_reference(reference),
+    }
+}
+
+/// A copy of an array.
+#[cycle(copies)]
+fn copy_array(alloc: Global, values: &[Value], element: &CadType) -> Result<Value, AllocError>
+    ensures { IfOk result (λ x. pure_value x ≡ v.array (pure_type element.now) (values_of (map pure_value values.now))) }
+{
+    let element = element.clone()?;
+    match copy_values(alloc, values) {
+        Ok(copies) => Ok(array_value(element, copies)),
+        Err(error) => {
+            drop(element);
+            Err(error)
+        }
+    }
+}
+
+/// A copy of a dictionary.
+#[cycle(copies)]
+fn copy_dictionary(
+    alloc: Global,
+    entries: &[DictionaryEntry],
+    key: &CadType,
+    value: &CadType,
+) -> Result<Value, AllocError>
+    ensures { IfOk result (λ x. pure_value x ≡ v.dictionary (pure_type key.now) (pure_type value.now) (entries_of (map pure_entry entries.now))) }
+{
+    let (key, value) = copy_types(key, value)?;
+    match copy_entries(alloc, entries) {
+        Ok(copies) => Ok(dictionary_value(key, value, copies)),
+        Err(error) => {
+            drop(key);
+            drop(value);
+            Err(error)
+        }
     }
 }
 
@@ -170,7 +219,13 @@ fn copy_entries(
     let mut copies = Vec::new(alloc);
     for entry in entries {
         let key = copy_value(alloc, &entry.key)?;
-        copies.push(entry_of(key, copy_value(alloc, &entry.value)?))?;
+        match copy_value(alloc, &entry.value) {
+            Ok(value) => copies.push(entry_of(key, value))?,
+            Err(error) => {
+                drop(key);
+                return Err(error);
+            }
+        }
     }
     Ok(copies)
 }
@@ -196,6 +251,26 @@ fn copy_keys(alloc: Global, keys: &Keys) -> Result<Keys, AllocError>
     Ok(list)
 }
 
+/// A copy of the shape of a dictionary.
+fn copy_keyed(
+    alloc: Global,
+    keys: &Keys,
+    key: &CadType,
+    value: &CadType,
+) -> Result<Shape, AllocError>
+    ensures { IfOk result (λ x. pure_shape x ≡ spec.dictionary (pure_type key.now) (pure_type value.now) (map pure_value keys.now)) }
+{
+    let (key, value) = copy_types(key, value)?;
+    match copy_keys(alloc, keys) {
+        Ok(keys) => Ok(Shape::Dictionary { key, value, keys }),
+        Err(error) => {
+            drop(key);
+            drop(value);
+            Err(error)
+        }
+    }
+}
+
 /// A copy of a shape.
 pub fn copy_shape(alloc: Global, shape: &Shape) -> Result<Shape, AllocError>
     ensures { IfOk result (λ x. pure_shape x ≡ pure_shape shape.now) }
@@ -212,12 +287,7 @@ pub fn copy_shape(alloc: Global, shape: &Shape) -> Result<Shape, AllocError>
             sees: *sees,
         }),
         Shape::Array(element) => Ok(Shape::Array(element.clone()?)),
-        Shape::Dictionary { key, value, keys } => {
-            let key = key.clone()?;
-            let value = value.clone()?;
-            let keys = copy_keys(alloc, keys)?;
-            Ok(Shape::Dictionary { key, value, keys })
-        }
+        Shape::Dictionary { key, value, keys } => copy_keyed(alloc, keys, key, value),
         Shape::Composite {
             id,
             identity,

@@ -191,10 +191,19 @@ pub fn formed_type(
     let Some(found) = resolved_type(alloc, scope, written)? else {
         return Ok(None);
     };
-    if has_right_arguments(written, alloc, scope)? && is_formed(scope.types, &found) {
-        Ok(Some(found))
-    } else {
-        Ok(None)
+    match has_right_arguments(written, alloc, scope) {
+        Ok(right) => {
+            if right && is_formed(scope.types, &found) {
+                Ok(Some(found))
+            } else {
+                drop(found);
+                Ok(None)
+            }
+        }
+        Err(error) => {
+            drop(found);
+            Err(error)
+        }
     }
 }
 
@@ -212,6 +221,7 @@ pub fn resolved_annotation(
     if is_same_truth(annotation.is_resource, is_resource(scope.types, &found)) {
         Ok(Some(found))
     } else {
+        drop(found);
         Ok(None)
     }
 }

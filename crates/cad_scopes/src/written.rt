@@ -39,7 +39,10 @@ fn if_shallow(found: CadType) -> Option<CadType>
 {
     match found.nesting(DEEPEST) {
         Some(_) => Some(found),
-        None => None,
+        None => {
+            drop(found);
+            None
+        }
     }
 }
 
@@ -111,6 +114,22 @@ fn intersection_of(ids: Option<TypeIds>) -> Option<CadType>
     }
 }
 
+fn boxed_dictionary(alloc: Global, key: CadType, value: CadType) -> Result<CadType, AllocError>
+    ensures { IfOk result (λ t. pure_type t ≡ types.dictionary (pure_type key) (pure_type value)) }
+{
+    match Box::new(alloc, key) {
+        Ok(key) => {
+            let value = Box::new(alloc, value)?;
+            Ok(CadType::Dictionary(key, value))
+        }
+        Err(refused) => {
+            drop(refused.value);
+            drop(value);
+            Err(AllocError)
+        }
+    }
+}
+
 fn dictionary_of(
     alloc: Global,
     key: Option<CadType>,
@@ -120,14 +139,16 @@ fn dictionary_of(
 {
     match key {
         Some(key) => match value {
-            Some(value) => {
-                let key = Box::new(alloc, key)?;
-                let value = Box::new(alloc, value)?;
-                Ok(Some(CadType::Dictionary(key, value)))
+            Some(value) => Ok(Some(boxed_dictionary(alloc, key, value)?)),
+            None => {
+                drop(key);
+                Ok(None)
             }
-            None => Ok(None),
         },
-        None => Ok(None),
+        None => {
+            drop(value);
+            Ok(None)
+        }
     }
 }
 
@@ -140,9 +161,16 @@ fn referenced(
 ) -> Result<Option<CadType>, AllocError>
     ensures { IfOk result (λ t. option_map pure_type t ≡ spec.option_both types.reference (spec.resolved_authorization (scope_of scope.entry) (option_copied entitlements.entry)) (option_map pure_type target)) }
 {
-    match resolved_authorization(alloc, scope, entitlements)? {
-        Some(authorization) => reference_to(alloc, authorization, target),
-        None => Ok(None),
+    match resolved_authorization(alloc, scope, entitlements) {
+        Ok(Some(authorization)) => reference_to(alloc, authorization, target),
+        Ok(None) => {
+            drop(target);
+            Ok(None)
+        }
+        Err(error) => {
+            drop(target);
+            Err(error)
+        }
     }
 }
 

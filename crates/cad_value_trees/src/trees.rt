@@ -72,6 +72,15 @@ fn copy_keys(alloc: Global, entries: &[DictionaryEntry]) -> Result<Vec<Value>, A
     Ok(keys)
 }
 
+/// Copies of the keys of entries, as a dictionary has them.
+fn keys_in(alloc: Global, entries: &[DictionaryEntry]) -> Result<Keys, AllocError>
+    ensures { IfOk result (λ ks. map pure_value ks ≡ v.keys (entries_of (map pure_entry entries.now))) }
+{
+    let copies = copy_keys(alloc, entries)?;
+    let keys = Keys::from_vec(alloc, copies)?;
+    Ok(keys)
+}
+
 /// Adds a copy of the name of a field.
 fn push_name(field: &CompositeField, names: &mut Names) -> Result<(), AllocError>
     ensures { OnOk result (names.new ≡ names.old ++ (pure_field field.now).name ∷ []) }
@@ -107,10 +116,21 @@ fn dictionary_shape(
     ensures { IfOk result (λ s. pure_shape s ≡ r.dictionary (pure_type key.now) (pure_type value.now) (v.keys (entries_of (map pure_entry entries.now)))) }
 {
     let key = key.clone()?;
-    let value = value.clone()?;
-    let copies = copy_keys(alloc, entries)?;
-    let keys = Keys::from_vec(alloc, copies)?;
-    Ok(Shape::Dictionary { key, value, keys })
+    let value = match value.clone() {
+        Ok(value) => value,
+        Err(error) => {
+            drop(key);
+            return Err(error);
+        }
+    };
+    match keys_in(alloc, entries) {
+        Ok(keys) => Ok(Shape::Dictionary { key, value, keys }),
+        Err(error) => {
+            drop(key);
+            drop(value);
+            Err(error)
+        }
+    }
 }
 
 /// The shape of a composite of fields.

@@ -37,9 +37,16 @@ fn push_entry(
 ) -> Result<(), AllocError>
     ensures { OnOk result (map pure_entry entries.new.items ≡ map pure_entry entries.old.items ++ (record { key = pure_value key.now; value = pure_value value }) ∷ []) }
 {
-    let key = copy_value(alloc, key)?;
-    entries.push(entry_of(key, value))?;
-    Ok(())
+    match copy_value(alloc, key) {
+        Ok(key) => {
+            entries.push(entry_of(key, value))?;
+            Ok(())
+        }
+        Err(error) => {
+            drop(value);
+            Err(error)
+        }
+    }
 }
 
 /// Entries of copies of keys and of values, as many as there are both of.
@@ -65,9 +72,16 @@ fn keyed(
 fn push_field(name: &Name, value: Value, fields: &mut Vec<CompositeField>) -> Result<(), AllocError>
     ensures { OnOk result (map pure_field fields.new.items ≡ map pure_field fields.old.items ++ (record { name = name.now; value = pure_value value }) ∷ []) }
 {
-    let name = name.clone()?;
-    fields.push(field_of(name, value))?;
-    Ok(())
+    match name.clone() {
+        Ok(name) => {
+            fields.push(field_of(name, value))?;
+            Ok(())
+        }
+        Err(error) => {
+            drop(value);
+            Err(error)
+        }
+    }
 }
 
 /// Fields of copies of names and of values, as many as there are both of.
@@ -115,7 +129,13 @@ fn shaped(alloc: Global, shape: &Shape, values: Vec<Value>) -> Result<Value, All
         Shape::Dictionary { key, value, keys } => {
             let entries = keyed(alloc, keys.as_slice(), values)?;
             let key = key.clone()?;
-            Ok(dictionary_value(key, value.clone()?, entries))
+            match value.clone() {
+                Ok(value) => Ok(dictionary_value(key, value, entries)),
+                Err(error) => {
+                    drop(key);
+                    Err(error)
+                }
+            }
         }
         Shape::Composite {
             id,

@@ -14,5 +14,5 @@ invariant_of-self-in_err-push c = kept_none _ _ c.take.ensures.after
 
 pub invariant_of-self-2 : goal.invariant_of-self-2
 invariant_of-self-2 c =
-    kept_as c.in_ok-index.index c.in_ok-index.index (c.as_slice.result.now ++ c.args.key ∷ []) _ c.in_ok-index.ensures refl
+    kept_as c.in-Ok.index c.in-Ok.index (c.as_slice.result.now ++ c.args.key ∷ []) _ c.in-Ok.ensures refl
     (c.in_ok-push.ensures.items ∙ ap (λ (xs : List Value). xs ++ c.args.key ∷ []) (sym c.as_slice.ensures.value))
