@@ -31,7 +31,14 @@ pub enum Tail {
 pub fn extend(alloc: Global, a: Expr, tail: Tail) -> Result<Expr, AllocError>
     ensures { IfOk result (λ e. expr_of e ≡ grammar.extend (expr_of a) (tail_of tail)) }
 {
-    let a = Box::new(alloc, a)?;
+    let a = match Box::new(alloc, a) {
+        Ok(a) => a,
+        Err(refused) => {
+            drop(refused.value);
+            drop(tail);
+            return Err(AllocError);
+        }
+    };
     match tail {
         Tail::Operated(operator, b) => Ok(Expr::Binary(operator, a, Box::new(alloc, b)?)),
         Tail::CastTo(kind, to) => Ok(Expr::Cast(kind, a, to)),
@@ -90,9 +97,11 @@ pub fn cast_tail(alloc: Global, spot: Spot<'_>) -> Result<Option<(Tail, Spot<'_>
         return Ok(None);
     };
     if question(TypePosition::BehindAs, rest).is_some() {
+        drop(to);
         return Ok(None);
     }
     if questions(TypePosition::BehindAs, rest).is_some() {
+        drop(to);
         return Ok(None);
     }
     Ok(Some((Tail::CastTo(kind, to), rest)))
@@ -140,9 +149,11 @@ pub fn as_type(alloc: Global, spot: Spot<'_>) -> Result<Option<(TypeExpr, Spot<'
         return Ok(None);
     };
     if question(TypePosition::BehindAs, rest).is_some() {
+        drop(to);
         return Ok(None);
     }
     if questions(TypePosition::BehindAs, rest).is_some() {
+        drop(to);
         return Ok(None);
     }
     Ok(Some((to, rest)))
