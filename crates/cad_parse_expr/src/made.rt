@@ -6,7 +6,7 @@ ghost use Rattle.cad_grammar.specs.Views.{expr_of, type_of};
 use cad_grammar::{BinaryOperator, Expr, TypeExpr};
 use std::alloc::{AllocError, Global};
 
-fn boxed(alloc: Global, a: Expr) -> Result<Box<Expr>, AllocError>
+pub fn boxed(alloc: Global, a: Expr) -> Result<Box<Expr>, AllocError>
     ensures { IfOk result (λ b. b.value ≡ a) }
 {
     match Box::new(alloc, a) {
@@ -18,17 +18,25 @@ fn boxed(alloc: Global, a: Expr) -> Result<Box<Expr>, AllocError>
     }
 }
 
-/// An operator over two expressions.
-pub fn binary(alloc: Global, operator: BinaryOperator, a: Expr, b: Expr) -> Result<Expr, AllocError>
-    ensures { IfOk result (λ e. expr_of e ≡ tree.binary operator (expr_of a) (expr_of b)) }
+pub fn boxed_both(alloc: Global, a: Expr, b: Expr) -> Result<(Box<Expr>, Box<Expr>), AllocError>
+    ensures left { IfOk result (λ both. both.0.value ≡ a) }
+    ensures right { IfOk result (λ both. both.1.value ≡ b) }
 {
     match boxed(alloc, a) {
-        Ok(a) => Ok(Expr::Binary(operator, a, boxed(alloc, b)?)),
+        Ok(a) => Ok((a, boxed(alloc, b)?)),
         Err(error) => {
             drop(b);
             Err(error)
         }
     }
+}
+
+/// An operator over two expressions.
+pub fn binary(alloc: Global, operator: BinaryOperator, a: Expr, b: Expr) -> Result<Expr, AllocError>
+    ensures { IfOk result (λ e. expr_of e ≡ tree.binary operator (expr_of a) (expr_of b)) }
+{
+    let (a, b) = boxed_both(alloc, a, b)?;
+    Ok(Expr::Binary(operator, a, b))
 }
 
 /// A reference to an expression, as of a type.
@@ -56,11 +64,6 @@ pub fn choice(alloc: Global, test: Expr, a: Expr, b: Expr) -> Result<Expr, Alloc
             return Err(error);
         }
     };
-    match boxed(alloc, a) {
-        Ok(a) => Ok(Expr::Conditional(test, a, boxed(alloc, b)?)),
-        Err(error) => {
-            drop(b);
-            Err(error)
-        }
-    }
+    let (a, b) = boxed_both(alloc, a, b)?;
+    Ok(Expr::Conditional(test, a, b))
 }
