@@ -4,6 +4,7 @@
 mod closing;
 mod cursor;
 mod leaf;
+mod made;
 mod reader;
 mod tail;
 mod word;

@@ -9,6 +9,7 @@ ghost use Rattle.cad_parse_expr.specs.Code.Views.{tail_of, exprs_in, arguments_i
 ghost use Rattle.cad_parse_type.specs.Code.Views.{seen, seen_with, annotations_in};
 
 use crate::leaf::{literal, name_expr, path_tail};
+use crate::made::{binary, choice, reference};
 use crate::tail::{Tail, as_type, cast_tail, extend, force_tail, member_tail, type_arguments};
 use crate::word::{dot, label, operator, tighter, unary_word};
 use cad_grammar::{
@@ -31,8 +32,16 @@ fn argument<'a>(
         let Some((value, rest)) = read(alloc, depth, Level::Conditional, rest)? else {
             return Ok(None);
         };
-        let label = Some(name.clone()?);
-        return Ok(Some((Argument { label, value }, rest)));
+        return match name.clone() {
+            Ok(name) => {
+                let label = Some(name);
+                Ok(Some((Argument { label, value }, rest)))
+            }
+            Err(error) => {
+                drop(value);
+                Err(error)
+            }
+        };
     }
     let Some((value, rest)) = read(alloc, depth, Level::Conditional, spot)? else {
         return Ok(None);
@@ -53,12 +62,20 @@ fn entry<'a>(
         return Ok(None);
     };
     let Some(rest) = spot.resumed(Sign::Colon, rest) else {
+        drop(key);
         return Ok(None);
     };
-    let Some((value, rest)) = read(alloc, depth, Level::Conditional, rest)? else {
-        return Ok(None);
-    };
-    Ok(Some((Entry { key, value }, rest)))
+    match read(alloc, depth, Level::Conditional, rest) {
+        Ok(Some((value, rest))) => Ok(Some((Entry { key, value }, rest))),
+        Ok(None) => {
+            drop(key);
+            Ok(None)
+        }
+        Err(error) => {
+            drop(key);
+            Err(error)
+        }
+    }
 }
 
 #[cycle(read)]
@@ -178,6 +195,7 @@ fn grouped<'a>(
         return Ok(None);
     };
     let Some(rest) = start.resumed(Sign::CloseParenthesis, rest) else {
+        drop(a);
         return Ok(None);
     };
     Ok(Some((a, rest)))
@@ -298,6 +316,7 @@ fn index_tail<'a>(
         return Ok(None);
     };
     let Some(rest) = inside.resumed(Sign::CloseBracket, rest) else {
+        drop(index);
         return Ok(None);
     };
     Ok(Some((Tail::IndexedBy(index), rest)))
@@ -429,8 +448,13 @@ fn with_tails<'a>(
 {
     let mut rest = spot;
     for _turn in 0..spot.tokens.len() {
-        let Some((next, behind)) = tail(alloc, depth, level, rest)? else {
-            return Ok(Some((a, rest)));
+        let (next, behind) = match tail(alloc, depth, level, rest) {
+            Ok(Some(found)) => found,
+            Ok(None) => return Ok(Some((a, rest))),
+            Err(error) => {
+                drop(a);
+                return Err(error);
+            }
         };
         a = extend(alloc, a, next)?;
         rest = behind;
@@ -491,10 +515,17 @@ fn borrowed<'a>(
     let Some((a, rest)) = read(alloc, depth, Level::Prefix, rest)? else {
         return Ok(None);
     };
-    let Some((to, rest)) = as_type(alloc, rest)? else {
-        return Ok(None);
-    };
-    Ok(Some((Expr::Reference(Box::new(alloc, a)?, to), rest)))
+    match as_type(alloc, rest) {
+        Ok(Some((to, rest))) => Ok(Some((reference(alloc, a, to)?, rest))),
+        Ok(None) => {
+            drop(a);
+            Ok(None)
+        }
+        Err(error) => {
+            drop(a);
+            Err(error)
+        }
+    }
 }
 
 #[cycle(read)]
@@ -548,12 +579,17 @@ fn coalesce<'a>(
     let Some((a, rest)) = at(alloc, depth, Level::BitOr, spot)? else {
         return Ok(None);
     };
-    let Some((b, rest)) = fallback(alloc, depth, rest)? else {
-        return Ok(Some((a, rest)));
-    };
-    let a = Box::new(alloc, a)?;
-    let b = Box::new(alloc, b)?;
-    Ok(Some((Expr::Binary(BinaryOperator::Coalesce, a, b), rest)))
+    match fallback(alloc, depth, rest) {
+        Ok(Some((b, rest))) => {
+            let both = binary(alloc, BinaryOperator::Coalesce, a, b)?;
+            Ok(Some((both, rest)))
+        }
+        Ok(None) => Ok(Some((a, rest))),
+        Err(error) => {
+            drop(a);
+            Err(error)
+        }
+    }
 }
 
 #[cycle(read)]
@@ -576,12 +612,20 @@ fn branches<'a>(
         return Ok(None);
     };
     let Some(rest) = rest.after(Sign::Colon) else {
+        drop(a);
         return Ok(None);
     };
-    let Some((b, rest)) = read(alloc, depth, Level::Conditional, rest)? else {
-        return Ok(None);
-    };
-    Ok(Some(((a, b), rest)))
+    match read(alloc, depth, Level::Conditional, rest) {
+        Ok(Some((b, rest))) => Ok(Some(((a, b), rest))),
+        Ok(None) => {
+            drop(a);
+            Ok(None)
+        }
+        Err(error) => {
+            drop(a);
+            Err(error)
+        }
+    }
 }
 
 #[cycle(read)]
@@ -597,13 +641,17 @@ fn conditional<'a>(
     let Some((test, rest)) = at(alloc, depth, Level::Or, spot)? else {
         return Ok(None);
     };
-    let Some(((a, b), rest)) = branches(alloc, depth, rest)? else {
-        return Ok(Some((test, rest)));
-    };
-    let test = Box::new(alloc, test)?;
-    let a = Box::new(alloc, a)?;
-    let b = Box::new(alloc, b)?;
-    Ok(Some((Expr::Conditional(test, a, b), rest)))
+    match branches(alloc, depth, rest) {
+        Ok(Some((both, rest))) => {
+            let (a, b) = both;
+            Ok(Some((choice(alloc, test, a, b)?, rest)))
+        }
+        Ok(None) => Ok(Some((test, rest))),
+        Err(error) => {
+            drop(test);
+            Err(error)
+        }
+    }
 }
 
 #[cycle(read)]

@@ -7,6 +7,7 @@ ghost use Rattle.cad_parse_expr.specs.Code.Views.{tail_of};
 ghost use Rattle.cad_parse_type.specs.Code.Views.{seen, seen_with, annotations_in};
 
 use crate::closing::closes;
+use crate::made::{binary, boxed, boxed_both};
 use crate::word::cast_word;
 use cad_grammar::{
     Argument, BinaryOperator, CastKind, Expr, Sign, TypeAnnotation, TypeExpr, TypePosition,
@@ -31,19 +32,27 @@ pub enum Tail {
 pub fn extend(alloc: Global, a: Expr, tail: Tail) -> Result<Expr, AllocError>
     ensures { IfOk result (λ e. expr_of e ≡ grammar.extend (expr_of a) (tail_of tail)) }
 {
-    let a = Box::new(alloc, a)?;
     match tail {
-        Tail::Operated(operator, b) => Ok(Expr::Binary(operator, a, Box::new(alloc, b)?)),
-        Tail::CastTo(kind, to) => Ok(Expr::Cast(kind, a, to)),
-        Tail::Member(false, name) => Ok(Expr::Member(a, name)),
-        Tail::Member(true, name) => Ok(Expr::OptionalMember(a, name)),
-        Tail::IndexedBy(i) => Ok(Expr::Index(a, Box::new(alloc, i)?)),
+        Tail::Operated(operator, b) => binary(alloc, operator, a, b),
+        Tail::CastTo(kind, to) => match boxed(alloc, a) {
+            Ok(a) => Ok(Expr::Cast(kind, a, to)),
+            Err(error) => {
+                drop(to);
+                Err(error)
+            }
+        },
+        Tail::Member(false, name) => Ok(Expr::Member(boxed(alloc, a)?, name)),
+        Tail::Member(true, name) => Ok(Expr::OptionalMember(boxed(alloc, a)?, name)),
+        Tail::IndexedBy(i) => {
+            let (a, i) = boxed_both(alloc, a, i)?;
+            Ok(Expr::Index(a, i))
+        }
         Tail::CalledWith(type_arguments, arguments) => Ok(Expr::Call {
-            function: a,
+            function: boxed(alloc, a)?,
             type_arguments,
             arguments,
         }),
-        Tail::Forced => Ok(Expr::Force(a)),
+        Tail::Forced => Ok(Expr::Force(boxed(alloc, a)?)),
     }
 }
 
@@ -90,9 +99,11 @@ pub fn cast_tail(alloc: Global, spot: Spot<'_>) -> Result<Option<(Tail, Spot<'_>
         return Ok(None);
     };
     if question(TypePosition::BehindAs, rest).is_some() {
+        drop(to);
         return Ok(None);
     }
     if questions(TypePosition::BehindAs, rest).is_some() {
+        drop(to);
         return Ok(None);
     }
     Ok(Some((Tail::CastTo(kind, to), rest)))
@@ -140,9 +151,11 @@ pub fn as_type(alloc: Global, spot: Spot<'_>) -> Result<Option<(TypeExpr, Spot<'
         return Ok(None);
     };
     if question(TypePosition::BehindAs, rest).is_some() {
+        drop(to);
         return Ok(None);
     }
     if questions(TypePosition::BehindAs, rest).is_some() {
+        drop(to);
         return Ok(None);
     }
     Ok(Some((to, rest)))

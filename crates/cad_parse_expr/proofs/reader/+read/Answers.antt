@@ -21,9 +21,9 @@ pub read-returns : goal.read-returns
 unfolding read
 read-returns t c = rw (deeper (λ n. read n c.args.level (seen c.args.spot)) c.args.depth (omega arith)) c.at.ensures
 
-pub with_tails-returns-in_default : goal.with_tails-returns-in_default
+pub with_tails-returns-in-Ok-None : goal.with_tails-returns-in-Ok-None
 unfolding climb
-with_tails-returns-in_default t c =
+with_tails-returns-in-Ok-None t c =
     let e = one_more (λ n. climb extend (spec.tail (read c.args.depth) c.args.level (spec.at (read c.args.depth) (tighter c.args.level))) n (expr_of c.loop-turn.a) (seen c.loop-turn.rest)) _ c.loop-turn._turn c.loop-turn-test.true c.loop-turn.invariant in
     first_of (search rules, grind (arith, common_steps))
 
