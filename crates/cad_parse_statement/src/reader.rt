@@ -33,6 +33,7 @@ fn body(
             return Ok(None);
         };
         let Some(rest) = parted(rest) else {
+            drop(item);
             return Ok(None);
         };
         found.push(item)?;
@@ -134,15 +135,25 @@ fn conditional(
     let Some((test, rest)) = tested(alloc, spot)? else {
         return Ok(None);
     };
-    let Some(((then, otherwise), end)) = branches(alloc, depth, rest)? else {
-        return Ok(None);
-    };
-    let found = Stmt::If {
-        test,
-        then,
-        otherwise,
-    };
-    Ok(Some((found, end)))
+    match branches(alloc, depth, rest) {
+        Ok(Some((found, end))) => {
+            let (then, otherwise) = found;
+            let found = Stmt::If {
+                test,
+                then,
+                otherwise,
+            };
+            Ok(Some((found, end)))
+        }
+        Ok(None) => {
+            drop(test);
+            Ok(None)
+        }
+        Err(error) => {
+            drop(test);
+            Err(error)
+        }
+    }
 }
 
 // behind `while`
@@ -158,10 +169,17 @@ fn while_loop(
     let Some((test, rest)) = expression(alloc, spot)? else {
         return Ok(None);
     };
-    let Some((body, end)) = block_at(alloc, depth, rest)? else {
-        return Ok(None);
-    };
-    Ok(Some((Stmt::While(test, body), end)))
+    match block_at(alloc, depth, rest) {
+        Ok(Some((body, end))) => Ok(Some((Stmt::While(test, body), end))),
+        Ok(None) => {
+            drop(test);
+            Ok(None)
+        }
+        Err(error) => {
+            drop(test);
+            Err(error)
+        }
+    }
 }
 
 // behind `for`
@@ -180,16 +198,25 @@ fn for_loop(
     let Some((array, rest)) = expression(alloc, rest)? else {
         return Ok(None);
     };
-    let Some((body, end)) = block_at(alloc, depth, rest)? else {
-        return Ok(None);
-    };
-    let found = Stmt::For {
-        index,
-        name,
-        array,
-        body,
-    };
-    Ok(Some((found, end)))
+    match block_at(alloc, depth, rest) {
+        Ok(Some((body, end))) => {
+            let found = Stmt::For {
+                index,
+                name,
+                array,
+                body,
+            };
+            Ok(Some((found, end)))
+        }
+        Ok(None) => {
+            drop(array);
+            Ok(None)
+        }
+        Err(error) => {
+            drop(array);
+            Err(error)
+        }
+    }
 }
 
 // behind `case`
@@ -206,12 +233,20 @@ fn one_case(
         return Ok(None);
     };
     let Some(rest) = rest.after(Sign::Colon) else {
+        drop(value);
         return Ok(None);
     };
-    let Some((body, end)) = body(alloc, depth, rest)? else {
-        return Ok(None);
-    };
-    Ok(Some((Case { value, body }, end)))
+    match body(alloc, depth, rest) {
+        Ok(Some((body, end))) => Ok(Some((Case { value, body }, end))),
+        Ok(None) => {
+            drop(value);
+            Ok(None)
+        }
+        Err(error) => {
+            drop(value);
+            Err(error)
+        }
+    }
 }
 
 #[cycle(read)]
@@ -296,17 +331,28 @@ fn switch<'a>(
         return Ok(None);
     };
     let Some(inner) = rest.opening(Sign::OpenBrace) else {
+        drop(value);
         return Ok(None);
     };
-    let Some(((cases, default), end)) = sections(alloc, depth, inner)? else {
-        return Ok(None);
-    };
-    let found = Stmt::Switch {
-        value,
-        cases,
-        default,
-    };
-    Ok(Some((found, start.back(end))))
+    match sections(alloc, depth, inner) {
+        Ok(Some((found, end))) => {
+            let (cases, default) = found;
+            let found = Stmt::Switch {
+                value,
+                cases,
+                default,
+            };
+            Ok(Some((found, start.back(end))))
+        }
+        Ok(None) => {
+            drop(value);
+            Ok(None)
+        }
+        Err(error) => {
+            drop(value);
+            Err(error)
+        }
+    }
 }
 
 #[cycle(read)]
