@@ -6,7 +6,7 @@ ghost use Rattle.cad_parse_statement.specs.Code.Views.{named_value_of, second_in
 ghost use Rattle.cad_parse_type.specs.Code.Views.{seen, seen_with};
 
 use crate::words::{transfer, variable_word};
-use cad_grammar::{Expr, Sign, Test, Transfer, TypeAnnotation, VariableKind};
+use cad_grammar::{Expr, Sign, Stmt, Test, Transfer, TypeAnnotation, VariableKind};
 use cad_parse_expr::expression;
 use cad_parse_type::{Spot, annotation};
 use cad_syntax::{Keyword, Name};
@@ -160,4 +160,17 @@ pub fn loops(spot: Spot<'_>) -> Result<Option<((Option<Name>, Name), Spot<'_>)>,
         return Ok(None);
     };
     Ok(Some(((None, first.clone()?), end)))
+}
+
+/// A statement on the heap.
+pub fn boxed(alloc: Global, found: Stmt) -> Result<Box<Stmt>, AllocError>
+    ensures { IfOk result (λ b. b.value ≡ found) }
+{
+    match Box::new(alloc, found) {
+        Ok(own) => Ok(own),
+        Err(refused) => {
+            drop(refused.value);
+            Err(AllocError)
+        }
+    }
 }

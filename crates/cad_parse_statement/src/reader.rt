@@ -5,7 +5,7 @@ ghost use Rattle.cad_parse_statement.specs.Code.Reading as spec;
 ghost use Rattle.cad_parse_statement.specs.Code.Views.{stmts_in, cases_in, default_in, branches_in, sections_in};
 ghost use Rattle.cad_parse_type.specs.Code.Views.{seen, seen_with};
 
-use crate::parts::{loops, tested};
+use crate::parts::{boxed, loops, tested};
 use crate::simple::{unnested, variable};
 use crate::words::{ends, parted, variable_word};
 use cad_grammar::{Case, Otherwise, Sign, Stmt};
@@ -36,7 +36,10 @@ fn body(
             drop(item);
             return Ok(None);
         };
-        found.push(item)?;
+        if let Err(refused) = found.push(item) {
+            drop(refused.value);
+            return Err(AllocError);
+        }
         at = rest;
     }
     Ok(None)
@@ -80,7 +83,7 @@ fn alternative(
         let Some((found, end)) = read_if(alloc, depth, inner)? else {
             return Ok(None);
         };
-        return Ok(Some((Otherwise::If(Box::new(alloc, found)?), end)));
+        return Ok(Some((Otherwise::If(boxed(alloc, found)?), end)));
     }
     let Some((found, end)) = block_at(alloc, depth, spot)? else {
         return Ok(None);
@@ -267,7 +270,10 @@ fn all_cases(
         let Some((item, rest)) = one_case(alloc, depth, rest)? else {
             return Ok(None);
         };
-        found.push(item)?;
+        if let Err(refused) = found.push(item) {
+            drop(refused.value);
+            return Err(AllocError);
+        }
         at = rest;
     }
     Ok(None)
