@@ -1,12 +1,12 @@
 // The parts of statements.
 ghost use Rattle.std.specs.Prelude.{◌≡◌, IfOk, option_map};
-ghost use Rattle.cad_grammar.specs.Views.{annotation_of, test_of};
+ghost use Rattle.cad_grammar.specs.Views.{annotation_of, expr_of, test_of};
 ghost use Rattle.cad_parse_statement.specs.Code.Reading as spec;
 ghost use Rattle.cad_parse_statement.specs.Code.Views.{named_value_of, second_in};
 ghost use Rattle.cad_parse_type.specs.Code.Views.{seen, seen_with};
 
 use crate::words::{transfer, variable_word};
-use cad_grammar::{Expr, Sign, Test, Transfer, TypeAnnotation, VariableKind};
+use cad_grammar::{Expr, Sign, Stmt, Test, Transfer, TypeAnnotation, VariableKind};
 use cad_parse_expr::expression;
 use cad_parse_type::{Spot, annotation};
 use cad_syntax::{Keyword, Name};
@@ -38,6 +38,30 @@ pub fn maybe_annotated(
     Ok(Some((Some(found), end)))
 }
 
+// What stands behind `let` or `var`, with a name of its own.
+fn named(
+    name: &Name,
+    annotation: Option<TypeAnnotation>,
+    transfer: Transfer,
+    value: Expr,
+) -> Result<NamedValue, AllocError>
+    ensures { IfOk result (λ b. named_value_of b ≡ record { name = name.now; annotation = option_map annotation_of annotation; transfer = transfer; value = expr_of value }) }
+{
+    match name.clone() {
+        Ok(name) => Ok(NamedValue {
+            name,
+            annotation,
+            transfer,
+            value,
+        }),
+        Err(error) => {
+            drop(annotation);
+            drop(value);
+            Err(error)
+        }
+    }
+}
+
 /// A name, its type or none, and its value, and the spot behind it; None where they don't stand there.
 #[tactic(auto, unfolding(crate::specs::Code::Reading::named_value))]
 pub fn named_value(
@@ -53,18 +77,20 @@ pub fn named_value(
         return Ok(None);
     };
     let Some((transfer, rest)) = transfer(rest) else {
+        drop(annotation);
         return Ok(None);
     };
-    let Some((value, end)) = expression(alloc, rest)? else {
-        return Ok(None);
-    };
-    let found = NamedValue {
-        name: name.clone()?,
-        annotation,
-        transfer,
-        value,
-    };
-    Ok(Some((found, end)))
+    match expression(alloc, rest) {
+        Ok(Some((value, end))) => Ok(Some((named(name, annotation, transfer, value)?, end))),
+        Ok(None) => {
+            drop(annotation);
+            Ok(None)
+        }
+        Err(error) => {
+            drop(annotation);
+            Err(error)
+        }
+    }
 }
 
 fn binding(kind: VariableKind, first: NamedValue) -> Test
@@ -134,4 +160,17 @@ pub fn loops(spot: Spot<'_>) -> Result<Option<((Option<Name>, Name), Spot<'_>)>,
         return Ok(None);
     };
     Ok(Some(((None, first.clone()?), end)))
+}
+
+/// A statement on the heap.
+pub fn boxed(alloc: Global, found: Stmt) -> Result<Box<Stmt>, AllocError>
+    ensures { IfOk result (λ b. b.value ≡ found) }
+{
+    match Box::new(alloc, found) {
+        Ok(own) => Ok(own),
+        Err(refused) => {
+            drop(refused.value);
+            Err(AllocError)
+        }
+    }
 }

@@ -5,7 +5,7 @@ ghost use Rattle.cad_parse_statement.specs.Code.Reading as spec;
 ghost use Rattle.cad_parse_statement.specs.Code.Views.{stmts_in, cases_in, default_in, branches_in, sections_in};
 ghost use Rattle.cad_parse_type.specs.Code.Views.{seen, seen_with};
 
-use crate::parts::{loops, tested};
+use crate::parts::{boxed, loops, tested};
 use crate::simple::{unnested, variable};
 use crate::words::{ends, parted, variable_word};
 use cad_grammar::{Case, Otherwise, Sign, Stmt};
@@ -33,9 +33,13 @@ fn body(
             return Ok(None);
         };
         let Some(rest) = parted(rest) else {
+            drop(item);
             return Ok(None);
         };
-        found.push(item)?;
+        if let Err(refused) = found.push(item) {
+            drop(refused.value);
+            return Err(AllocError);
+        }
         at = rest;
     }
     Ok(None)
@@ -79,7 +83,7 @@ fn alternative(
         let Some((found, end)) = read_if(alloc, depth, inner)? else {
             return Ok(None);
         };
-        return Ok(Some((Otherwise::If(Box::new(alloc, found)?), end)));
+        return Ok(Some((Otherwise::If(boxed(alloc, found)?), end)));
     }
     let Some((found, end)) = block_at(alloc, depth, spot)? else {
         return Ok(None);
@@ -134,15 +138,25 @@ fn conditional(
     let Some((test, rest)) = tested(alloc, spot)? else {
         return Ok(None);
     };
-    let Some(((then, otherwise), end)) = branches(alloc, depth, rest)? else {
-        return Ok(None);
-    };
-    let found = Stmt::If {
-        test,
-        then,
-        otherwise,
-    };
-    Ok(Some((found, end)))
+    match branches(alloc, depth, rest) {
+        Ok(Some((found, end))) => {
+            let (then, otherwise) = found;
+            let found = Stmt::If {
+                test,
+                then,
+                otherwise,
+            };
+            Ok(Some((found, end)))
+        }
+        Ok(None) => {
+            drop(test);
+            Ok(None)
+        }
+        Err(error) => {
+            drop(test);
+            Err(error)
+        }
+    }
 }
 
 // behind `while`
@@ -158,10 +172,17 @@ fn while_loop(
     let Some((test, rest)) = expression(alloc, spot)? else {
         return Ok(None);
     };
-    let Some((body, end)) = block_at(alloc, depth, rest)? else {
-        return Ok(None);
-    };
-    Ok(Some((Stmt::While(test, body), end)))
+    match block_at(alloc, depth, rest) {
+        Ok(Some((body, end))) => Ok(Some((Stmt::While(test, body), end))),
+        Ok(None) => {
+            drop(test);
+            Ok(None)
+        }
+        Err(error) => {
+            drop(test);
+            Err(error)
+        }
+    }
 }
 
 // behind `for`
@@ -180,16 +201,25 @@ fn for_loop(
     let Some((array, rest)) = expression(alloc, rest)? else {
         return Ok(None);
     };
-    let Some((body, end)) = block_at(alloc, depth, rest)? else {
-        return Ok(None);
-    };
-    let found = Stmt::For {
-        index,
-        name,
-        array,
-        body,
-    };
-    Ok(Some((found, end)))
+    match block_at(alloc, depth, rest) {
+        Ok(Some((body, end))) => {
+            let found = Stmt::For {
+                index,
+                name,
+                array,
+                body,
+            };
+            Ok(Some((found, end)))
+        }
+        Ok(None) => {
+            drop(array);
+            Ok(None)
+        }
+        Err(error) => {
+            drop(array);
+            Err(error)
+        }
+    }
 }
 
 // behind `case`
@@ -206,12 +236,20 @@ fn one_case(
         return Ok(None);
     };
     let Some(rest) = rest.after(Sign::Colon) else {
+        drop(value);
         return Ok(None);
     };
-    let Some((body, end)) = body(alloc, depth, rest)? else {
-        return Ok(None);
-    };
-    Ok(Some((Case { value, body }, end)))
+    match body(alloc, depth, rest) {
+        Ok(Some((body, end))) => Ok(Some((Case { value, body }, end))),
+        Ok(None) => {
+            drop(value);
+            Ok(None)
+        }
+        Err(error) => {
+            drop(value);
+            Err(error)
+        }
+    }
 }
 
 #[cycle(read)]
@@ -232,7 +270,10 @@ fn all_cases(
         let Some((item, rest)) = one_case(alloc, depth, rest)? else {
             return Ok(None);
         };
-        found.push(item)?;
+        if let Err(refused) = found.push(item) {
+            drop(refused.value);
+            return Err(AllocError);
+        }
         at = rest;
     }
     Ok(None)
@@ -296,17 +337,28 @@ fn switch<'a>(
         return Ok(None);
     };
     let Some(inner) = rest.opening(Sign::OpenBrace) else {
+        drop(value);
         return Ok(None);
     };
-    let Some(((cases, default), end)) = sections(alloc, depth, inner)? else {
-        return Ok(None);
-    };
-    let found = Stmt::Switch {
-        value,
-        cases,
-        default,
-    };
-    Ok(Some((found, start.back(end))))
+    match sections(alloc, depth, inner) {
+        Ok(Some((found, end))) => {
+            let (cases, default) = found;
+            let found = Stmt::Switch {
+                value,
+                cases,
+                default,
+            };
+            Ok(Some((found, start.back(end))))
+        }
+        Ok(None) => {
+            drop(value);
+            Ok(None)
+        }
+        Err(error) => {
+            drop(value);
+            Err(error)
+        }
+    }
 }
 
 #[cycle(read)]

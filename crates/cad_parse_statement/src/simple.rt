@@ -24,18 +24,27 @@ pub fn variable(
     let Some((first, rest)) = named_value(alloc, spot)? else {
         return Ok(None);
     };
-    let Some((second, end)) = seconded(alloc, rest)? else {
-        return Ok(None);
-    };
-    let found = Stmt::Variable {
-        kind,
-        name: first.name,
-        annotation: first.annotation,
-        transfer: first.transfer,
-        value: first.value,
-        second,
-    };
-    Ok(Some((found, end)))
+    match seconded(alloc, rest) {
+        Ok(Some((second, end))) => {
+            let found = Stmt::Variable {
+                kind,
+                name: first.name,
+                annotation: first.annotation,
+                transfer: first.transfer,
+                value: first.value,
+                second,
+            };
+            Ok(Some((found, end)))
+        }
+        Ok(None) => {
+            drop(first);
+            Ok(None)
+        }
+        Err(error) => {
+            drop(first);
+            Err(error)
+        }
+    }
 }
 
 /// What stands behind `return`, and the spot behind it; None where an expression begins that can't be read.
@@ -75,16 +84,30 @@ pub fn plain(alloc: Global, spot: Spot<'_>) -> Result<Option<(Stmt, Spot<'_>)>, 
         return Ok(None);
     };
     if let Some((transfer, rest)) = transfer(rest) {
-        let Some((value, end)) = expression(alloc, rest)? else {
-            return Ok(None);
+        return match expression(alloc, rest) {
+            Ok(Some((value, end))) => Ok(Some((Stmt::Assignment(first, transfer, value), end))),
+            Ok(None) => {
+                drop(first);
+                Ok(None)
+            }
+            Err(error) => {
+                drop(first);
+                Err(error)
+            }
         };
-        return Ok(Some((Stmt::Assignment(first, transfer, value), end)));
     }
     if let Some(rest) = rest.after(Sign::Swap) {
-        let Some((second, end)) = expression(alloc, rest)? else {
-            return Ok(None);
+        return match expression(alloc, rest) {
+            Ok(Some((second, end))) => Ok(Some((Stmt::Swap(first, second), end))),
+            Ok(None) => {
+                drop(first);
+                Ok(None)
+            }
+            Err(error) => {
+                drop(first);
+                Err(error)
+            }
         };
-        return Ok(Some((Stmt::Swap(first, second), end)));
     }
     Ok(Some((Stmt::Expr(first), rest)))
 }
