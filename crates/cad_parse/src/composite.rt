@@ -103,14 +103,14 @@ pub fn composite<'a>(
         return Ok(None);
     };
     match composite_body(alloc, spot) {
-        Ok(Some(((conformances, members), end))) => match name.clone() {
+        Ok(Some((body, end))) => match name.clone() {
             Ok(name) => {
                 let composite = Composite {
                     access,
                     kind,
                     name,
-                    conformances,
-                    members,
+                    conformances: body.0,
+                    members: body.1,
                 };
                 Ok(Some((composite, from.back(end))))
             }
@@ -163,14 +163,14 @@ pub fn interface<'a>(
         return Ok(None);
     };
     match interface_body(alloc, spot) {
-        Ok(Some(((conformances, members), end))) => match name.clone() {
+        Ok(Some((body, end))) => match name.clone() {
             Ok(name) => {
                 let interface = Interface {
                     access,
                     kind,
                     name,
-                    conformances,
-                    members,
+                    conformances: body.0,
+                    members: body.1,
                 };
                 Ok(Some((interface, from.back(end))))
             }
@@ -271,13 +271,13 @@ pub fn enumeration<'a>(
         return Ok(None);
     };
     match enum_body(alloc, spot) {
-        Ok(Some(((raw, cases), end))) => match name.clone() {
+        Ok(Some((body, end))) => match name.clone() {
             Ok(name) => {
                 let enumeration = Enum {
                     access,
                     name,
-                    raw,
-                    cases,
+                    raw: body.0,
+                    cases: body.1,
                 };
                 Ok(Some((enumeration, from.back(end))))
             }

@@ -442,7 +442,8 @@ pub fn function<'a>(
         return Ok(None);
     };
     match function_body(alloc, in_interface, spot) {
-        Ok(Some((((name, parameters), (result, block)), spot))) => {
+        Ok(Some((body, spot))) => {
+            let ((name, parameters), (result, block)) = body;
             let function = Function {
                 access,
                 is_view,

@@ -216,7 +216,8 @@ pub fn transaction<'a>(
         return Ok(None);
     };
     match transaction_body(alloc, spot) {
-        Ok(Some((((fields, prepare), ((pre, execute), post)), end))) => {
+        Ok(Some((body, end))) => {
+            let ((fields, prepare), ((pre, execute), post)) = body;
             let transaction = Transaction {
                 parameters,
                 fields,
