@@ -49,7 +49,10 @@ fn plain_access(spot: Spot<'_>) -> Option<(Access, Spot<'_>)>
     ensures { option_map (seen_with same) result ≡ parts.plain_access (seen spot.entry) }
 {
     let (access, spot) = plain_word(spot)?;
-    let spot = spot.after(Sign::CloseParenthesis)?;
+    let Some(spot) = spot.after(Sign::CloseParenthesis) else {
+        drop(access);
+        return None;
+    };
     Some((access, spot))
 }
 
@@ -98,6 +101,7 @@ fn entitled_access(alloc: Global, spot: Spot<'_>) -> Result<Option<(Access, Spot
         return Ok(None);
     };
     if is_plain_access(&entitlements) {
+        drop(entitlements);
         return Ok(None);
     }
     Ok(Some((Access::Entitled(entitlements), spot)))

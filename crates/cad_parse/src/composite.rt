@@ -6,15 +6,15 @@ ghost use Rattle.cad_grammar.specs.ProgramGrammar as grammar;
 ghost use Rattle.cad_grammar.specs.Views.{composite_of, interface_of, enum_of, mapping_of};
 ghost use Rattle.cad_parse.specs.Code.Parts as parts;
 ghost use Rattle.cad_parse.specs.Code.Reading as spec;
-ghost use Rattle.cad_parse.specs.Code.Views.{same, items_in};
+ghost use Rattle.cad_parse.specs.Code.Views.{same, items_in, composite_body_in, interface_body_in, enum_body_in};
 ghost use Rattle.cad_parse_type.specs.Code.Views.{seen, seen_with, seen_name};
 
 use crate::access::accessed;
 use crate::function::labelled;
 use crate::member::{composite_members, interface_members};
 use cad_grammar::{
-    Access, Composite, CompositeKind, Dotted, Entitlement, Enum, EnumCase, Interface, Mapping,
-    MappingItem, Sign, TokenKind,
+    Access, Composite, CompositeKind, CompositeMember, Dotted, Entitlement, Enum, EnumCase,
+    Interface, InterfaceMember, Mapping, MappingItem, Sign, TokenKind,
 };
 use cad_parse_type::{Spot, dotted, dotted_list};
 use cad_syntax::{Items, Keyword, Name};
@@ -70,8 +70,25 @@ fn conforming(
     Ok(Some((Items::new(alloc), inner)))
 }
 
+// What stands behind the name of a composite, and the spot behind its `}`.
+#[tactic(auto, unfolding(crate::specs::Code::Reading::composite_body))]
+fn composite_body(
+    alloc: Global,
+    spot: Spot<'_>,
+) -> Result<Option<((Items<Dotted>, Vec<CompositeMember>), Spot<'_>)>, AllocError>
+    ensures { IfOk result (λ o. option_map (seen_with composite_body_in) o ≡ spec.composite_body (seen spot.entry)) }
+{
+    let Some((conformances, spot)) = conforming(alloc, spot)? else {
+        return Ok(None);
+    };
+    let Some((members, end)) = composite_members(alloc, spot)? else {
+        return Ok(None);
+    };
+    Ok(Some(((conformances, members), end)))
+}
+
 /// The composite that begins behind its `struct` or `resource`, with its access at `from`, and the spot behind its `}`; None where none begins.
-#[tactic(auto, unfolding(crate::specs::Code::Reading::composite, cad_parse_type::specs::Code::Views::seen))]
+#[tactic(auto, unfolding(crate::specs::Code::Reading::composite, crate::specs::Code::Reading::composite_body, cad_parse_type::specs::Code::Views::seen))]
 pub fn composite<'a>(
     alloc: Global,
     from: Spot<'a>,
@@ -82,26 +99,56 @@ pub fn composite<'a>(
     ensures { IfOk result (λ o. option_map (seen_with composite_of) o ≡ spec.composite (seen from.entry) access kind (seen spot.entry)) }
 {
     let Some((name, spot)) = spot.name() else {
+        drop(access);
         return Ok(None);
     };
+    match composite_body(alloc, spot) {
+        Ok(Some((body, end))) => match name.clone() {
+            Ok(name) => {
+                let composite = Composite {
+                    access,
+                    kind,
+                    name,
+                    conformances: body.0,
+                    members: body.1,
+                };
+                Ok(Some((composite, from.back(end))))
+            }
+            Err(error) => {
+                drop(access);
+                Err(error)
+            }
+        },
+        Ok(None) => {
+            drop(access);
+            Ok(None)
+        }
+        Err(error) => {
+            drop(access);
+            Err(error)
+        }
+    }
+}
+
+// What stands behind the name of an interface, and the spot behind its `}`.
+#[tactic(auto, unfolding(crate::specs::Code::Reading::interface_body))]
+fn interface_body(
+    alloc: Global,
+    spot: Spot<'_>,
+) -> Result<Option<((Items<Dotted>, Vec<InterfaceMember>), Spot<'_>)>, AllocError>
+    ensures { IfOk result (λ o. option_map (seen_with interface_body_in) o ≡ spec.interface_body (seen spot.entry)) }
+{
     let Some((conformances, spot)) = conforming(alloc, spot)? else {
         return Ok(None);
     };
-    let Some((members, end)) = composite_members(alloc, spot)? else {
+    let Some((members, end)) = interface_members(alloc, spot)? else {
         return Ok(None);
     };
-    let composite = Composite {
-        access,
-        kind,
-        name: name.clone()?,
-        conformances,
-        members,
-    };
-    Ok(Some((composite, from.back(end))))
+    Ok(Some(((conformances, members), end)))
 }
 
 /// The interface that begins behind its `interface`, with its access at `from`, and the spot behind its `}`; None where none begins.
-#[tactic(auto, unfolding(crate::specs::Code::Reading::interface, cad_parse_type::specs::Code::Views::seen))]
+#[tactic(auto, unfolding(crate::specs::Code::Reading::interface, crate::specs::Code::Reading::interface_body, cad_parse_type::specs::Code::Views::seen))]
 pub fn interface<'a>(
     alloc: Global,
     from: Spot<'a>,
@@ -112,22 +159,35 @@ pub fn interface<'a>(
     ensures { IfOk result (λ o. option_map (seen_with interface_of) o ≡ spec.interface (seen from.entry) access kind (seen spot.entry)) }
 {
     let Some((name, spot)) = spot.name() else {
+        drop(access);
         return Ok(None);
     };
-    let Some((conformances, spot)) = conforming(alloc, spot)? else {
-        return Ok(None);
-    };
-    let Some((members, end)) = interface_members(alloc, spot)? else {
-        return Ok(None);
-    };
-    let interface = Interface {
-        access,
-        kind,
-        name: name.clone()?,
-        conformances,
-        members,
-    };
-    Ok(Some((interface, from.back(end))))
+    match interface_body(alloc, spot) {
+        Ok(Some((body, end))) => match name.clone() {
+            Ok(name) => {
+                let interface = Interface {
+                    access,
+                    kind,
+                    name,
+                    conformances: body.0,
+                    members: body.1,
+                };
+                Ok(Some((interface, from.back(end))))
+            }
+            Err(error) => {
+                drop(access);
+                Err(error)
+            }
+        },
+        Ok(None) => {
+            drop(access);
+            Ok(None)
+        }
+        Err(error) => {
+            drop(access);
+            Err(error)
+        }
+    }
 }
 
 #[tactic(auto, unfolding(crate::specs::Code::Reading::enum_case))]
@@ -138,16 +198,20 @@ fn enum_case(alloc: Global, spot: Spot<'_>) -> Result<Option<(EnumCase, Spot<'_>
         return Ok(None);
     };
     let Some(spot) = spot.keyword(Keyword::Case) else {
+        drop(access);
         return Ok(None);
     };
     let Some((name, spot)) = spot.name() else {
+        drop(access);
         return Ok(None);
     };
-    let case = EnumCase {
-        access,
-        name: name.clone()?,
-    };
-    Ok(Some((case, spot)))
+    match name.clone() {
+        Ok(name) => Ok(Some((EnumCase { access, name }, spot))),
+        Err(error) => {
+            drop(access);
+            Err(error)
+        }
+    }
 }
 
 #[tactic(auto, unfolding(crate::specs::Code::Parts::repeated))]
@@ -172,19 +236,14 @@ fn enum_cases(
     Ok(None)
 }
 
-/// The enum that begins behind its `enum`, with its access at `from`, and the spot behind its `}`; None where none begins.
-#[tactic(auto, unfolding(crate::specs::Code::Reading::enumeration, cad_parse_type::specs::Code::Views::seen))]
-pub fn enumeration<'a>(
+// What stands behind the name of an enum and its `:`, and the spot behind its `}`.
+#[tactic(auto, unfolding(crate::specs::Code::Reading::enum_body))]
+fn enum_body(
     alloc: Global,
-    from: Spot<'a>,
-    access: Access,
-    spot: Spot<'a>,
-) -> Result<Option<(Enum, Spot<'a>)>, AllocError>
-    ensures { IfOk result (λ o. option_map (seen_with enum_of) o ≡ spec.enumeration (seen from.entry) access (seen spot.entry)) }
+    spot: Spot<'_>,
+) -> Result<Option<((Dotted, Vec<EnumCase>), Spot<'_>)>, AllocError>
+    ensures { IfOk result (λ o. option_map (seen_with enum_body_in) o ≡ spec.enum_body (seen spot.entry)) }
 {
-    let Some((name, spot)) = labelled(spot) else {
-        return Ok(None);
-    };
     let Some((raw, spot)) = dotted(alloc, spot)? else {
         return Ok(None);
     };
@@ -194,13 +253,48 @@ pub fn enumeration<'a>(
     let Some((cases, end)) = enum_cases(alloc, spot)? else {
         return Ok(None);
     };
-    let enumeration = Enum {
-        access,
-        name: name.clone()?,
-        raw,
-        cases,
+    Ok(Some(((raw, cases), end)))
+}
+
+/// The enum that begins behind its `enum`, with its access at `from`, and the spot behind its `}`; None where none begins.
+#[tactic(auto, unfolding(crate::specs::Code::Reading::enumeration, crate::specs::Code::Reading::enum_body, cad_parse_type::specs::Code::Views::seen))]
+pub fn enumeration<'a>(
+    alloc: Global,
+    from: Spot<'a>,
+    access: Access,
+    spot: Spot<'a>,
+) -> Result<Option<(Enum, Spot<'a>)>, AllocError>
+    ensures { IfOk result (λ o. option_map (seen_with enum_of) o ≡ spec.enumeration (seen from.entry) access (seen spot.entry)) }
+{
+    let Some((name, spot)) = labelled(spot) else {
+        drop(access);
+        return Ok(None);
     };
-    Ok(Some((enumeration, from.back(end))))
+    match enum_body(alloc, spot) {
+        Ok(Some((body, end))) => match name.clone() {
+            Ok(name) => {
+                let enumeration = Enum {
+                    access,
+                    name,
+                    raw: body.0,
+                    cases: body.1,
+                };
+                Ok(Some((enumeration, from.back(end))))
+            }
+            Err(error) => {
+                drop(access);
+                Err(error)
+            }
+        },
+        Ok(None) => {
+            drop(access);
+            Ok(None)
+        }
+        Err(error) => {
+            drop(access);
+            Err(error)
+        }
+    }
 }
 
 #[tactic(auto, unfolding(crate::specs::Code::Reading::identity))]
@@ -283,15 +377,30 @@ pub fn mapping<'a>(
 ) -> Result<Option<(Mapping, Spot<'a>)>, AllocError>
     ensures { IfOk result (λ o. option_map (seen_with mapping_of) o ≡ spec.mapping (seen from.entry) access name.now (seen spot.entry)) }
 {
-    let Some((items, end)) = mapping_entries(alloc, spot)? else {
-        return Ok(None);
-    };
-    let mapping = Mapping {
-        access,
-        name: name.clone()?,
-        items,
-    };
-    Ok(Some((mapping, from.back(end))))
+    match mapping_entries(alloc, spot) {
+        Ok(Some((items, end))) => match name.clone() {
+            Ok(name) => {
+                let mapping = Mapping {
+                    access,
+                    name,
+                    items,
+                };
+                Ok(Some((mapping, from.back(end))))
+            }
+            Err(error) => {
+                drop(access);
+                Err(error)
+            }
+        },
+        Ok(None) => {
+            drop(access);
+            Ok(None)
+        }
+        Err(error) => {
+            drop(access);
+            Err(error)
+        }
+    }
 }
 
 /// The entitlement whose name comes next, and the spot behind it; None where no name does.
@@ -303,11 +412,14 @@ pub fn entitlement<'a>(
     ensures { IfOk result (λ o. option_map (seen_with same) o ≡ spec.entitlement access (seen spot.entry)) }
 {
     let Some((name, spot)) = spot.name() else {
+        drop(access);
         return Ok(None);
     };
-    let entitlement = Entitlement {
-        access,
-        name: name.clone()?,
-    };
-    Ok(Some((entitlement, spot)))
+    match name.clone() {
+        Ok(name) => Ok(Some((Entitlement { access, name }, spot))),
+        Err(error) => {
+            drop(access);
+            Err(error)
+        }
+    }
 }

@@ -160,18 +160,35 @@ pub fn contract<'a>(
     ensures { IfOk result (λ o. option_map (seen_with contract_of) o ≡ spec.contract (seen from.entry) access (seen spot.entry)) }
 {
     let Some((name, spot)) = spot.name() else {
+        drop(access);
         return Ok(None);
     };
     let Some(spot) = spot.opening(Sign::OpenBrace) else {
+        drop(access);
         return Ok(None);
     };
-    let Some((members, end)) = contract_members(alloc, spot)? else {
-        return Ok(None);
-    };
-    let contract = Contract {
-        access,
-        name: name.clone()?,
-        members,
-    };
-    Ok(Some((contract, from.back(end))))
+    match contract_members(alloc, spot) {
+        Ok(Some((members, end))) => match name.clone() {
+            Ok(name) => {
+                let contract = Contract {
+                    access,
+                    name,
+                    members,
+                };
+                Ok(Some((contract, from.back(end))))
+            }
+            Err(error) => {
+                drop(access);
+                Err(error)
+            }
+        },
+        Ok(None) => {
+            drop(access);
+            Ok(None)
+        }
+        Err(error) => {
+            drop(access);
+            Err(error)
+        }
+    }
 }

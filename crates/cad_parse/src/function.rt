@@ -6,19 +6,27 @@ ghost use Rattle.cad_grammar.specs.ProgramGrammar as grammar;
 ghost use Rattle.cad_grammar.specs.Views.{parameter_of, condition_of, block_of, function_of, init_of};
 ghost use Rattle.cad_parse.specs.Code.Parts as parts;
 ghost use Rattle.cad_parse.specs.Code.Reading as spec;
-ghost use Rattle.cad_parse.specs.Code.Views.{same, parameters_in, conditions_in, maybe_conditions_in, maybe_block_of, maybe_expr_of};
+ghost use Rattle.cad_parse.specs.Code.Views.{same, parameters_in, conditions_in, maybe_conditions_in, maybe_block_of, maybe_expr_of, function_body_in};
 ghost use Rattle.cad_parse_expr.specs.Code.Reading as expressions;
+ghost use Rattle.cad_parse_statement.specs.Code.Views.{stmts_in};
 ghost use Rattle.cad_parse_type.specs.Code.Reading as types;
 ghost use Rattle.cad_parse_type.specs.Code.Views.{seen, seen_with, seen_name};
 
 use cad_grammar::{
-    Access, Condition, Conditions, Expr, Function, FunctionBlock, Init, Parameter, Sign,
+    Access, Condition, Conditions, Expr, Function, FunctionBlock, Init, Parameter, Sign, Stmt,
+    TypeAnnotation,
 };
 use cad_parse_expr::expression;
 use cad_parse_statement::{begins_plainly, maybe_annotated, parted, statements};
 use cad_parse_type::{Spot, annotation};
 use cad_syntax::{Keyword, Name};
 use std::alloc::{AllocError, Global};
+
+// A name, parameters, a result's type and a block.
+type FunctionBody = (
+    (Name, Vec<Parameter>),
+    (Option<TypeAnnotation>, Option<FunctionBlock>),
+);
 
 /// The name before a `:` that come next, and the spot behind the `:`.
 #[tactic(auto, unfolding(crate::specs::Code::Parts::labelled))]
@@ -44,12 +52,27 @@ fn parameter_behind<'a>(
     let Some((annotation, spot)) = annotation(alloc, spot)? else {
         return Ok(None);
     };
-    let parameter = Parameter {
-        label: Some(label.clone()?),
-        name: name.clone()?,
-        annotation,
+    let label = match label.clone() {
+        Ok(label) => Some(label),
+        Err(error) => {
+            drop(annotation);
+            return Err(error);
+        }
     };
-    Ok(Some((parameter, spot)))
+    match name.clone() {
+        Ok(name) => {
+            let parameter = Parameter {
+                label,
+                name,
+                annotation,
+            };
+            Ok(Some((parameter, spot)))
+        }
+        Err(error) => {
+            drop(annotation);
+            Err(error)
+        }
+    }
 }
 
 /// The parameter that begins at a spot, and the spot behind its type; None where none begins.
@@ -66,12 +89,20 @@ pub fn parameter(alloc: Global, spot: Spot<'_>) -> Result<Option<(Parameter, Spo
     let Some((annotation, end)) = annotation(alloc, behind)? else {
         return Ok(None);
     };
-    let parameter = Parameter {
-        label: None,
-        name: name.clone()?,
-        annotation,
-    };
-    Ok(Some((parameter, end)))
+    match name.clone() {
+        Ok(name) => {
+            let parameter = Parameter {
+                label: None,
+                name,
+                annotation,
+            };
+            Ok(Some((parameter, end)))
+        }
+        Err(error) => {
+            drop(annotation);
+            Err(error)
+        }
+    }
 }
 
 #[tactic(auto, unfolding(cad_parse_type::specs::Code::Reading::listed))]
@@ -153,10 +184,17 @@ fn plain(alloc: Global, spot: Spot<'_>) -> Result<Option<(Condition, Spot<'_>)>,
     let Some((test, spot)) = expression(alloc, spot)? else {
         return Ok(None);
     };
-    let Some((message, spot)) = message(alloc, spot)? else {
-        return Ok(None);
-    };
-    Ok(Some((Condition::Test { test, message }, spot)))
+    match message(alloc, spot) {
+        Ok(Some((message, spot))) => Ok(Some((Condition::Test { test, message }, spot))),
+        Ok(None) => {
+            drop(test);
+            Ok(None)
+        }
+        Err(error) => {
+            drop(test);
+            Err(error)
+        }
+    }
 }
 
 #[tactic(auto, unfolding(crate::specs::Code::Parts::condition))]
@@ -180,6 +218,7 @@ fn parted_condition(
         return Ok(None);
     };
     let Some(spot) = parted(spot) else {
+        drop(condition);
         return Ok(None);
     };
     Ok(Some((condition, spot)))
@@ -239,8 +278,25 @@ pub fn conditions_behind(
     Ok(Some((Some(all), end)))
 }
 
+// Statements up to a `}`, and the spot behind that.
+#[tactic(auto, unfolding(crate::specs::Code::Parts::closed_statements))]
+fn closed_statements(
+    alloc: Global,
+    spot: Spot<'_>,
+) -> Result<Option<(Vec<Stmt>, Spot<'_>)>, AllocError>
+    ensures { IfOk result (λ o. option_map (seen_with stmts_in) o ≡ parts.closed_statements (seen spot.entry)) }
+{
+    let Some((body, spot)) = statements(alloc, spot)? else {
+        return Ok(None);
+    };
+    let Some(end) = spot.after(Sign::CloseBrace) else {
+        return Ok(None);
+    };
+    Ok(Some((body, end)))
+}
+
 /// The block of a function that begins at a spot, with its conditions, and the spot behind its `}`; None where none begins.
-#[tactic(auto, unfolding(crate::specs::Code::Parts::function_block))]
+#[tactic(auto, unfolding(crate::specs::Code::Parts::function_block, crate::specs::Code::Parts::closed_statements))]
 pub fn function_block(
     alloc: Global,
     spot: Spot<'_>,
@@ -253,16 +309,30 @@ pub fn function_block(
     let Some((pre, inner)) = conditions_behind(alloc, Keyword::Pre, inner)? else {
         return Ok(None);
     };
-    let Some((post, inner)) = conditions_behind(alloc, Keyword::Post, inner)? else {
-        return Ok(None);
+    let (post, inner) = match conditions_behind(alloc, Keyword::Post, inner) {
+        Ok(Some(found)) => found,
+        Ok(None) => {
+            drop(pre);
+            return Ok(None);
+        }
+        Err(error) => {
+            drop(pre);
+            return Err(error);
+        }
     };
-    let Some((body, inner)) = statements(alloc, inner)? else {
-        return Ok(None);
-    };
-    let Some(end) = inner.after(Sign::CloseBrace) else {
-        return Ok(None);
-    };
-    Ok(Some((FunctionBlock { pre, post, body }, spot.back(end))))
+    match closed_statements(alloc, inner) {
+        Ok(Some((body, end))) => Ok(Some((FunctionBlock { pre, post, body }, spot.back(end)))),
+        Ok(None) => {
+            drop(pre);
+            drop(post);
+            Ok(None)
+        }
+        Err(error) => {
+            drop(pre);
+            drop(post);
+            Err(error)
+        }
+    }
 }
 
 #[tactic(auto, unfolding(crate::specs::Code::Reading::blocked))]
@@ -317,20 +387,15 @@ pub fn viewed(keyword: Keyword, spot: Spot<'_>) -> Option<(bool, Spot<'_>)>
     }
 }
 
-/// The function that begins behind its access, in an interface or elsewhere, and the spot behind it; None where none begins.
-/// In an interface it may have no block.
-#[tactic(auto, unfolding(crate::specs::Code::Reading::function_with))]
-pub fn function<'a>(
+// What stands behind the `fun` of a function.
+#[tactic(auto, unfolding(crate::specs::Code::Reading::function_body))]
+fn function_body(
     alloc: Global,
     in_interface: bool,
-    access: Access,
-    spot: Spot<'a>,
-) -> Result<Option<(Function, Spot<'a>)>, AllocError>
-    ensures { IfOk result (λ o. option_map (seen_with function_of) o ≡ spec.function_with in_interface access (seen spot.entry)) }
+    spot: Spot<'_>,
+) -> Result<Option<(FunctionBody, Spot<'_>)>, AllocError>
+    ensures { IfOk result (λ o. option_map (seen_with function_body_in) o ≡ spec.function_body in_interface (seen spot.entry)) }
 {
-    let Some((is_view, spot)) = viewed(Keyword::Fun, spot) else {
-        return Ok(None);
-    };
     let Some((name, spot)) = spot.name() else {
         return Ok(None);
     };
@@ -340,18 +405,64 @@ pub fn function<'a>(
     let Some((result, spot)) = maybe_annotated(alloc, spot)? else {
         return Ok(None);
     };
-    let Some((block, spot)) = block_of(alloc, in_interface, spot)? else {
+    let (block, spot) = match block_of(alloc, in_interface, spot) {
+        Ok(Some(found)) => found,
+        Ok(None) => {
+            drop(result);
+            return Ok(None);
+        }
+        Err(error) => {
+            drop(result);
+            return Err(error);
+        }
+    };
+    match name.clone() {
+        Ok(name) => Ok(Some((((name, parameters), (result, block)), spot))),
+        Err(error) => {
+            drop(result);
+            drop(block);
+            Err(error)
+        }
+    }
+}
+
+/// The function that begins behind its access, in an interface or elsewhere, and the spot behind it; None where none begins.
+/// In an interface it may have no block.
+#[tactic(auto, unfolding(crate::specs::Code::Reading::function_with, crate::specs::Code::Reading::function_body))]
+pub fn function<'a>(
+    alloc: Global,
+    in_interface: bool,
+    access: Access,
+    spot: Spot<'a>,
+) -> Result<Option<(Function, Spot<'a>)>, AllocError>
+    ensures { IfOk result (λ o. option_map (seen_with function_of) o ≡ spec.function_with in_interface access (seen spot.entry)) }
+{
+    let Some((is_view, spot)) = viewed(Keyword::Fun, spot) else {
+        drop(access);
         return Ok(None);
     };
-    let function = Function {
-        access,
-        is_view,
-        name: name.clone()?,
-        parameters,
-        result,
-        block,
-    };
-    Ok(Some((function, spot)))
+    match function_body(alloc, in_interface, spot) {
+        Ok(Some((body, spot))) => {
+            let ((name, parameters), (result, block)) = body;
+            let function = Function {
+                access,
+                is_view,
+                name,
+                parameters,
+                result,
+                block,
+            };
+            Ok(Some((function, spot)))
+        }
+        Ok(None) => {
+            drop(access);
+            Ok(None)
+        }
+        Err(error) => {
+            drop(access);
+            Err(error)
+        }
+    }
 }
 
 /// The initializer that begins behind its `init`, and the spot behind its block; None where none begins.

@@ -31,18 +31,35 @@ pub fn field<'a>(
     ensures { IfOk result (λ o. option_map (seen_with field_of) o ≡ spec.field access kind (seen spot.entry)) }
 {
     let Some((name, spot)) = labelled(spot) else {
+        drop(access);
         return Ok(None);
     };
-    let Some((annotation, spot)) = annotation(alloc, spot)? else {
-        return Ok(None);
-    };
-    let field = Field {
-        access,
-        kind: Some(kind),
-        name: name.clone()?,
-        annotation,
-    };
-    Ok(Some((field, spot)))
+    match annotation(alloc, spot) {
+        Ok(Some((annotation, spot))) => match name.clone() {
+            Ok(name) => {
+                let field = Field {
+                    access,
+                    kind: Some(kind),
+                    name,
+                    annotation,
+                };
+                Ok(Some((field, spot)))
+            }
+            Err(error) => {
+                drop(access);
+                drop(annotation);
+                Err(error)
+            }
+        },
+        Ok(None) => {
+            drop(access);
+            Ok(None)
+        }
+        Err(error) => {
+            drop(access);
+            Err(error)
+        }
+    }
 }
 
 #[tactic(auto, unfolding(crate::specs::Code::Reading::event_parameter))]
@@ -64,16 +81,26 @@ fn event_parameter(
         return Ok(Some((parameter, spot)));
     }
     let Some(spot) = spot.after(Sign::Assign) else {
+        drop(parameter);
         return Ok(None);
     };
-    let Some((default, spot)) = expression(alloc, spot)? else {
-        return Ok(None);
-    };
-    let parameter = EventParameter {
-        parameter,
-        default: Some(default),
-    };
-    Ok(Some((parameter, spot)))
+    match expression(alloc, spot) {
+        Ok(Some((default, spot))) => {
+            let parameter = EventParameter {
+                parameter,
+                default: Some(default),
+            };
+            Ok(Some((parameter, spot)))
+        }
+        Ok(None) => {
+            drop(parameter);
+            Ok(None)
+        }
+        Err(error) => {
+            drop(parameter);
+            Err(error)
+        }
+    }
 }
 
 #[tactic(auto, unfolding(cad_parse_type::specs::Code::Reading::listed))]
@@ -140,17 +167,33 @@ pub fn event<'a>(
     ensures { IfOk result (λ o. option_map (seen_with event_of) o ≡ spec.event (seen from.entry) access (seen spot.entry)) }
 {
     let Some((name, spot)) = spot.name() else {
+        drop(access);
         return Ok(None);
     };
-    let Some((parameters, end)) = event_parameters(alloc, is_destruction(name), spot)? else {
-        return Ok(None);
-    };
-    let event = Event {
-        access: Some(access),
-        name: name.clone()?,
-        parameters,
-    };
-    Ok(Some((event, from.back(end))))
+    match event_parameters(alloc, is_destruction(name), spot) {
+        Ok(Some((parameters, end))) => match name.clone() {
+            Ok(name) => {
+                let event = Event {
+                    access: Some(access),
+                    name,
+                    parameters,
+                };
+                Ok(Some((event, from.back(end))))
+            }
+            Err(error) => {
+                drop(access);
+                Err(error)
+            }
+        },
+        Ok(None) => {
+            drop(access);
+            Ok(None)
+        }
+        Err(error) => {
+            drop(access);
+            Err(error)
+        }
+    }
 }
 
 /// The event `ResourceDestroyed` without access, behind its `event`, which stands at `from`, and the spot behind its `)`;
@@ -263,16 +306,32 @@ fn unsorted<'a>(
 ) -> Result<Option<(InterfaceMember, Spot<'a>)>, AllocError>
     ensures { IfOk result (λ o. option_map (seen_with interface_member_of) o ≡ spec.unsorted access name.now (seen spot.entry)) }
 {
-    let Some((annotation, end)) = annotation(alloc, spot)? else {
-        return Ok(None);
-    };
-    let field = Field {
-        access,
-        kind: None,
-        name: name.clone()?,
-        annotation,
-    };
-    Ok(Some((InterfaceMember::Field(field), end)))
+    match annotation(alloc, spot) {
+        Ok(Some((annotation, end))) => match name.clone() {
+            Ok(name) => {
+                let field = Field {
+                    access,
+                    kind: None,
+                    name,
+                    annotation,
+                };
+                Ok(Some((InterfaceMember::Field(field), end)))
+            }
+            Err(error) => {
+                drop(access);
+                drop(annotation);
+                Err(error)
+            }
+        },
+        Ok(None) => {
+            drop(access);
+            Ok(None)
+        }
+        Err(error) => {
+            drop(access);
+            Err(error)
+        }
+    }
 }
 
 #[tactic(auto, unfolding(crate::specs::Code::Reading::interface_member_with))]

@@ -2,15 +2,23 @@
 ghost use Rattle.std.specs.Prelude.{◌≡◌, [], length, IfOk, Some, option_map};
 ghost use Rattle.cad_grammar.specs.Views.{transaction_of, transaction_field_of, prepare_of};
 ghost use Rattle.cad_parse.specs.Code.Reading as spec;
-ghost use Rattle.cad_parse.specs.Code.Views.{fields_in, maybe_parameters_in, maybe_prepare_of, maybe_stmts_in};
+ghost use Rattle.cad_parse.specs.Code.Views.{fields_in, maybe_parameters_in, maybe_prepare_of, maybe_stmts_in, phases_in, transaction_body_in};
 ghost use Rattle.cad_parse_type.specs.Code.Views.{seen, seen_with};
 
 use crate::function::{conditions_behind, labelled, parameters};
-use cad_grammar::{Parameter, Prepare, Sign, Stmt, Transaction, TransactionField, VariableKind};
+use cad_grammar::{
+    Conditions, Parameter, Prepare, Sign, Stmt, Transaction, TransactionField, VariableKind,
+};
 use cad_parse_statement::{block, variable_word};
 use cad_parse_type::{Spot, annotation};
 use cad_syntax::Keyword;
 use std::alloc::{AllocError, Global};
+
+// The conditions before, the block of `execute`, and the conditions behind it.
+type Phases = ((Option<Conditions>, Option<Vec<Stmt>>), Option<Conditions>);
+
+// Fields and `prepare`, and what stands behind them.
+type TransactionBody = ((Vec<TransactionField>, Option<Prepare>), Phases);
 
 #[tactic(auto, unfolding(crate::specs::Code::Reading::transaction_field))]
 fn transaction_field(
@@ -26,12 +34,20 @@ fn transaction_field(
     let Some((annotation, spot)) = annotation(alloc, spot)? else {
         return Ok(None);
     };
-    let field = TransactionField {
-        kind,
-        name: name.clone()?,
-        annotation,
-    };
-    Ok(Some((field, spot)))
+    match name.clone() {
+        Ok(name) => {
+            let field = TransactionField {
+                kind,
+                name,
+                annotation,
+            };
+            Ok(Some((field, spot)))
+        }
+        Err(error) => {
+            drop(annotation);
+            Err(error)
+        }
+    }
 }
 
 #[tactic(auto, unfolding(crate::specs::Code::Reading::fields))]
@@ -114,9 +130,77 @@ fn execute(
     Ok(Some((Some(body), end)))
 }
 
+// What stands behind `prepare`, and the spot behind the `}` of the transaction.
+#[tactic(auto, unfolding(crate::specs::Code::Reading::phases))]
+fn phases(alloc: Global, spot: Spot<'_>) -> Result<Option<(Phases, Spot<'_>)>, AllocError>
+    ensures { IfOk result (λ o. option_map (seen_with phases_in) o ≡ spec.phases (seen spot.entry)) }
+{
+    let Some((pre, spot)) = conditions_behind(alloc, Keyword::Pre, spot)? else {
+        return Ok(None);
+    };
+    let (execute, spot) = match execute(alloc, spot) {
+        Ok(Some(found)) => found,
+        Ok(None) => {
+            drop(pre);
+            return Ok(None);
+        }
+        Err(error) => {
+            drop(pre);
+            return Err(error);
+        }
+    };
+    let (post, spot) = match conditions_behind(alloc, Keyword::Post, spot) {
+        Ok(Some(found)) => found,
+        Ok(None) => {
+            drop(pre);
+            drop(execute);
+            return Ok(None);
+        }
+        Err(error) => {
+            drop(pre);
+            drop(execute);
+            return Err(error);
+        }
+    };
+    let Some(end) = spot.after(Sign::CloseBrace) else {
+        drop(pre);
+        drop(execute);
+        drop(post);
+        return Ok(None);
+    };
+    Ok(Some((((pre, execute), post), end)))
+}
+
+// What stands behind the `{` of a transaction, and the spot behind its `}`.
+#[tactic(auto, unfolding(crate::specs::Code::Reading::transaction_body))]
+fn transaction_body(
+    alloc: Global,
+    spot: Spot<'_>,
+) -> Result<Option<(TransactionBody, Spot<'_>)>, AllocError>
+    ensures { IfOk result (λ o. option_map (seen_with transaction_body_in) o ≡ spec.transaction_body (seen spot.entry)) }
+{
+    let Some((fields, spot)) = fields(alloc, spot)? else {
+        return Ok(None);
+    };
+    let Some((prepare, spot)) = prepare(alloc, spot)? else {
+        return Ok(None);
+    };
+    match phases(alloc, spot) {
+        Ok(Some((phases, end))) => Ok(Some((((fields, prepare), phases), end))),
+        Ok(None) => {
+            drop(prepare);
+            Ok(None)
+        }
+        Err(error) => {
+            drop(prepare);
+            Err(error)
+        }
+    }
+}
+
 /// The transaction that begins behind its `transaction`, which stands at `from`, and the spot behind its `}`; None where none
 /// begins.
-#[tactic(auto, unfolding(crate::specs::Code::Reading::transaction, cad_parse_type::specs::Code::Views::seen))]
+#[tactic(auto, unfolding(crate::specs::Code::Reading::transaction, crate::specs::Code::Reading::transaction_body, crate::specs::Code::Reading::phases, cad_parse_type::specs::Code::Views::seen))]
 pub fn transaction<'a>(
     alloc: Global,
     from: Spot<'a>,
@@ -128,33 +212,29 @@ pub fn transaction<'a>(
         return Ok(None);
     };
     let Some(spot) = spot.opening(Sign::OpenBrace) else {
+        drop(parameters);
         return Ok(None);
     };
-    let Some((fields, spot)) = fields(alloc, spot)? else {
-        return Ok(None);
-    };
-    let Some((prepare, spot)) = prepare(alloc, spot)? else {
-        return Ok(None);
-    };
-    let Some((pre, spot)) = conditions_behind(alloc, Keyword::Pre, spot)? else {
-        return Ok(None);
-    };
-    let Some((execute, spot)) = execute(alloc, spot)? else {
-        return Ok(None);
-    };
-    let Some((post, spot)) = conditions_behind(alloc, Keyword::Post, spot)? else {
-        return Ok(None);
-    };
-    let Some(end) = spot.after(Sign::CloseBrace) else {
-        return Ok(None);
-    };
-    let transaction = Transaction {
-        parameters,
-        fields,
-        prepare,
-        pre,
-        execute,
-        post,
-    };
-    Ok(Some((transaction, from.back(end))))
+    match transaction_body(alloc, spot) {
+        Ok(Some((body, end))) => {
+            let ((fields, prepare), ((pre, execute), post)) = body;
+            let transaction = Transaction {
+                parameters,
+                fields,
+                prepare,
+                pre,
+                execute,
+                post,
+            };
+            Ok(Some((transaction, from.back(end))))
+        }
+        Ok(None) => {
+            drop(parameters);
+            Ok(None)
+        }
+        Err(error) => {
+            drop(parameters);
+            Err(error)
+        }
+    }
 }

@@ -8,7 +8,7 @@ use Rattle.cad_syntax.specs.declared.text.Name.{Name}
 use Rattle.cad_grammar.specs.declared.declaration.Access.{Access}
 use Rattle.cad_grammar.specs.declared.declaration.Access.TheVariants as access
 use Rattle.cad_grammar.specs.Trees as tree
-use Rattle.cad_grammar.specs.Trees.{ParameterTree, ConditionTree, FunctionBlockTree}
+use Rattle.cad_grammar.specs.Trees.{ParameterTree, ConditionTree, StmtTree, FunctionBlockTree}
 use Rattle.cad_grammar.specs.Spots.{back, read, then, ◌>>=◌, either, after, keyword, word, name, opening}
 use Rattle.cad_grammar.specs.StatementGrammar.{begins_plainly, parted}
 use Rattle.cad_grammar.specs.ProgramGrammar.{plain_access_of, is_plain_access}
@@ -128,6 +128,13 @@ conditions p = do
 -- the conditions behind `pre` or `post`, or nothing
 abbrev pub conditions_behind : Keyword → Reader (Option (List ConditionTree))
 conditions_behind word = maybe (keyword word) conditions
+
+-- up to a "}"
+unfoldable pub closed_statements : Reader (List StmtTree)
+closed_statements p = do
+  body ← statements_in p
+  r ← after s.CloseBrace body.1
+  Some (body.0, r)
 
 unfoldable pub function_block : Reader FunctionBlockTree
 function_block p = do

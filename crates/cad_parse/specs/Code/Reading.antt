@@ -12,7 +12,7 @@ use Rattle.cad_grammar.specs.declared.declaration.MappingItem.{MappingItem}
 use Rattle.cad_grammar.specs.declared.declaration.MappingItem.TheVariants as mapping_item
 use Rattle.cad_grammar.specs.declared.declaration.Import.{Import}
 use Rattle.cad_grammar.specs.Trees as tree
-use Rattle.cad_grammar.specs.Trees.{StmtTree, ParameterTree, FunctionBlockTree, FunctionTree, InitTree, FieldTree, EventParameterTree, EventTree}
+use Rattle.cad_grammar.specs.Trees.{Annotation, StmtTree, ParameterTree, ConditionTree, FunctionBlockTree, FunctionTree, InitTree, FieldTree, EventParameterTree, EventTree}
 use Rattle.cad_grammar.specs.Trees.{CompositeMemberTree, CompositeTree, InterfaceMemberTree, InterfaceTree, EnumTree, MappingTree, ContractMemberTree, ContractTree}
 use Rattle.cad_grammar.specs.Trees.{TransactionFieldTree, PrepareTree, TransactionTree, DeclTree, ProgramTree}
 use Rattle.cad_grammar.specs.Spots.{Spot, back, read, then, ◌>>=◌, either, after, keyword, word, name, opened, opening}
@@ -34,6 +34,15 @@ maybe_blocked p = either (after s.OpenBrace p) (λ q. blocked p) (Some (None, p)
 -- the block of a function in an interface, or elsewhere
 unfoldable pub block_of : Bool → Reader (Option FunctionBlockTree)
 block_of in_interface p = if in_interface then maybe_blocked p else blocked p
+
+-- behind the `fun`
+unfoldable pub function_body : Bool → Reader ((Name × List ParameterTree) × (Option Annotation × Option FunctionBlockTree))
+function_body in_interface p = do
+  n ← name p
+  all ← parameters n.1
+  a ← maybe_annotated all.1
+  b ← block_of in_interface a.1
+  Some (((n.0, all.0), (a.0, b.0)), b.1)
 
 -- behind the access c
 unfoldable pub function_with : Bool → Access → Reader FunctionTree
@@ -144,6 +153,13 @@ conforms p = do
 unfoldable pub conforming : Reader (List (List Name))
 conforming p = either (after s.Colon p) conforms (opening s.OpenBrace p >>= (λ q. Some ([], q)))
 
+-- behind a composite's name, up to the "}"
+unfoldable pub composite_body : Reader (List (List Name) × List CompositeMemberTree)
+composite_body p = do
+  x ← conforming p
+  all ← composite_members x.1
+  Some ((x.0, all.0), all.1)
+
 -- behind the access c, which stands at `from`, and `struct` or `resource`
 unfoldable pub composite : Spot → Access → CompositeKind → Reader CompositeTree
 composite from c kind p = do
@@ -151,6 +167,13 @@ composite from c kind p = do
   x ← conforming n.1
   all ← composite_members x.1
   Some (record { access = c; kind = kind; name = n.0; conformances = x.0; members = all.0 }, back from all.1)
+
+-- behind an interface's name, up to the "}"
+unfoldable pub interface_body : Reader (List (List Name) × List InterfaceMemberTree)
+interface_body p = do
+  x ← conforming p
+  all ← interface_members x.1
+  Some ((x.0, all.0), all.1)
 
 -- behind `interface`
 unfoldable pub interface : Spot → Access → CompositeKind → Reader InterfaceTree
@@ -171,6 +194,14 @@ enum_case p = do
 
 abbrev pub enum_cases : Reader (List EnumCase)
 enum_cases p = repeated enum_case s.CloseBrace (length p.tokens) [] p
+
+-- behind an enum's name and ":", up to the "}"
+unfoldable pub enum_body : Reader (List Name × List EnumCase)
+enum_body p = do
+  raw ← dotted p
+  q ← opening s.OpenBrace raw.1
+  all ← enum_cases q
+  Some ((raw.0, all.0), all.1)
 
 -- behind `enum`
 unfoldable pub enumeration : Spot → Access → Reader EnumTree
@@ -278,6 +309,23 @@ prepare = maybe (keyword k.Prepare) prepared
 
 unfoldable pub execute : Reader (Option (List StmtTree))
 execute = maybe (keyword k.Execute) block_in
+
+-- behind `prepare`, up to the "}"
+unfoldable pub phases : Reader ((Option (List ConditionTree) × Option (List StmtTree)) × Option (List ConditionTree))
+phases p = do
+  a ← conditions_behind k.Pre p
+  z ← execute a.1
+  b ← conditions_behind k.Post z.1
+  r ← after s.CloseBrace b.1
+  Some (((a.0, z.0), b.0), r)
+
+-- behind the "{", up to the "}"
+unfoldable pub transaction_body : Reader ((List TransactionFieldTree × Option PrepareTree) × ((Option (List ConditionTree) × Option (List StmtTree)) × Option (List ConditionTree)))
+transaction_body p = do
+  f ← field_list p
+  y ← prepare f.1
+  z ← phases y.1
+  Some (((f.0, y.0), z.0), z.1)
 
 -- behind `transaction`
 unfoldable pub transaction : Spot → Reader TransactionTree
