@@ -6,6 +6,7 @@ ghost use Rattle.cad_grammar.specs.Views.{expr_of, type_of};
 use cad_grammar::{BinaryOperator, Expr, TypeExpr};
 use std::alloc::{AllocError, Global};
 
+/// An expression on the heap.
 pub fn boxed(alloc: Global, a: Expr) -> Result<Box<Expr>, AllocError>
     ensures { IfOk result (λ b. b.value ≡ a) }
 {
@@ -18,6 +19,7 @@ pub fn boxed(alloc: Global, a: Expr) -> Result<Box<Expr>, AllocError>
     }
 }
 
+/// Two expressions on the heap.
 pub fn boxed_both(alloc: Global, a: Expr, b: Expr) -> Result<(Box<Expr>, Box<Expr>), AllocError>
     ensures left { IfOk result (λ both. both.0.value ≡ a) }
     ensures right { IfOk result (λ both. both.1.value ≡ b) }
