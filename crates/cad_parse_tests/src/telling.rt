@@ -35,7 +35,10 @@ pub(crate) fn shown(alloc: Global, text: &str, mark: &str) -> Result<String, All
 
 pub(crate) fn told_program(alloc: Global, code: &str) -> Result<String, AllocError> {
     match parse_program(alloc, code.as_bytes()) {
-        Ok(_) => String::from_str(alloc, "ok"),
+        Ok(program) => {
+            drop(program);
+            String::from_str(alloc, "ok")
+        }
         Err(ParseStop::At { phase, at }) => match phase {
             Phase::Lex => format!(in alloc; "lex {at}"),
             Phase::Parse => format!(in alloc; "parse {at}"),
@@ -45,19 +48,28 @@ pub(crate) fn told_program(alloc: Global, code: &str) -> Result<String, AllocErr
     }
 }
 
+// The printed form of the program that a text is, empty where it is none.
+fn printed(alloc: Global, code: &str) -> Result<String, AllocError> {
+    match parse_program(alloc, code.as_bytes()) {
+        Ok(program) => {
+            let text = format!(in alloc; "{program:?}");
+            drop(program);
+            text
+        }
+        Err(_) => Ok(String::new(alloc)),
+    }
+}
+
 // Whether two texts with `⇔` between them are programs of one tree, told by its printed form.
 fn compared(alloc: Global, pair: &str) -> Result<&'static str, AllocError> {
     let Some((one, other)) = pair.split_once(" ⇔ ") else {
         return Ok("no pair");
     };
-    let Ok(first) = parse_program(alloc, one.as_bytes()) else {
+    let first = printed(alloc, one)?;
+    let second = printed(alloc, other)?;
+    if first.is_empty() || second.is_empty() {
         return Ok("no program");
-    };
-    let Ok(second) = parse_program(alloc, other.as_bytes()) else {
-        return Ok("no program");
-    };
-    let first = format!(in alloc; "{first:?}")?;
-    let second = format!(in alloc; "{second:?}")?;
+    }
     Ok(if first == second { "same" } else { "other" })
 }
 
@@ -87,8 +99,9 @@ pub(crate) fn told_expression(alloc: Global, depth: u32, code: &str) -> Result<S
     };
     match parse_expr(alloc, &mut cursor, depth.min(MAX_NESTING)) {
         Ok(found) => {
-            let text = format!(in alloc; "{found:?} {}", all.len().saturating_sub(cursor.at))?;
-            shown(alloc, text.as_str(), "'")
+            let text = format!(in alloc; "{found:?} {}", all.len().saturating_sub(cursor.at));
+            drop(found);
+            shown(alloc, text?.as_str(), "'")
         }
         Err(ParseStop::At { at, .. }) => format!(in alloc; "none {at}"),
         Err(ParseStop::Memory) => Err(AllocError),
@@ -112,7 +125,9 @@ pub(crate) fn told_type(
         Some((found, rest)) => {
             let tokens = rest.tokens.len();
             let left = rest.left;
-            format!(in alloc; "{found:?} {tokens} {left}")
+            let text = format!(in alloc; "{found:?} {tokens} {left}");
+            drop(found);
+            text
         }
         None => String::from_str(alloc, "none"),
     }

@@ -2,27 +2,34 @@
 use crate::rows::{BLOCKS, EXAMPLES, MEMBERS, PROGRAMS, PUBLISH, SETUP, TOKEN, TRANSFER, TREES};
 use crate::telling::{Part, differences, told_program};
 use std::alloc::{AllocError, Global};
-use std::test::Fail;
 
 #[test]
-fn programs_are_parsed(rt: HostRuntime) -> Result<(), Fail> {
+fn programs_are_parsed(rt: HostRuntime) {
     let alloc = rt.alloc();
     for rows in [PROGRAMS, MEMBERS, BLOCKS, EXAMPLES] {
-        assert_eq!(rt; differences(alloc, Part::Program, rows)?.as_str(), "");
+        assert_eq!(rt;
+            differences(alloc, Part::Program, rows)
+                .expect(&rt, "memory")
+                .as_str(),
+            ""
+        );
     }
     for code in [TOKEN, SETUP, PUBLISH, TRANSFER] {
-        assert_eq!(rt; told_program(alloc, code)?.as_str(), "ok");
+        assert_eq!(rt;
+            told_program(alloc, code).expect(&rt, "memory").as_str(),
+            "ok"
+        );
     }
-    Ok(())
 }
 
 #[test]
-fn trees_are_told_apart(rt: HostRuntime) -> Result<(), Fail> {
+fn trees_are_told_apart(rt: HostRuntime) {
     assert_eq!(rt;
-        differences(rt.alloc(), Part::TwoPrograms, TREES)?.as_str(),
+        differences(rt.alloc(), Part::TwoPrograms, TREES)
+            .expect(&rt, "memory")
+            .as_str(),
         ""
     );
-    Ok(())
 }
 
 // What a text comes to in whose middle so many of one piece stand, and as many of another behind the middle.
@@ -42,7 +49,7 @@ fn nested(alloc: Global, pieces: [&str; 5], count: usize) -> Result<String, Allo
 
 // 128 nestings are open in the middle, and one more is refused. A tree so deep is read and dropped.
 #[test]
-fn nestings_are_bounded(rt: HostRuntime) -> Result<(), Fail> {
+fn nestings_are_bounded(rt: HostRuntime) {
     let alloc = rt.alloc();
     for (pieces, most) in [
         (["access(all) fun f() { return ", "(", "a", ")", " }"], 127),
@@ -97,11 +104,15 @@ fn nestings_are_bounded(rt: HostRuntime) -> Result<(), Fail> {
             63,
         ),
     ] {
-        assert_eq!(rt; nested(alloc, pieces, most)?.as_str(), "ok");
         assert_eq!(rt;
-            nested(alloc, pieces, most.wrapping_add(1))?.as_str(),
+            nested(alloc, pieces, most).expect(&rt, "memory").as_str(),
+            "ok"
+        );
+        assert_eq!(rt;
+            nested(alloc, pieces, most.wrapping_add(1))
+                .expect(&rt, "memory")
+                .as_str(),
             "parse 0"
         );
     }
-    Ok(())
 }

@@ -3,7 +3,6 @@ use crate::token_rows::{GAPS, NUMBERS, QUOTATIONS, SIGNS, WORDS};
 use cad_grammar::{Token, TokenKind};
 use cad_lex::*;
 use std::alloc::{AllocError, Global};
-use std::test::Fail;
 
 fn push_kind(out: &mut String, kind: &TokenKind) -> Result<(), AllocError> {
     match kind {
@@ -61,45 +60,85 @@ fn differences(alloc: Global, rows: &str) -> Result<String, AllocError> {
 }
 
 #[test]
-fn words_are_read(rt: HostRuntime) -> Result<(), Fail> {
-    assert_eq!(rt; differences(rt.alloc(), WORDS)?.as_str(), "");
-    Ok(())
+fn words_are_read(rt: HostRuntime) {
+    assert_eq!(rt;
+        differences(rt.alloc(), WORDS)
+            .expect(&rt, "memory")
+            .as_str(),
+        ""
+    );
 }
 
 #[test]
-fn numbers_are_read(rt: HostRuntime) -> Result<(), Fail> {
-    assert_eq!(rt; differences(rt.alloc(), NUMBERS)?.as_str(), "");
-    Ok(())
+fn numbers_are_read(rt: HostRuntime) {
+    assert_eq!(rt;
+        differences(rt.alloc(), NUMBERS)
+            .expect(&rt, "memory")
+            .as_str(),
+        ""
+    );
 }
 
 #[test]
-fn quotations_are_read(rt: HostRuntime) -> Result<(), Fail> {
-    assert_eq!(rt; differences(rt.alloc(), QUOTATIONS)?.as_str(), "");
-    Ok(())
+fn quotations_are_read(rt: HostRuntime) {
+    assert_eq!(rt;
+        differences(rt.alloc(), QUOTATIONS)
+            .expect(&rt, "memory")
+            .as_str(),
+        ""
+    );
 }
 
 #[test]
-fn gaps_are_passed(rt: HostRuntime) -> Result<(), Fail> {
-    assert_eq!(rt; differences(rt.alloc(), GAPS)?.as_str(), "");
-    Ok(())
+fn gaps_are_passed(rt: HostRuntime) {
+    assert_eq!(rt;
+        differences(rt.alloc(), GAPS).expect(&rt, "memory").as_str(),
+        ""
+    );
 }
 
 #[test]
-fn signs_are_read(rt: HostRuntime) -> Result<(), Fail> {
-    assert_eq!(rt; differences(rt.alloc(), SIGNS)?.as_str(), "");
-    Ok(())
+fn signs_are_read(rt: HostRuntime) {
+    assert_eq!(rt;
+        differences(rt.alloc(), SIGNS)
+            .expect(&rt, "memory")
+            .as_str(),
+        ""
+    );
 }
 
 // The first byte that isn't UTF-8 goes before all else.
 #[test]
-fn bad_bytes_stop(rt: HostRuntime) -> Result<(), Fail> {
+fn bad_bytes_stop(rt: HostRuntime) {
     let alloc = rt.alloc();
-    assert_eq!(rt; told(alloc, b"a\x80")?.as_str(), "stop 1");
-    assert_eq!(rt; told(alloc, b"# \xff")?.as_str(), "stop 2");
-    assert_eq!(rt; told(alloc, b"\"ab\xff")?.as_str(), "stop 3");
-    assert_eq!(rt; told(alloc, b"/* \xff")?.as_str(), "stop 3");
-    assert_eq!(rt; told(alloc, b"a \xe2\x82")?.as_str(), "stop 2");
-    assert_eq!(rt; told(alloc, b"\"\xe2\x82x\"")?.as_str(), "stop 1");
-    assert_eq!(rt; told(alloc, b"\"\xed\xa0\x80\"")?.as_str(), "stop 1");
-    Ok(())
+    assert_eq!(rt;
+        told(alloc, b"a\x80").expect(&rt, "memory").as_str(),
+        "stop 1"
+    );
+    assert_eq!(rt;
+        told(alloc, b"# \xff").expect(&rt, "memory").as_str(),
+        "stop 2"
+    );
+    assert_eq!(rt;
+        told(alloc, b"\"ab\xff").expect(&rt, "memory").as_str(),
+        "stop 3"
+    );
+    assert_eq!(rt;
+        told(alloc, b"/* \xff").expect(&rt, "memory").as_str(),
+        "stop 3"
+    );
+    assert_eq!(rt;
+        told(alloc, b"a \xe2\x82").expect(&rt, "memory").as_str(),
+        "stop 2"
+    );
+    assert_eq!(rt;
+        told(alloc, b"\"\xe2\x82x\"").expect(&rt, "memory").as_str(),
+        "stop 1"
+    );
+    assert_eq!(rt;
+        told(alloc, b"\"\xed\xa0\x80\"")
+            .expect(&rt, "memory")
+            .as_str(),
+        "stop 1"
+    );
 }
