@@ -71,7 +71,7 @@ fn conforming(
 }
 
 // What stands behind the name of a composite, and the spot behind its `}`.
-#[tactic(auto, unfolding(crate::specs::Code::Reading::composite_body))]
+#[tactic(auto, unfolding(crate::specs::Code::Reading::composite_body, cad_parse_type::specs::Code::Views::seen))]
 fn composite_body(
     alloc: Global,
     spot: Spot<'_>,
@@ -131,7 +131,7 @@ pub fn composite<'a>(
 }
 
 // What stands behind the name of an interface, and the spot behind its `}`.
-#[tactic(auto, unfolding(crate::specs::Code::Reading::interface_body))]
+#[tactic(auto, unfolding(crate::specs::Code::Reading::interface_body, cad_parse_type::specs::Code::Views::seen))]
 fn interface_body(
     alloc: Global,
     spot: Spot<'_>,
@@ -237,7 +237,7 @@ fn enum_cases(
 }
 
 // What stands behind the name of an enum and its `:`, and the spot behind its `}`.
-#[tactic(auto, unfolding(crate::specs::Code::Reading::enum_body))]
+#[tactic(auto, unfolding(crate::specs::Code::Reading::enum_body, cad_parse_type::specs::Code::Views::seen))]
 fn enum_body(
     alloc: Global,
     spot: Spot<'_>,

@@ -172,7 +172,7 @@ fn phases(alloc: Global, spot: Spot<'_>) -> Result<Option<(Phases, Spot<'_>)>, A
 }
 
 // What stands behind the `{` of a transaction, and the spot behind its `}`.
-#[tactic(auto, unfolding(crate::specs::Code::Reading::transaction_body))]
+#[tactic(auto, unfolding(crate::specs::Code::Reading::transaction_body, cad_parse_type::specs::Code::Views::seen))]
 fn transaction_body(
     alloc: Global,
     spot: Spot<'_>,
