@@ -1,10 +1,9 @@
 // Contracts over a host in memory.
-use crate::account_tests::{TAPE, run, with_tapes};
-use cad_host::{MemHost, Tape};
-use cad_serve::Status;
-use cad_syntax::Items;
+use crate::account_tests::TAPE;
+use crate::running::{assert_bytes, assert_next, bytes_of, done, joined};
+use cad_host::Tape;
 use std::alloc::Global;
-use std::test::Fail;
+use std::process::Abort;
 
 const ACCOUNT: &str = "{\"kind\":\"account\"}\n";
 
@@ -56,51 +55,41 @@ const ADDED: [u8; 86] = [
     0, 0, 0, 1, 110, 4, 0, 0, 0, 0, 0, 0, 0, 0, 0, 0, 0, 0, 0, 0, 0, 0, 0, 42,
 ];
 
-fn deploy(alloc: Global, name: &str, code: &str, arguments: &str) -> Result<String, Fail> {
-    let line = format!(in alloc;
+fn deploy(rt: &impl Abort, alloc: Global, name: &str, code: &str, arguments: &str) -> String {
+    format!(in alloc;
         "{{\"kind\":\"deploy\",\"address\":\"0x1\",\"name\":\"{name}\",\"code\":\"{code}\",\"arguments\":{arguments}}}\n"
-    )?;
-    Ok(line)
+    ).expect(rt, "memory")
 }
 
-// What is replied to lines over the tapes of another host.
-fn next_output(alloc: Global, host: &MemHost, input: &str) -> Result<Items<u8>, Fail> {
-    let mut next = with_tapes(
+// The tape with the contract and the transaction behind an account.
+fn tape_of_counter(rt: &impl Abort, alloc: Global) -> Vec<u8> {
+    bytes_of(
+        rt,
         alloc,
-        input,
-        host.tape(Tape::A),
-        host.tape(Tape::B),
-        host.tape(Tape::Pick),
-    )?;
-    if run(alloc, &mut next)? != Status::Done {
-        return Err(Fail::from("not done"));
-    }
-    Ok(Items::from_slice(alloc, next.output())?)
+        &[
+            &TAPE[..66],
+            &[1],
+            &BEFORE_CODE,
+            COUNTER.as_bytes(),
+            &BEHIND_CODE,
+            &[1],
+            &ADDED,
+            &[0],
+        ],
+    )
 }
 
 #[test]
-fn keeps_contracts(rt: HostRuntime) -> Result<(), Fail> {
+fn keeps_contracts(rt: HostRuntime) {
     let alloc = rt.alloc();
-    let deploys = deploy(alloc, "C", COUNTER, FORTY)?;
-    let input = format!(in alloc; "{ACCOUNT}{deploys}{READ}{ADD}{READ}")?;
-    let mut host = MemHost::new(alloc, input.as_bytes(), &[], &[], &[])?;
-    assert_eq!(rt; run(alloc, &mut host)?, Status::Done);
-    let want = format!(in alloc; "{MADE}{DONE}{IS_40}{DONE}{IS_42}")?;
-    assert_eq!(rt; host.output(), want.as_bytes());
-    let mut tape = Vec::from_slice(alloc, &TAPE[..66])?;
-    tape.push(1)?;
-    tape.extend_from_slice(&BEFORE_CODE)?;
-    tape.extend_from_slice(COUNTER.as_bytes())?;
-    tape.extend_from_slice(&BEHIND_CODE)?;
-    tape.push(1)?;
-    tape.extend_from_slice(&ADDED)?;
-    tape.push(0)?;
-    assert_eq!(rt; host.tape(Tape::A), tape.as_slice());
-    assert_eq!(rt;
-        next_output(alloc, &host, READ)?.as_slice(),
-        IS_42.as_bytes()
-    );
-    Ok(())
+    let deploys = deploy(&rt, alloc, "C", COUNTER, FORTY);
+    let input = joined(&rt, alloc, &[ACCOUNT, &deploys, READ, ADD, READ]);
+    let want = joined(&rt, alloc, &[MADE, DONE, IS_40, DONE, IS_42]);
+    let host = done(&rt, alloc, &input, &want);
+    let tape = tape_of_counter(&rt, alloc);
+    assert_bytes(&rt, host.tape(Tape::A), &tape, 0, 1);
+    assert_next(&rt, alloc, &host, READ, IS_42, 1);
+    drop(host);
 }
 
 // ---- what is refused, in order
@@ -176,27 +165,39 @@ const AWAY_REFUSED: &str = "{\"error\":\"26\",\"reply\":\"bad\"}\n";
 const TWICE: &str =
     "{\"kind\":\"script\",\"code\":\"import A from 0x1 access(all) fun main(): Int { return A.twice() }\"}\n";
 
+// Adds a text behind another.
+fn add(rt: &impl Abort, all: &mut String, text: &str) {
+    all.push_str(text).expect(rt, "memory");
+}
+
+fn add_deploy(
+    rt: &impl Abort,
+    alloc: Global,
+    all: &mut String,
+    name: &str,
+    code: &str,
+    arguments: &str,
+) {
+    let line = deploy(rt, alloc, name, code, arguments);
+    add(rt, all, &line);
+}
+
 // A contract that is refused leaves nothing, so its name is free. A imports C, and stands before it.
 #[test]
-fn refuses_deploys(rt: HostRuntime) -> Result<(), Fail> {
+fn refuses_deploys(rt: HostRuntime) {
     let alloc = rt.alloc();
-    let mut input = format!(in alloc; "{ACCOUNT}{AWAY}")?;
-    let mut want = format!(in alloc; "{MADE}{AWAY_REFUSED}{DONE}")?;
-    input.push_str(deploy(alloc, "C", COUNTER, FORTY)?.as_str())?;
+    let mut input = joined(&rt, alloc, &[ACCOUNT, AWAY]);
+    let mut want = joined(&rt, alloc, &[MADE, AWAY_REFUSED, DONE]);
+    add_deploy(&rt, alloc, &mut input, "C", COUNTER, FORTY);
     for (name, code, arguments, reply) in DEPLOYS {
-        input.push_str(deploy(alloc, name, code, arguments)?.as_str())?;
-        want.push_str(reply)?;
+        add_deploy(&rt, alloc, &mut input, name, code, arguments);
+        add(&rt, &mut want, reply);
     }
-    let mut host = MemHost::new(alloc, input.as_bytes(), &[], &[], &[])?;
-    assert_eq!(rt; run(alloc, &mut host)?, Status::Done);
-    assert_eq!(rt; host.output(), want.as_bytes());
-    let more = format!(in alloc; "{ADD}{TWICE}")?;
-    let after = format!(in alloc; "{DONE}{IS_84}")?;
-    assert_eq!(rt;
-        next_output(alloc, &host, &more)?.as_slice(),
-        after.as_bytes()
-    );
-    Ok(())
+    let host = done(&rt, alloc, &input, &want);
+    let more = joined(&rt, alloc, &[ADD, TWICE]);
+    let after = joined(&rt, alloc, &[DONE, IS_84]);
+    assert_next(&rt, alloc, &host, &more, &after, 1);
+    drop(host);
 }
 
 // ---- a contract of resources
@@ -233,46 +234,71 @@ const LOST: &str =
 const LOST_AT: &str = "{\"at\":\"0\",\"in\":\"main\",\"phase\":\"moves\",\"reply\":\"rejected\"}\n";
 
 // Saves an empty vault in an account.
-fn set_up(alloc: Global, address: &str) -> Result<String, Fail> {
-    let line = format!(in alloc;
+fn set_up(rt: &impl Abort, alloc: Global, address: &str) -> String {
+    format!(in alloc;
         "{{\"kind\":\"transaction\",\"signers\":[\"{address}\"],\"code\":\"import Token from 0x1 transaction {{ prepare(a: auth(SaveValue) &Account) {{ a.storage.save(<-Token.empty(), to: /storage/token) }} }}\"}}\n"
-    )?;
-    Ok(line)
+    ).expect(rt, "memory")
 }
 
-fn made(alloc: Global, identity: &str) -> Result<String, Fail> {
-    let line = format!(in alloc;
+fn made(rt: &impl Abort, alloc: Global, identity: &str) -> String {
+    format!(in alloc;
         "{{\"destroyed\":[],\"events\":[],\"made\":[\"{identity}\"],\"reply\":\"ok\"}}\n"
-    )?;
-    Ok(line)
+    ).expect(rt, "memory")
+}
+
+// Lines of the first run, where `second` saves a vault in the account 2.
+fn first_lines(rt: &impl Abort, alloc: Global, second: &str) -> String {
+    let token = deploy(rt, alloc, "Token", TOKEN, "[]");
+    joined(
+        rt,
+        alloc,
+        &[
+            ACCOUNT, ACCOUNT, &token, second, PUBLISH, TRANSFER, BALANCE, LOST,
+        ],
+    )
+}
+
+// The replies to them.
+fn first_replies(rt: &impl Abort, alloc: Global) -> String {
+    let first_made = made(rt, alloc, "1");
+    let second_made = made(rt, alloc, "2");
+    joined(
+        rt,
+        alloc,
+        &[
+            MADE,
+            MADE_SECOND,
+            &first_made,
+            &second_made,
+            DONE,
+            TRANSFERRED,
+            BALANCE_IS,
+            LOST_AT,
+        ],
+    )
 }
 
 // What fails takes no identities, before the tapes are opened again and behind.
 #[test]
-fn keeps_resources(rt: HostRuntime) -> Result<(), Fail> {
+fn keeps_resources(rt: HostRuntime) {
     let alloc = rt.alloc();
-    let token = deploy(alloc, "Token", TOKEN, "[]")?;
-    let second = set_up(alloc, "0x2")?;
-    let first_made = made(alloc, "1")?;
-    let second_made = made(alloc, "2")?;
-    let input = format!(in alloc;
-        "{ACCOUNT}{ACCOUNT}{token}{second}{PUBLISH}{TRANSFER}{BALANCE}{LOST}"
-    )?;
-    let want = format!(in alloc;
-        "{MADE}{MADE_SECOND}{first_made}{second_made}{DONE}{TRANSFERRED}{BALANCE_IS}{LOST_AT}"
-    )?;
-    let mut host = MemHost::new(alloc, input.as_bytes(), &[], &[], &[])?;
-    assert_eq!(rt; run(alloc, &mut host)?, Status::Done);
-    assert_eq!(rt; host.output(), want.as_bytes());
-    let third = set_up(alloc, "0x3")?;
-    let fourth_made = made(alloc, "4")?;
-    let more = format!(in alloc; "{ACCOUNT}{STOPPED}{third}{second}{BALANCE}")?;
-    let after = format!(in alloc; "{MADE_THIRD}{STOPPED_BY}{fourth_made}{OCCUPIED}{BALANCE_IS}")?;
-    assert_eq!(rt;
-        next_output(alloc, &host, &more)?.as_slice(),
-        after.as_bytes()
+    let second = set_up(&rt, alloc, "0x2");
+    let host = done(
+        &rt,
+        alloc,
+        &first_lines(&rt, alloc, &second),
+        &first_replies(&rt, alloc),
     );
-    Ok(())
+    let third = set_up(&rt, alloc, "0x3");
+    let fourth_made = made(&rt, alloc, "4");
+    let more = joined(&rt, alloc, &[ACCOUNT, STOPPED, &third, &second, BALANCE]);
+    let after = joined(
+        &rt,
+        alloc,
+        &[MADE_THIRD, STOPPED_BY, &fourth_made, OCCUPIED, BALANCE_IS],
+    );
+    assert_next(&rt, alloc, &host, &more, &after, 1);
+    drop(host);
 }
 
 // ---- contracts that programs add
@@ -320,38 +346,48 @@ const ADDS_ANOTHER: &str =
 const READ_OTHER: &str =
     "{\"kind\":\"script\",\"code\":\"import F from 0x1 access(all) fun main(): Int { return F.n() }\"}\n";
 
-fn adds(alloc: Global, name: &str, code: &str, behind: &str) -> Result<String, Fail> {
-    let line = format!(in alloc;
+fn adds(rt: &impl Abort, alloc: Global, name: &str, code: &str, behind: &str) -> String {
+    format!(in alloc;
         "{{\"kind\":\"transaction\",\"signers\":[\"0x1\"],\"code\":\"transaction {{ prepare(a: auth(AddContract) &Account) {{ a.contracts.add(name: \\\"{name}\\\", code: \\\"{code}\\\".utf8{behind}) }} }}\"}}\n"
-    )?;
-    Ok(line)
+    ).expect(rt, "memory")
 }
+
+// The lines behind the additions.
+fn lines_behind(rt: &impl Abort, alloc: Global) -> String {
+    let other = deploy(rt, alloc, "E", ADDS_ANOTHER, "[]");
+    joined(
+        rt,
+        alloc,
+        &[
+            READ,
+            ADDS_AND_STOPS,
+            ADDS_TWO,
+            READ_SECOND,
+            &other,
+            READ_OTHER,
+        ],
+    )
+}
+
+// The replies to them.
+const BEHIND: [&str; 6] = [IS_40, STOPPED_BY, DONE, IS_42, DONE, IS_42];
 
 // What fails adds nothing, so its name is free. What is added is imported by the next line, and when the tapes are opened again.
 #[test]
-fn adds_contracts(rt: HostRuntime) -> Result<(), Fail> {
+fn adds_contracts(rt: HostRuntime) {
     let alloc = rt.alloc();
-    let mut input = String::from_str(alloc, ACCOUNT)?;
-    let mut want = String::from_str(alloc, MADE)?;
+    let mut input = joined(&rt, alloc, &[ACCOUNT]);
+    let mut want = joined(&rt, alloc, &[MADE]);
     for (name, code, behind, reply) in ADDITIONS {
-        input.push_str(adds(alloc, name, code, behind)?.as_str())?;
-        want.push_str(reply)?;
+        let line = adds(&rt, alloc, name, code, behind);
+        add(&rt, &mut input, &line);
+        add(&rt, &mut want, reply);
     }
-    let other = deploy(alloc, "E", ADDS_ANOTHER, "[]")?;
-    let more = format!(in alloc;
-        "{READ}{ADDS_AND_STOPS}{ADDS_TWO}{READ_SECOND}{other}{READ_OTHER}"
-    )?;
-    let after = format!(in alloc; "{IS_40}{STOPPED_BY}{DONE}{IS_42}{DONE}{IS_42}")?;
-    input.push_str(more.as_str())?;
-    want.push_str(after.as_str())?;
-    let mut host = MemHost::new(alloc, input.as_bytes(), &[], &[], &[])?;
-    assert_eq!(rt; run(alloc, &mut host)?, Status::Done);
-    assert_eq!(rt; host.output(), want.as_bytes());
-    let again = format!(in alloc; "{ADD}{TWICE}{READ_SECOND}{READ_OTHER}")?;
-    let replies = format!(in alloc; "{DONE}{IS_84}{IS_42}{IS_42}")?;
-    assert_eq!(rt;
-        next_output(alloc, &host, &again)?.as_slice(),
-        replies.as_bytes()
-    );
-    Ok(())
+    add(&rt, &mut input, &lines_behind(&rt, alloc));
+    add(&rt, &mut want, &joined(&rt, alloc, &BEHIND));
+    let host = done(&rt, alloc, &input, &want);
+    let again = joined(&rt, alloc, &[ADD, TWICE, READ_SECOND, READ_OTHER]);
+    let replies = joined(&rt, alloc, &[DONE, IS_84, IS_42, IS_42]);
+    assert_next(&rt, alloc, &host, &again, &replies, 1);
+    drop(host);
 }

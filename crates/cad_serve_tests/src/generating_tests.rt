@@ -1,10 +1,10 @@
 // Generated sessions.
+use crate::running::{assert_bytes, assert_status, host_of, words_of};
 use cad_generation::generate_lines;
-use cad_host::{MemHost, SureHost};
+use cad_host::{Host, SureHost};
 use cad_serve::{Status, serve};
-use cad_syntax::{Items, Text};
-use std::alloc::{AllocError, Global};
-use std::test::Fail;
+use std::alloc::Global;
+use std::process::Abort;
 
 // Numbers of transfers, with the line of the counts.
 const SESSIONS: [(&str, &str); 2] = [
@@ -36,58 +36,66 @@ const REFUSED: [&str; 10] = [
 const TRANSFER: &str =
     "{\"arguments\":[{\"type\":\"UFix64\",\"value\":\"67.00000000\"},{\"type\":\"Address\",\"value\":\"0x0000000000000002\"}],\"code\":";
 
-fn words_of(alloc: Global, list: &[&str]) -> Result<Items<Text>, AllocError> {
-    let mut words = Items::new(alloc);
-    for word in list {
-        words.push(Text::from_str(alloc, word)?)?;
-    }
-    Ok(words)
+// The status of `generate` with a number.
+fn generate<H: Host>(rt: &impl Abort, alloc: Global, host: &mut H, number: &str) -> Status {
+    let words = words_of(rt, alloc, &["generate", number]);
+    serve(alloc, words.as_slice(), host)
+}
+
+// Asserts what a session comes to: one event, which puts this line.
+fn assert_counts(rt: &impl Abort, alloc: Global, number: &str, want: &str) {
+    let made = SureHost::new(alloc, "hello\n".as_bytes());
+    let mut host = made.expect(rt, "memory");
+    assert_status(rt, generate(rt, alloc, &mut host, number), Status::Done, 0);
+    assert_bytes(rt, host.output(), want.as_bytes(), 0, 0);
+    assert!(rt; host.now() == 1);
+    drop(host);
 }
 
 #[test]
-fn counts_replies_and_identities(rt: HostRuntime) -> Result<(), Fail> {
+fn counts_replies_and_identities(rt: HostRuntime) {
     let alloc = rt.alloc();
     for (number, want) in SESSIONS {
-        let words = words_of(alloc, &["generate", number])?;
-        let mut host = SureHost::new(alloc, "hello\n".as_bytes())?;
-        assert_eq!(rt; serve(alloc, words.as_slice(), &mut host), Status::Done);
-        assert_eq!(rt; host.output(), want.as_bytes());
-        assert_eq!(rt; host.now(), 1);
+        assert_counts(&rt, alloc, number, want);
     }
-    Ok(())
 }
 
-#[test]
-fn refuses_other_numbers(rt: HostRuntime) -> Result<(), Fail> {
-    let alloc = rt.alloc();
-    for number in REFUSED {
-        let words = words_of(alloc, &["generate", number])?;
-        let mut host = SureHost::new(alloc, "".as_bytes())?;
-        assert_eq!(rt; serve(alloc, words.as_slice(), &mut host), Status::Usage);
-    }
-    Ok(())
-}
-
-#[test]
-fn tells_that_a_line_broke(rt: HostRuntime) -> Result<(), Fail> {
-    let alloc = rt.alloc();
-    let words = words_of(alloc, &["generate", "0"])?;
-    let mut host = MemHost::new(alloc, "".as_bytes(), &[], &[0], &[])?;
-    assert_eq!(rt;
-        serve(alloc, words.as_slice(), &mut host),
-        Status::WriteFault
+// Asserts that a word is no number of transfers.
+fn assert_refused(rt: &impl Abort, alloc: Global, number: &str, row: u64) {
+    let mut host = SureHost::new(alloc, &[]).expect(rt, "memory");
+    assert_status(
+        rt,
+        generate(rt, alloc, &mut host, number),
+        Status::Usage,
+        row,
     );
-    Ok(())
+    drop(host);
 }
 
 #[test]
-fn writes_the_lines(rt: HostRuntime) -> Result<(), Fail> {
+fn refuses_other_numbers(rt: HostRuntime) {
     let alloc = rt.alloc();
-    let lines = generate_lines(alloc, 1)?;
+    let mut row = 0u64;
+    for number in REFUSED {
+        assert_refused(&rt, alloc, number, row);
+        row = row.saturating_add(1);
+    }
+}
+
+#[test]
+fn tells_that_a_line_broke(rt: HostRuntime) {
+    let alloc = rt.alloc();
+    let mut host = host_of(&rt, alloc, "", &[], &[0], &[]);
+    let status = generate(&rt, alloc, &mut host, "0");
+    assert_status(&rt, status, Status::WriteFault, 0);
+    drop(host);
+}
+
+#[test]
+fn writes_the_lines(rt: HostRuntime) {
+    let alloc = rt.alloc();
+    let lines = generate_lines(alloc, 1).expect(&rt, "memory");
     let last = lines.as_slice().split(|byte| *byte == b'\n').nth(15);
-    let Some(last) = last else {
-        return Err(Fail::from("there are no 16 lines"));
-    };
+    let last = last.expect(&rt, "there are 16 lines");
     assert!(rt; last.starts_with(TRANSFER.as_bytes()));
-    Ok(())
 }

@@ -8,4 +8,6 @@ mod contract_tests;
 #[cfg(test)]
 mod generating_tests;
 #[cfg(test)]
+mod running;
+#[cfg(test)]
 mod tests;

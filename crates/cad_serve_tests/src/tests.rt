@@ -1,9 +1,9 @@
 // Runs over a host in memory.
-use cad_host::{MemHost, SureHost};
+use crate::running::{assert_bytes, assert_run, assert_status, host_of, joined, words_of};
+use cad_host::SureHost;
 use cad_serve::{Status, serve};
-use cad_syntax::{Items, Text};
-use std::alloc::{AllocError, Global};
-use std::test::Fail;
+use std::alloc::Global;
+use std::process::Abort;
 
 const SUM: &str =
     "{\"kind\":\"script\",\"code\":\"access(all) fun main(): Int { return 1 + 2 * 3 }\"}";
@@ -87,174 +87,146 @@ const UNCHECKED: &str = "{\"at\":\"0\",\"in\":\"main\",\"phase\":\"types\",\"rep
 
 const OVERFLOW: &str = "{\"error\":\"101\",\"reply\":\"failed\"}\n";
 
-fn words_of(alloc: Global, list: &[&str]) -> Result<Items<Text>, AllocError> {
-    let mut words = Items::new(alloc);
-    for word in list {
-        words.push(Text::from_str(alloc, word)?)?;
-    }
-    Ok(words)
+// The sum that has no result.
+const EDGE: &str =
+    "{\"kind\":\"script\",\"code\":\"access(all) fun main(): Int { return 170141183460469231731687303715884105727 + 1 }\"}";
+
+// Asserts the replies to an input.
+fn assert_replies(rt: &impl Abort, alloc: Global, input: &[u8], want: &[u8], row: u64) {
+    let words = words_of(rt, alloc, &["run", "accounts"]);
+    let mut host = SureHost::new(alloc, input).expect(rt, "memory");
+    let status = serve(alloc, words.as_slice(), &mut host);
+    assert_status(rt, status, Status::Done, row);
+    assert_bytes(rt, host.output(), want, row, 0);
+    drop(host);
 }
 
-fn script(alloc: Global, sum: &str) -> Result<String, AllocError> {
-    format!(in alloc;
-        "{{\"kind\":\"script\",\"code\":\"access(all) fun main(): Int {{ return {sum} }}\"}}"
-    )
+// Asserts the replies to pieces of an input, one behind the other.
+fn assert_pieces(rt: &impl Abort, alloc: Global, input: &[&str], want: &[&str], row: u64) {
+    let input = joined(rt, alloc, input);
+    let want = joined(rt, alloc, want);
+    assert_replies(rt, alloc, input.as_bytes(), want.as_bytes(), row);
 }
 
 #[test]
-fn replies_to_lines(rt: HostRuntime) -> Result<(), Fail> {
+fn replies_to_lines(rt: HostRuntime) {
     let alloc = rt.alloc();
-    let words = words_of(alloc, &["run", "accounts"])?;
-    let edge = script(alloc, "170141183460469231731687303715884105727 + 1")?;
-    let table = [
-        (SUM.to_string(alloc)?, SEVEN.to_string(alloc)?),
-        (
-            format!(in alloc; " \t\r\n\n{SUM}\n \t")?,
-            SEVEN.to_string(alloc)?,
-        ),
-        (
-            format!(in alloc; "{SUM}\n{SUM}\n")?,
-            format!(in alloc; "{SEVEN}{SEVEN}")?,
-        ),
-        (edge, OVERFLOW.to_string(alloc)?),
-        ("".to_string(alloc)?, "".to_string(alloc)?),
-        (
-            format!(in alloc; "hello\n{SUM}")?,
-            format!(in alloc; "{UNREAD}{SEVEN}")?,
-        ),
-        (
-            format!(in alloc; "{UNPARSED}\n{UNLEXED}\n{SUM}")?,
-            format!(in alloc; "{REJECTED}{SEVEN}")?,
-        ),
-        (
-            format!(in alloc; "{ILL_TYPED}\n{LOST}\n{SUM}")?,
-            format!(in alloc; "{UNCHECKED}{SEVEN}")?,
-        ),
-    ];
-    for (input, want) in table.iter() {
-        let mut host = SureHost::new(alloc, input.as_bytes())?;
-        let status = serve(alloc, words.as_slice(), &mut host);
-        assert_eq!(rt; status, Status::Done);
-        assert_eq!(rt; host.output(), want.as_bytes());
-    }
-    Ok(())
-}
-
-// The replies of a run to one line.
-fn replies_to(alloc: Global, line: &str) -> Result<Items<u8>, Fail> {
-    let words = words_of(alloc, &["run", "accounts"])?;
-    let mut host = SureHost::new(alloc, line.as_bytes())?;
-    serve(alloc, words.as_slice(), &mut host);
-    Ok(Items::from_slice(alloc, host.output())?)
+    assert_pieces(&rt, alloc, &[SUM], &[SEVEN], 0);
+    assert_pieces(&rt, alloc, &[" \t\r\n\n", SUM, "\n \t"], &[SEVEN], 1);
+    assert_pieces(&rt, alloc, &[SUM, "\n", SUM, "\n"], &[SEVEN, SEVEN], 2);
+    assert_pieces(&rt, alloc, &[EDGE], &[OVERFLOW], 3);
+    assert_pieces(&rt, alloc, &[""], &[""], 4);
+    assert_pieces(&rt, alloc, &["hello\n", SUM], &[UNREAD, SEVEN], 5);
+    assert_pieces(
+        &rt,
+        alloc,
+        &[UNPARSED, "\n", UNLEXED, "\n", SUM],
+        &[REJECTED, SEVEN],
+        6,
+    );
+    assert_pieces(
+        &rt,
+        alloc,
+        &[ILL_TYPED, "\n", LOST, "\n", SUM],
+        &[UNCHECKED, SEVEN],
+        7,
+    );
 }
 
 #[test]
-fn tells_faults_apart(rt: HostRuntime) -> Result<(), Fail> {
+fn tells_faults_apart(rt: HostRuntime) {
     let alloc = rt.alloc();
     for (line, number) in FAULTS {
-        let want = format!(in alloc; "{{\"error\":\"{number}\",\"reply\":\"bad\"}}\n")?;
-        assert_eq!(rt; replies_to(alloc, line)?.as_slice(), want.as_bytes());
+        let made = format!(in alloc; "{{\"error\":\"{number}\",\"reply\":\"bad\"}}\n");
+        let want = made.expect(&rt, "memory");
+        assert_replies(&rt, alloc, line.as_bytes(), want.as_bytes(), number as u64);
     }
-    Ok(())
 }
 
 #[test]
-fn runs_scripts(rt: HostRuntime) -> Result<(), Fail> {
+fn runs_scripts(rt: HostRuntime) {
     let alloc = rt.alloc();
+    let mut row = 0u64;
     for (line, want) in SCRIPTS {
-        assert_eq!(rt; replies_to(alloc, line)?.as_slice(), want.as_bytes());
+        assert_replies(&rt, alloc, line.as_bytes(), want.as_bytes(), row);
+        row = row.saturating_add(1);
     }
-    Ok(())
 }
 
 #[test]
-fn skips_the_rest_of_a_long_line(rt: HostRuntime) -> Result<(), Fail> {
+fn skips_the_rest_of_a_long_line(rt: HostRuntime) {
     let alloc = rt.alloc();
-    let words = words_of(alloc, &["run", "accounts"])?;
-    let mut input = vec![in alloc; b'x'; 2_000_000]?;
-    input.push(b'\n')?;
-    input.extend_from_slice(SUM.as_bytes())?;
-    let want = format!(in alloc; "{TOO_LONG}{SEVEN}")?;
-    let mut host = SureHost::new(alloc, input.as_slice())?;
-    assert_eq!(rt; serve(alloc, words.as_slice(), &mut host), Status::Done);
-    assert_eq!(rt; host.output(), want.as_bytes());
-    Ok(())
+    let mut input = vec![in alloc; b'x'; 2_000_000].expect(&rt, "memory");
+    input.push(b'\n').expect(&rt, "memory");
+    input
+        .extend_from_slice(SUM.as_bytes())
+        .expect(&rt, "memory");
+    let want = joined(&rt, alloc, &[TOO_LONG, SEVEN]);
+    assert_replies(&rt, alloc, &input, want.as_bytes(), 0);
 }
 
-// What the program answers to words.
-fn answer_to(alloc: Global, list: &[&str]) -> Result<Status, Fail> {
-    let words = words_of(alloc, list)?;
-    let mut host = SureHost::new(alloc, SUM.as_bytes())?;
-    Ok(serve(alloc, words.as_slice(), &mut host))
-}
-
-#[test]
-fn knows_one_form_of_words(rt: HostRuntime) -> Result<(), Fail> {
-    let alloc = rt.alloc();
-    let none: [&str; 0] = [];
-    let nothing = answer_to(alloc, none.as_slice())?;
-    let done = answer_to(alloc, &["run", "accounts"])?;
-    let empty = answer_to(alloc, &["run", ""])?;
-    let option = answer_to(alloc, &["run", "-x"])?;
-    let other = answer_to(alloc, &["ran", "accounts"])?;
-    let one = answer_to(alloc, &["run"])?;
-    let more = answer_to(alloc, &["run", "accounts", "more"])?;
-    assert_eq!(rt; done, Status::Done);
-    assert_eq!(rt; nothing, Status::Usage);
-    assert_eq!(rt; empty, Status::Usage);
-    assert_eq!(rt; option, Status::Usage);
-    assert_eq!(rt; other, Status::Usage);
-    assert_eq!(rt; one, Status::Usage);
-    assert_eq!(rt; more, Status::Usage);
-    Ok(())
+// Asserts what the program answers to words.
+fn assert_answer(rt: &impl Abort, alloc: Global, list: &[&str], status: Status, row: u64) {
+    let words = words_of(rt, alloc, list);
+    let mut host = SureHost::new(alloc, SUM.as_bytes()).expect(rt, "memory");
+    let answer = serve(alloc, words.as_slice(), &mut host);
+    assert_status(rt, answer, status, row);
+    drop(host);
 }
 
 #[test]
-fn ends_at_the_first_fault(rt: HostRuntime) -> Result<(), Fail> {
+fn knows_one_form_of_words(rt: HostRuntime) {
     let alloc = rt.alloc();
-    let words = words_of(alloc, &["run", "accounts"])?;
-    let input = format!(in alloc; "{SUM}\n{SUM}\n")?;
+    assert_answer(&rt, alloc, &[], Status::Usage, 0);
+    assert_answer(&rt, alloc, &["run", "accounts"], Status::Done, 1);
+    assert_answer(&rt, alloc, &["run", ""], Status::Usage, 2);
+    assert_answer(&rt, alloc, &["run", "-x"], Status::Usage, 3);
+    assert_answer(&rt, alloc, &["ran", "accounts"], Status::Usage, 4);
+    assert_answer(&rt, alloc, &["run"], Status::Usage, 5);
+    assert_answer(&rt, alloc, &["run", "accounts", "more"], Status::Usage, 6);
+}
+
+// Asserts how a run over a sum twice ends, of which these calls fail.
+fn assert_two(
+    rt: &impl Abort,
+    alloc: Global,
+    takes: &[u64],
+    puts: &[u64],
+    status: Status,
+    output: &[u8],
+) {
+    let input = joined(rt, alloc, &[SUM, "\n", SUM, "\n"]);
+    let mut host = host_of(rt, alloc, &input, takes, puts, &[]);
+    assert_run(rt, alloc, &mut host, status, output, 0);
+    drop(host);
+}
+
+#[test]
+fn ends_at_the_first_fault(rt: HostRuntime) {
+    let alloc = rt.alloc();
+    let both = joined(&rt, alloc, &[SEVEN, SEVEN]);
     let half = &SEVEN.as_bytes()[..SEVEN.len() / 2];
-    let mut first = MemHost::new(alloc, input.as_bytes(), &[0], &[], &[])?;
-    assert_eq!(rt;
-        serve(alloc, words.as_slice(), &mut first),
-        Status::ReadFault
-    );
-    assert_eq!(rt; first.output(), "".as_bytes());
-    let mut second = MemHost::new(alloc, input.as_bytes(), &[1], &[], &[])?;
-    assert_eq!(rt;
-        serve(alloc, words.as_slice(), &mut second),
-        Status::ReadFault
-    );
-    assert_eq!(rt;
-        second.output(),
-        format!(in alloc; "{SEVEN}{SEVEN}")?.as_bytes()
-    );
-    let mut third = MemHost::new(alloc, input.as_bytes(), &[], &[0], &[])?;
-    assert_eq!(rt;
-        serve(alloc, words.as_slice(), &mut third),
-        Status::WriteFault
-    );
-    assert_eq!(rt; third.output(), half);
-    Ok(())
+    assert_two(&rt, alloc, &[0], &[], Status::ReadFault, &[]);
+    assert_two(&rt, alloc, &[1], &[], Status::ReadFault, both.as_bytes());
+    assert_two(&rt, alloc, &[], &[0], Status::WriteFault, half);
 }
 
-const STATUSES: [(Status, u8, Option<&str>); 8] = [
-    (Status::Done, 0, None),
-    (Status::Usage, 2, Some("cadence: usage")),
-    (Status::ReadFault, 3, Some("cadence: read fault")),
-    (Status::WriteFault, 4, Some("cadence: write fault")),
-    (Status::DiskFault, 5, Some("cadence: disk fault")),
-    (Status::Memory, 6, Some("cadence: memory")),
-    (Status::BadStore, 7, Some("cadence: bad store")),
-    (Status::InputBound, 8, Some("cadence: input bound")),
-];
+// Asserts the number of a status and the line that it prints.
+fn assert_end(rt: &impl Abort, status: Status, number: u8, want: &str) {
+    assert_bytes(rt, &[status.number()], &[number], number as u64, 0);
+    let line = status.line().expect(rt, "a line");
+    assert_bytes(rt, line.as_bytes(), want.as_bytes(), number as u64, 1);
+}
 
 #[test]
-fn tells_how_it_ends(rt: HostRuntime) -> Result<(), Fail> {
-    for (status, number, line) in STATUSES {
-        assert_eq!(rt; status.number(), number);
-        assert_eq!(rt; status.line(), line);
-    }
-    Ok(())
+fn tells_how_it_ends(rt: HostRuntime) {
+    assert_bytes(&rt, &[Status::Done.number()], &[0], 0, 0);
+    assert!(rt; Status::Done.line().is_none());
+    assert_end(&rt, Status::Usage, 2, "cadence: usage");
+    assert_end(&rt, Status::ReadFault, 3, "cadence: read fault");
+    assert_end(&rt, Status::WriteFault, 4, "cadence: write fault");
+    assert_end(&rt, Status::DiskFault, 5, "cadence: disk fault");
+    assert_end(&rt, Status::Memory, 6, "cadence: memory");
+    assert_end(&rt, Status::BadStore, 7, "cadence: bad store");
+    assert_end(&rt, Status::InputBound, 8, "cadence: input bound");
 }
