@@ -63,16 +63,16 @@ fn assert_size(rt: &impl Abort, registers: &MapRegisters, size: u64) {
     assert_number(rt, "the size", registers.size(), size);
 }
 
-fn assert_len(rt: &impl Abort, registers: &MapRegisters, len: u64) {
-    assert_number(rt, "how many", registers.len() as u64, len);
+fn assert_len(rt: &impl Abort, when: &str, registers: &MapRegisters, len: u64) {
+    assert_number(rt, when, registers.len() as u64, len);
 }
 
 #[test]
 fn sets(rt: HostRuntime) {
     let mut registers = one_account(&rt, rt.alloc());
-    assert_len(&rt, &registers, 2);
+    assert_len(&rt, "the length at first", &registers, 2);
     put(&rt, rt.alloc(), &mut registers, &FIRST, &[9]);
-    assert_len(&rt, &registers, 2);
+    assert_len(&rt, "the length then", &registers, 2);
     assert_value(&rt, rt.alloc(), &registers, &FIRST, &[9]);
     assert!(rt; !has(&rt, rt.alloc(), &registers, &SECOND));
     drop(registers);
@@ -120,11 +120,11 @@ fn remove(rt: &impl Abort, alloc: Global, registers: &mut MapRegisters, key: &[u
 fn removes(rt: HostRuntime) {
     let mut registers = one_account(&rt, rt.alloc());
     remove(&rt, rt.alloc(), &mut registers, &[0]);
-    assert_len(&rt, &registers, 1);
+    assert_len(&rt, "the length at first", &registers, 1);
     assert_size(&rt, &registers, 41);
     assert_row(&rt, &registers, 1, 0, &FIRST, &ONE);
     remove(&rt, rt.alloc(), &mut registers, &[0]);
-    assert_len(&rt, &registers, 1);
+    assert_len(&rt, "the length then", &registers, 1);
     drop(registers);
 }
 
@@ -216,7 +216,7 @@ fn count_in_order(rt: &impl Abort, blocks: &[Block]) -> u16 {
 #[test]
 fn splits(rt: HostRuntime) {
     let registers = many(&rt, rt.alloc());
-    assert_len(&rt, &registers, 2048);
+    assert_len(&rt, "the length", &registers, 2048);
     assert!(rt; registers.blocks().len() > 3);
     let next = count_in_order(&rt, registers.blocks());
     assert_number(&rt, "keys", next as u64, 2048);

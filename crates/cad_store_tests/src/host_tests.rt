@@ -4,22 +4,25 @@ use cad_host::{Failed, FileHost, Host, MemHost, SureHost, Tape};
 use std::fs::{self, Files};
 use std::process::Abort;
 
-// Bytes that are written, each at its place.
-type Write<'a> = (u64, &'a [u8]);
+// A text that is written, at its place.
+type Write<'a> = (u64, &'a str);
+
+// The name of a take, what it answers, and what is in the room behind it.
+type Take<'a> = (&'a str, Result<usize, Failed>, [u8; 2]);
 
 // Asserts what takes into a room of two bytes answer, and what is in the room behind each.
-fn assert_takes<H: Host>(rt: &impl Abort, host: &mut H, rows: &[(Result<usize, Failed>, [u8; 2])]) {
+fn assert_takes<H: Host>(rt: &impl Abort, host: &mut H, rows: &[Take<'_>]) {
     let mut room = [0; 2];
-    for (answer, behind) in rows {
-        assert_same(rt, "take", host.take(&mut room), *answer);
-        assert_same(rt, "the room", room, *behind);
+    for (name, answer, behind) in rows {
+        assert_same(rt, name, host.take(&mut room), *answer);
+        assert_same(rt, name, room, *behind);
     }
 }
 
-// Asserts what puts of bytes answer.
-fn assert_puts<H: Host>(rt: &impl Abort, host: &mut H, rows: &[(&[u8], Result<(), Failed>)]) {
-    for (bytes, answer) in rows {
-        assert_same(rt, "put", host.put(bytes), *answer);
+// Asserts what puts of texts answer.
+fn assert_puts<H: Host>(rt: &impl Abort, host: &mut H, rows: &[(&str, Result<(), Failed>)]) {
+    for (text, answer) in rows {
+        assert_same(rt, text, host.put(text.as_bytes()), *answer);
     }
 }
 
@@ -37,29 +40,29 @@ fn calls_in_the_lists_fail(rt: HostRuntime) {
     let made = MemHost::new(rt.alloc(), b"abcde", &[1], &[0, 2], &[0, 1, 2, 3]);
     let mut host = made.expect(&rt, "memory");
     let takes = [
-        (Ok(2), *b"ab"),
-        (Err(Failed), *b"ab"),
-        (Ok(2), *b"cd"),
-        (Ok(1), *b"ed"),
-        (Ok(0), *b"ed"),
+        ("take 0", Ok(2), *b"ab"),
+        ("take 1", Err(Failed), *b"ab"),
+        ("take 2", Ok(2), *b"cd"),
+        ("take 3", Ok(1), *b"ed"),
+        ("take 4", Ok(0), *b"ed"),
     ];
     assert_takes(&rt, &mut host, &takes);
-    let puts: [(&[u8], Result<(), Failed>); 4] = [
-        (b"12345", Err(Failed)),
-        (b"-", Ok(())),
-        (b"6789", Err(Failed)),
-        (b".", Ok(())),
+    let puts = [
+        ("12345", Err(Failed)),
+        ("-", Ok(())),
+        ("6789", Err(Failed)),
+        (".", Ok(())),
     ];
     assert_puts(&rt, &mut host, &puts);
     assert_bytes(&rt, "output", host.output(), b"12-67.");
     assert_four_fail(&rt, &mut host);
 }
 
-// Writes bytes on a tape, one after another.
+// Writes texts on a tape, one after another.
 fn write_each(rt: &impl Abort, host: &mut SureHost, tape: Tape, rows: &[Write<'_>]) {
-    for (at, bytes) in rows {
+    for (at, text) in rows {
         assert!(rt; *at <= host.tape(tape).len() as u64);
-        assert_same(rt, "write", host.write(tape, *at, bytes), Ok(()));
+        assert_same(rt, text, host.write(tape, *at, text.as_bytes()), Ok(()));
     }
 }
 
@@ -85,22 +88,26 @@ fn assert_input<H: Host>(rt: &impl Abort, host: &mut H) {
     assert_same(rt, "the room", room, *b"in..");
 }
 
-fn assert_tape(rt: &impl Abort, host: &SureHost, tape: Tape, bytes: &[u8]) {
-    assert_bytes(rt, "tape", host.tape(tape), bytes);
+fn assert_tape(rt: &impl Abort, host: &SureHost, tape: Tape, text: &str) {
+    assert_bytes(rt, text, host.tape(tape), text.as_bytes());
 }
 
 #[test]
 fn tapes_read_what_was_written(rt: HostRuntime) {
     let mut host = SureHost::new(rt.alloc(), b"in").expect(&rt, "memory");
-    let writes: [Write<'_>; 3] = [(0, b"hello"), (1, b"ipp"), (4, b"er!")];
-    write_each(&rt, &mut host, Tape::B, &writes);
+    write_each(
+        &rt,
+        &mut host,
+        Tape::B,
+        &[(0, "hello"), (1, "ipp"), (4, "er!")],
+    );
     assert_same(&rt, "sync", host.sync(Tape::B), Ok(()));
-    assert_tape(&rt, &host, Tape::B, b"hipper!");
+    assert_tape(&rt, &host, Tape::B, "hipper!");
     assert_reads(&rt, &mut host, Tape::B);
     host.fill(Tape::Pick, b"7").expect(&rt, "memory");
-    assert_tape(&rt, &host, Tape::Pick, b"7");
-    assert_tape(&rt, &host, Tape::A, b"");
-    assert_puts(&rt, &mut host, &[(b"out", Ok(()))]);
+    assert_tape(&rt, &host, Tape::Pick, "7");
+    assert_tape(&rt, &host, Tape::A, "");
+    assert_puts(&rt, &mut host, &[("out", Ok(()))]);
     assert_bytes(&rt, "output", host.output(), b"out");
     assert_input(&rt, &mut host);
 }
@@ -151,10 +158,10 @@ fn assert_images(rt: &impl Abort, host: &SureHost, rows: &[(u64, &str)]) {
 #[test]
 fn crashes_leave_images(rt: HostRuntime) {
     let mut host = SureHost::new(rt.alloc(), b"").expect(&rt, "memory");
-    write_each(&rt, &mut host, Tape::A, &[(0, b"hello")]);
+    write_each(&rt, &mut host, Tape::A, &[(0, "hello")]);
     assert_same(&rt, "sync", host.sync(Tape::A), Ok(()));
-    write_each(&rt, &mut host, Tape::A, &[(1, b"ipp"), (5, b"!?")]);
-    assert_same(&rt, "sync", host.sync(Tape::A), Ok(()));
+    write_each(&rt, &mut host, Tape::A, &[(1, "ipp"), (5, "!?")]);
+    assert_same(&rt, "the second sync", host.sync(Tape::A), Ok(()));
     assert_number(&rt, "now", host.now(), 5);
     let images = [
         (0, ""),
