@@ -69,12 +69,13 @@ fn assert_len(rt: &impl Abort, when: &str, registers: &MapRegisters, len: u64) {
 
 #[test]
 fn sets(rt: HostRuntime) {
-    let mut registers = one_account(&rt, rt.alloc());
+    let alloc = rt.alloc();
+    let mut registers = one_account(&rt, alloc);
     assert_len(&rt, "the length at first", &registers, 2);
-    put(&rt, rt.alloc(), &mut registers, &FIRST, &[9]);
+    put(&rt, alloc, &mut registers, &FIRST, &[9]);
     assert_len(&rt, "the length then", &registers, 2);
-    assert_value(&rt, rt.alloc(), &registers, &FIRST, &[9]);
-    assert!(rt; !has(&rt, rt.alloc(), &registers, &SECOND));
+    assert_value(&rt, alloc, &registers, &FIRST, &[9]);
+    assert!(rt; !has(&rt, alloc, &registers, &SECOND));
     drop(registers);
 }
 
@@ -118,12 +119,13 @@ fn remove(rt: &impl Abort, alloc: Global, registers: &mut MapRegisters, key: &[u
 
 #[test]
 fn removes(rt: HostRuntime) {
-    let mut registers = one_account(&rt, rt.alloc());
-    remove(&rt, rt.alloc(), &mut registers, &[0]);
+    let alloc = rt.alloc();
+    let mut registers = one_account(&rt, alloc);
+    remove(&rt, alloc, &mut registers, &[0]);
     assert_len(&rt, "the length at first", &registers, 1);
     assert_size(&rt, &registers, 41);
     assert_row(&rt, &registers, 1, 0, &FIRST, &ONE);
-    remove(&rt, rt.alloc(), &mut registers, &[0]);
+    remove(&rt, alloc, &mut registers, &[0]);
     assert_len(&rt, "the length then", &registers, 1);
     drop(registers);
 }
@@ -163,9 +165,10 @@ fn five_records(rt: &impl Abort, alloc: Global) -> Items<Entries> {
 
 #[test]
 fn folds(rt: HostRuntime) {
-    let records = five_records(&rt, rt.alloc());
-    let registers = fold_records(rt.alloc(), records).expect(&rt, "memory");
-    let same = one_account(&rt, rt.alloc());
+    let alloc = rt.alloc();
+    let records = five_records(&rt, alloc);
+    let registers = fold_records(alloc, records).expect(&rt, "memory");
+    let same = one_account(&rt, alloc);
     assert_same_rows(&rt, &registers, &same);
     drop(registers);
     drop(same);
@@ -173,10 +176,11 @@ fn folds(rt: HostRuntime) {
 
 #[test]
 fn sizes(rt: HostRuntime) {
-    let none = MapRegisters::new(rt.alloc());
+    let alloc = rt.alloc();
+    let none = MapRegisters::new(alloc);
     assert_size(&rt, &none, 15);
     drop(none);
-    let one = one_account(&rt, rt.alloc());
+    let one = one_account(&rt, alloc);
     assert_size(&rt, &one, 67);
     drop(one);
 }
@@ -215,11 +219,12 @@ fn count_in_order(rt: &impl Abort, blocks: &[Block]) -> u16 {
 
 #[test]
 fn splits(rt: HostRuntime) {
-    let registers = many(&rt, rt.alloc());
+    let alloc = rt.alloc();
+    let registers = many(&rt, alloc);
     assert_len(&rt, "the length", &registers, 2048);
     assert!(rt; registers.blocks().len() > 3);
     let next = count_in_order(&rt, registers.blocks());
     assert_number(&rt, "keys", next as u64, 2048);
-    assert!(rt; has(&rt, rt.alloc(), &registers, &[4, 210]));
+    assert!(rt; has(&rt, alloc, &registers, &[4, 210]));
     drop(registers);
 }

@@ -12,9 +12,9 @@ pub(crate) fn assert_same<T: Copy + Debug + PartialEq>(
 }
 
 pub(crate) fn assert_bytes(rt: &impl Abort, what: &str, found: &[u8], expected: &[u8]) {
-    assert_eq!(rt; found, expected, "{what}");
+    assert_same(rt, what, found, expected);
 }
 
 pub(crate) fn assert_number(rt: &impl Abort, what: &str, found: u64, expected: u64) {
-    assert_eq!(rt; found, expected, "{what}");
+    assert_same(rt, what, found, expected);
 }

@@ -1,5 +1,6 @@
 // Calls that fail, tapes in memory and as files, and what crashes leave.
 use crate::asserts::{assert_bytes, assert_number, assert_same};
+use crate::store_tests::empty_host;
 use cad_host::{Failed, FileHost, Host, MemHost, SureHost, Tape};
 use std::fs::{self, Files};
 use std::process::Abort;
@@ -132,12 +133,13 @@ fn assert_kept<H: Host>(rt: &impl Abort, host: &mut H) {
 
 #[test]
 fn files_keep_what_was_written(rt: HostRuntime) {
-    let mut host = FileHost::new(rt.alloc(), rt, "store").expect(&rt, "memory");
+    let alloc = rt.alloc();
+    let mut host = FileHost::new(alloc, rt, "store").expect(&rt, "memory");
     assert_same(&rt, "no folder yet", host.length(Tape::A), Err(Failed));
     fs::create_dir(&rt, "store").expect(&rt, "a folder");
     write_files(&rt, &mut host);
 
-    let mut again = FileHost::new(rt.alloc(), rt, "store").expect(&rt, "memory");
+    let mut again = FileHost::new(alloc, rt, "store").expect(&rt, "memory");
     assert_kept(&rt, &mut again);
     let pick = fs::read(&rt, "store/pick").expect(&rt, "a file");
     assert_bytes(&rt, "pick", pick.as_slice(), b"1");
@@ -184,8 +186,7 @@ fn crashed_at(rt: &impl Abort, host: &MemHost, moment: u64, fill: u8) -> MemHost
 
 #[test]
 fn a_filled_tape_has_nothing_pending(rt: HostRuntime) {
-    let made = MemHost::new(rt.alloc(), b"", &[], &[], &[]);
-    let mut host = made.expect(&rt, "memory");
+    let mut host = empty_host(&rt, rt.alloc());
     host.fill(Tape::Pick, b"1").expect(&rt, "memory");
     assert_same(&rt, "put", host.put(b"out"), Ok(()));
     let crashed = crashed_at(&rt, &host, 2, 0);

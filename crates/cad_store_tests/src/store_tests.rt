@@ -39,7 +39,7 @@ fn without_refused(rt: &impl Abort, alloc: Global) -> Without {
     }
 }
 
-fn empty_host(rt: &impl Abort, alloc: Global) -> MemHost {
+pub(crate) fn empty_host(rt: &impl Abort, alloc: Global) -> MemHost {
     MemHost::new(alloc, b"", &[], &[], &[]).expect(rt, "memory")
 }
 
@@ -232,12 +232,13 @@ fn commit_one(rt: &impl Abort, alloc: Global, host: &mut MemHost, size: u64) {
 
 #[test]
 fn commits_accounts(rt: HostRuntime) {
-    let mut host = empty_host(&rt, rt.alloc());
-    commit_one(&rt, rt.alloc(), &mut host, 67);
+    let alloc = rt.alloc();
+    let mut host = empty_host(&rt, alloc);
+    commit_one(&rt, alloc, &mut host, 67);
     assert_tapes(&rt, &host, 67);
     assert_bytes(&rt, "a", host.tape(Tape::A), &TAPE);
 
-    commit_one(&rt, rt.alloc(), &mut host, 93);
+    commit_one(&rt, alloc, &mut host, 93);
     assert_tapes(&rt, &host, 133);
     drop(host);
 }
@@ -256,10 +257,11 @@ fn assert_first(rt: &impl Abort, store: &Store, key: &Key) {
 
 #[test]
 fn reads_registers(rt: HostRuntime) {
-    let mut host = host_of(&rt, rt.alloc(), Tape::B, &TAPE, &[2, 1]);
-    let store = opened(&rt, rt.alloc(), &mut host, ROOM).expect(&rt, "a store");
+    let alloc = rt.alloc();
+    let mut host = host_of(&rt, alloc, Tape::B, &TAPE, &[2, 1]);
+    let store = opened(&rt, alloc, &mut host, ROOM).expect(&rt, "a store");
     assert_number(&rt, "size", store.size(), 67);
-    let head = key_of(&rt, rt.alloc(), &[0]);
+    let head = key_of(&rt, alloc, &[0]);
     let found = store.get(&head).expect(&rt, "it is there");
     assert_bytes(
         &rt,
@@ -274,14 +276,16 @@ fn reads_registers(rt: HostRuntime) {
 
 #[test]
 fn full(rt: HostRuntime) {
-    assert!(rt; is_full(&rt, rt.alloc(), 66));
-    assert!(rt; !is_full(&rt, rt.alloc(), 67));
+    let alloc = rt.alloc();
+    assert!(rt; is_full(&rt, alloc, 66));
+    assert!(rt; !is_full(&rt, alloc, 67));
 }
 
 #[test]
 fn discarded(rt: HostRuntime) {
-    let mut host = empty_host(&rt, rt.alloc());
-    let store = discard_and_add(&rt, rt.alloc(), &mut host);
+    let alloc = rt.alloc();
+    let mut host = empty_host(&rt, alloc);
+    let store = discard_and_add(&rt, alloc, &mut host);
     assert_number(&rt, "size", store.size(), 67);
     assert_bytes(&rt, "a", host.tape(Tape::A), &TAPE);
     drop(store);
@@ -290,13 +294,14 @@ fn discarded(rt: HostRuntime) {
 
 #[test]
 fn bad_stores(rt: HostRuntime) {
-    assert!(rt; is_bad(&rt, rt.alloc(), &TAPE[..40]));
-    assert!(rt; is_bad(&rt, rt.alloc(), &TAPE[..66]));
-    assert!(rt; !is_bad(&rt, rt.alloc(), &TAPE));
+    let alloc = rt.alloc();
+    assert!(rt; is_bad(&rt, alloc, &TAPE[..40]));
+    assert!(rt; is_bad(&rt, alloc, &TAPE[..66]));
+    assert!(rt; !is_bad(&rt, alloc, &TAPE));
     // records with a register that is refused
     let mut refused = TAPE;
     refused[18] = REFUSED;
-    assert!(rt; is_bad(&rt, rt.alloc(), &refused));
+    assert!(rt; is_bad(&rt, alloc, &refused));
 }
 
 // The record of one account, a closed gate, and what is behind the gate of that record again.
@@ -317,9 +322,10 @@ fn assert_two(rt: &impl Abort, tape: &[u8]) {
 
 #[test]
 fn behind_a_closed_gate(rt: HostRuntime) {
-    let bytes = closed_tape(&rt, rt.alloc());
-    let mut host = host_of(&rt, rt.alloc(), Tape::A, &bytes, &[1]);
-    commit_one(&rt, rt.alloc(), &mut host, 93);
+    let alloc = rt.alloc();
+    let bytes = closed_tape(&rt, alloc);
+    let mut host = host_of(&rt, alloc, Tape::A, &bytes, &[1]);
+    commit_one(&rt, alloc, &mut host, 93);
     assert_two(&rt, host.tape(Tape::A));
     drop(host);
 }
@@ -332,9 +338,10 @@ fn fails_at(rt: &impl Abort, alloc: Global, call: u64) -> bool {
 
 #[test]
 fn disk_calls_fail(rt: HostRuntime) {
+    let alloc = rt.alloc();
     // to read `pick`, two lengths, two syncs, and two writes with a sync each
     for call in 0..9u64 {
-        assert!(rt; fails_at(&rt, rt.alloc(), call), "{call}");
+        assert!(rt; fails_at(&rt, alloc, call), "{call}");
     }
-    assert!(rt; !fails_at(&rt, rt.alloc(), 9));
+    assert!(rt; !fails_at(&rt, alloc, 9));
 }

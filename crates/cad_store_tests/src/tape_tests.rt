@@ -191,9 +191,10 @@ fn assert_none(rt: &impl Abort, alloc: Global, tape: &[u8]) {
 
 #[test]
 fn each_front(rt: HostRuntime) {
-    assert_none(&rt, rt.alloc(), &[]);
+    let alloc = rt.alloc();
+    assert_none(&rt, alloc, &[]);
     for n in 1..TAPE.len() {
-        assert!(rt; is_damaged(&rt, rt.alloc(), &TAPE[..n]), "{n}");
+        assert!(rt; is_damaged(&rt, alloc, &TAPE[..n]), "{n}");
     }
 }
 
@@ -238,12 +239,13 @@ fn assert_fails(rt: &impl Abort, alloc: Global, calls: u64) {
 
 #[test]
 fn disk_calls_fail(rt: HostRuntime) {
+    let alloc = rt.alloc();
     // the length, and then 67 reads of a byte
     for calls in 0..68 {
-        assert_fails(&rt, rt.alloc(), calls);
+        assert_fails(&rt, alloc, calls);
     }
-    let mut host = make_tapes(&rt, rt.alloc(), &TAPE, 1, 68);
-    assert_same(&rt, "why", stop_of(rt.alloc(), &mut host), None);
+    let mut host = make_tapes(&rt, alloc, &TAPE, 1, 68);
+    assert_same(&rt, "why", stop_of(alloc, &mut host), None);
 }
 
 // Writes the record of one account, the first of tape a, and tells the place behind it.
@@ -272,14 +274,15 @@ fn assert_read(rt: &impl Abort, alloc: Global, host: &mut Tapes, records: u64, e
 
 #[test]
 fn writes_and_reads(rt: HostRuntime) {
-    let mut host = make_tapes(&rt, rt.alloc(), &[], 1000, 1000);
-    let next = write_first(&rt, rt.alloc(), &mut host);
+    let alloc = rt.alloc();
+    let mut host = make_tapes(&rt, alloc, &[], 1000, 1000);
+    let next = write_first(&rt, alloc, &mut host);
     assert_number(&rt, "next", next, 66);
     assert_bytes(&rt, "a", host.a.as_slice(), &TAPE);
     assert_bytes(&rt, "pick", host.pick.as_slice(), &[1]);
-    let next = write_again(&rt, rt.alloc(), &mut host, next);
+    let next = write_again(&rt, alloc, &mut host, next);
     assert_number(&rt, "next", next, 132);
     assert_number(&rt, "length", host.a.len() as u64, 133);
-    assert_read(&rt, rt.alloc(), &mut host, 2, 132);
+    assert_read(&rt, alloc, &mut host, 2, 132);
     drop(host);
 }
