@@ -4,6 +4,8 @@
 #[cfg(test)]
 mod accounts_tests;
 #[cfg(test)]
+mod asserts;
+#[cfg(test)]
 mod host_tests;
 #[cfg(test)]
 mod store_tests;

@@ -2,12 +2,13 @@
 ghost use Rattle.std.specs.Prelude.{[]};
 ghost use Rattle.cad_host.specs.Faults.{IsCaused};
 
+use crate::asserts::{assert_bytes, assert_number, assert_same};
 use cad_host::{Failed, Host, Tape};
-use cad_syntax::{Bytes, Items};
-use cad_tape::{ScanStop, append, checkpoint, frame, scan};
-use cad_wire::read_entries;
+use cad_syntax::Items;
+use cad_tape::{Records, ScanStop, append, checkpoint, frame, scan};
+use cad_wire::{Entries, read_entries};
 use std::alloc::{AllocError, Global};
-use std::test::*;
+use std::process::Abort;
 
 // The body of the record of one account, and the tape with that record alone.
 const BODY: [u8; 57] = [
@@ -33,16 +34,16 @@ struct Tapes {
     faults: u64,
 }
 
-fn make_tapes(alloc: Global, a: &[u8], most: usize, calls: u64) -> Result<Tapes, AllocError> {
-    Ok(Tapes {
-        a: Vec::from_slice(alloc, a)?,
+fn make_tapes(rt: &impl Abort, alloc: Global, a: &[u8], most: usize, calls: u64) -> Tapes {
+    Tapes {
+        a: Vec::from_slice(alloc, a).expect(rt, "memory"),
         b: Vec::new(alloc),
         pick: Vec::new(alloc),
         most,
         calls,
         bytes_read: 0,
         faults: 0,
-    })
+    }
 }
 
 impl Tapes {
@@ -137,46 +138,68 @@ impl Host for Tapes {
     ghost settled = { λ _ tell. absurd tell };
 }
 
-fn is_damaged(alloc: Global, tape: &[u8]) -> Result<bool, AllocError> {
-    let mut host = make_tapes(alloc, tape, 1000, 1000)?;
-    Ok(matches!(scan(alloc, &mut host, Tape::A), Err(ScanStop::Damaged)))
+// Why tape a can't be read; None where it can.
+fn stop_of(alloc: Global, host: &mut Tapes) -> Option<ScanStop> {
+    scan(alloc, host, Tape::A).err()
+}
+
+fn is_damaged(rt: &impl Abort, alloc: Global, tape: &[u8]) -> bool {
+    let mut host = make_tapes(rt, alloc, tape, 1000, 1000);
+    stop_of(alloc, &mut host) == Some(ScanStop::Damaged)
+}
+
+// The records of tape a, which can be read.
+fn read_a(rt: &impl Abort, alloc: Global, host: &mut Tapes) -> Records {
+    scan(alloc, host, Tape::A).expect(rt, "records")
 }
 
 #[test]
-fn frames(rt: HostRuntime) -> Result<(), Fail> {
-    let bytes = frame(rt.alloc(), &BODY)?;
-    assert_eq!(rt; bytes.as_slice(), TAPE.as_slice());
-    Ok(())
+fn frames(rt: HostRuntime) {
+    let bytes = frame(rt.alloc(), &BODY).expect(&rt, "memory");
+    assert_bytes(&rt, "a frame", bytes.as_slice(), &TAPE);
+}
+
+// Asserts that records are that of one account alone.
+fn assert_one_account(rt: &impl Abort, alloc: Global, records: &Items<Entries>) {
+    let mut expected = Items::new(alloc);
+    let entries = read_entries(alloc, &BODY).expect(rt, "a body");
+    expected.push(entries).expect(rt, "memory");
+    assert!(rt; *records == expected);
+}
+
+// Asserts what is read of one account, at most so many bytes a call.
+fn assert_reads_all(rt: &impl Abort, alloc: Global, most: usize) {
+    let mut host = make_tapes(rt, alloc, &TAPE, most, 1000);
+    let read = read_a(rt, alloc, &mut host);
+    assert_number(rt, "ending", read.ending, 66);
+    assert_number(rt, "bytes read", host.bytes_read, 67);
+    assert_one_account(rt, alloc, &read.records);
 }
 
 #[test]
-fn reads_one_account(rt: HostRuntime) -> Result<(), Fail> {
+fn reads_one_account(rt: HostRuntime) {
     for most in [1usize, 3, 9, 66, 67, 1000] {
-        let mut host = make_tapes(rt.alloc(), &TAPE, most, 1000)?;
-        let read = scan(rt.alloc(), &mut host, Tape::A)?;
-        assert_eq!(rt; read.ending, 66);
-        assert_eq!(rt; host.bytes_read, 67);
-        let mut expected = Items::new(rt.alloc());
-        expected.push(read_entries(rt.alloc(), &BODY).ok().ok_or("a body")?)?;
-        assert!(rt; read.records == expected);
+        assert_reads_all(&rt, rt.alloc(), most);
     }
-    Ok(())
+}
+
+// Asserts that a tape with these bytes has no records.
+fn assert_none(rt: &impl Abort, alloc: Global, tape: &[u8]) {
+    let mut host = make_tapes(rt, alloc, tape, 1000, 1000);
+    assert_read(rt, alloc, &mut host, 0, 0);
 }
 
 #[test]
-fn each_front(rt: HostRuntime) -> Result<(), Fail> {
-    let mut host = make_tapes(rt.alloc(), &[], 1000, 1000)?;
-    let read = scan(rt.alloc(), &mut host, Tape::A)?;
-    assert!(rt; read.records.is_empty());
-    assert_eq!(rt; read.ending, 0);
+fn each_front(rt: HostRuntime) {
+    let alloc = rt.alloc();
+    assert_none(&rt, alloc, &[]);
     for n in 1..TAPE.len() {
-        assert!(rt; is_damaged(rt.alloc(), &TAPE[..n])?);
+        assert!(rt; is_damaged(&rt, alloc, &TAPE[..n]), "{n}");
     }
-    Ok(())
 }
 
 #[test]
-fn damaged(rt: HostRuntime) -> Result<(), Fail> {
+fn damaged(rt: HostRuntime) {
     let damaged: [&[u8]; 6] = [
         // another format
         &[1, 0, 0, 0, 0, 0, 0, 0, 5, 2, 0, 0, 0, 0, 0],
@@ -195,53 +218,71 @@ fn damaged(rt: HostRuntime) -> Result<(), Fail> {
         &[1, 0, 0, 0, 0, 0, 0, 0, 7, 1, 0, 0, 0, 0, 0],
     ];
     for tape in damaged {
-        assert!(rt; is_damaged(rt.alloc(), tape)?);
+        assert!(rt; is_damaged(&rt, rt.alloc(), tape));
     }
-    Ok(())
 }
 
 #[test]
-fn closed_at_once(rt: HostRuntime) -> Result<(), Fail> {
+fn closed_at_once(rt: HostRuntime) {
     for gate in [0u8, 2, 255] {
-        let mut host = make_tapes(rt.alloc(), &[gate, 1, 2, 3], 1000, 1000)?;
-        let read = scan(rt.alloc(), &mut host, Tape::A)?;
-        assert!(rt; read.records.is_empty());
-        assert_eq!(rt; read.ending, 0);
+        assert_none(&rt, rt.alloc(), &[gate, 1, 2, 3]);
     }
-    Ok(())
+}
+
+// Asserts that a call fails where so many disk calls don't.
+fn assert_fails(rt: &impl Abort, alloc: Global, calls: u64) {
+    let mut host = make_tapes(rt, alloc, &TAPE, 1, calls);
+    let why = stop_of(alloc, &mut host);
+    assert_same(rt, "why", why, Some(ScanStop::Failed));
+    assert_number(rt, "faults", host.faults, 1);
 }
 
 #[test]
-fn disk_calls_fail(rt: HostRuntime) -> Result<(), Fail> {
+fn disk_calls_fail(rt: HostRuntime) {
+    let alloc = rt.alloc();
     // the length, and then 67 reads of a byte
     for calls in 0..68 {
-        let mut host = make_tapes(rt.alloc(), &TAPE, 1, calls)?;
-        assert!(rt; matches!(scan(rt.alloc(), &mut host, Tape::A), Err(ScanStop::Failed)));
-        assert_eq!(rt; host.faults, 1);
+        assert_fails(&rt, alloc, calls);
     }
-    let mut host = make_tapes(rt.alloc(), &TAPE, 1, 68)?;
-    assert!(rt; scan(rt.alloc(), &mut host, Tape::A).is_ok());
-    Ok(())
+    let mut host = make_tapes(&rt, alloc, &TAPE, 1, 68);
+    assert_same(&rt, "why", stop_of(alloc, &mut host), None);
+}
+
+// Writes the record of one account, the first of tape a, and tells the place behind it.
+fn write_first(rt: &impl Abort, alloc: Global, host: &mut Tapes) -> u64 {
+    let Ok(record) = frame(alloc, &BODY) else {
+        panic!(rt; "memory");
+    };
+    checkpoint(host, Tape::A, record.as_slice()).expect(rt, "no fault")
+}
+
+// Writes it again, at a place of tape a.
+fn write_again(rt: &impl Abort, alloc: Global, host: &mut Tapes, at: u64) -> u64 {
+    let Ok(record) = frame(alloc, &BODY) else {
+        panic!(rt; "memory");
+    };
+    assert!(rt; !record.is_empty());
+    append(host, Tape::A, at, &record.as_slice()[1..]).expect(rt, "no fault")
+}
+
+// Asserts where the records of tape a end, and how many they are.
+fn assert_read(rt: &impl Abort, alloc: Global, host: &mut Tapes, records: u64, ending: u64) {
+    let read = read_a(rt, alloc, host);
+    assert_number(rt, "records", read.records.len() as u64, records);
+    assert_number(rt, "ending", read.ending, ending);
 }
 
 #[test]
-fn writes_and_reads(rt: HostRuntime) -> Result<(), Fail> {
-    let mut host = make_tapes(rt.alloc(), &[], 1000, 1000)?;
-    let record = frame(rt.alloc(), &BODY)?;
-    let next = checkpoint(&mut host, Tape::A, record.as_slice())
-        .ok()
-        .ok_or("no fault")?;
-    assert_eq!(rt; next, 66);
-    assert_eq!(rt; host.a.as_slice(), TAPE.as_slice());
-    assert_eq!(rt; host.pick.as_slice(), [1u8].as_slice());
-    assert!(rt; !record.is_empty());
-    let next = append(&mut host, Tape::A, next, &record.as_slice()[1..])
-        .ok()
-        .ok_or("no fault")?;
-    assert_eq!(rt; next, 132);
-    assert_eq!(rt; host.a.len(), 133);
-    let read = scan(rt.alloc(), &mut host, Tape::A)?;
-    assert_eq!(rt; read.records.len(), 2);
-    assert_eq!(rt; read.ending, 132);
-    Ok(())
+fn writes_and_reads(rt: HostRuntime) {
+    let alloc = rt.alloc();
+    let mut host = make_tapes(&rt, alloc, &[], 1000, 1000);
+    let next = write_first(&rt, alloc, &mut host);
+    assert_number(&rt, "next", next, 66);
+    assert_bytes(&rt, "a", host.a.as_slice(), &TAPE);
+    assert_bytes(&rt, "pick", host.pick.as_slice(), &[1]);
+    let next = write_again(&rt, alloc, &mut host, next);
+    assert_number(&rt, "next", next, 132);
+    assert_number(&rt, "length", host.a.len() as u64, 133);
+    assert_read(&rt, alloc, &mut host, 2, 132);
+    drop(host);
 }
