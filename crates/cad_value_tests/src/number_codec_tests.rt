@@ -1,18 +1,24 @@
 // Numbers as bytes and back, and bytes that no value has.
 use cad_number_codec::*;
 use cad_syntax::{Kind, Num};
-use std::test::*;
+use std::alloc::Global;
+use std::process::Abort;
 
 const SEVEN: [u8; 19] = [4, 0, 0, 0, 0, 0, 0, 0, 0, 0, 0, 0, 0, 0, 0, 0, 0, 0, 7];
 
+/// Asserts that a number has the bytes, and that these are read as the number.
+fn is_number(rt: &impl Abort, alloc: Global, n: Num, bytes: &[u8]) {
+    assert!(rt; n.kind != Kind::Address);
+    let written = encode(alloc, &Value::Number(n)).expect(rt, "memory");
+    assert_eq!(rt; written.as_slice(), bytes);
+    let read = decode(alloc, bytes).expect(rt, "a number");
+    assert!(rt; read == Value::Number(n));
+}
+
 #[test]
-fn seven(rt: HostRuntime) -> Result<(), Fail> {
-    let n = Num::new(Kind::Int, false, 7).ok_or("7 is an Int")?;
-    assert!(rt; n.kind == Kind::Int);
-    let bytes = encode(rt.alloc(), &Value::Number(n))?;
-    assert_eq!(rt; bytes.as_slice(), SEVEN.as_slice());
-    assert!(rt; decode(rt.alloc(), &SEVEN)? == Value::Number(n));
-    Ok(())
+fn seven(rt: HostRuntime) {
+    let n = Num::new(Kind::Int, false, 7).expect(&rt, "7 is an Int");
+    is_number(&rt, rt.alloc(), n, &SEVEN);
 }
 
 // Kind byte, sign byte, magnitude.
@@ -53,16 +59,12 @@ fn bytes_of(kind: u8, negative: bool, magnitude: u128) -> [u8; 19] {
 }
 
 #[test]
-fn both_ways(rt: HostRuntime) -> Result<(), Fail> {
+fn both_ways(rt: HostRuntime) {
     for (kind, byte, negative, magnitude) in NUMBERS {
-        let n = Num::new(kind, negative, magnitude).ok_or("in range")?;
-        assert!(rt; n.kind != Kind::Address);
+        let n = Num::new(kind, negative, magnitude).expect(&rt, "in range");
         let expected = bytes_of(byte, negative, magnitude);
-        let bytes = encode(rt.alloc(), &Value::Number(n))?;
-        assert_eq!(rt; bytes.as_slice(), expected.as_slice());
-        assert!(rt; decode(rt.alloc(), &expected)? == Value::Number(n));
+        is_number(&rt, rt.alloc(), n, &expected);
     }
-    Ok(())
 }
 
 #[test]
