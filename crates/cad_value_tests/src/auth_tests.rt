@@ -1,4 +1,5 @@
 // What authorizations grant, and their images under mappings, as rows.
+use crate::telling::equals;
 use cad_auth::{Mapping, grants, image, weaker};
 use cad_syntax::{Address, Authorization, Name, Names, Pairs, Text, TypeId, TypeIds};
 use std::alloc::Global;
@@ -87,7 +88,7 @@ fn wanted(rt: &impl Abort, alloc: Global, form: Option<Form<'_>>) -> Option<Auth
 }
 
 /// Whether the image is the one of the row.
-fn holds(rt: &impl Abort, alloc: Global, row: Image<'_>) -> bool {
+fn is_image(rt: &impl Abort, alloc: Global, row: Image<'_>) -> bool {
     let (identity, pairs, given, expected) = row;
     let map = mapping(rt, alloc, identity, pairs);
     let found = image_of(rt, alloc, map, authorization(rt, alloc, given));
@@ -113,12 +114,19 @@ static GRANTS: [(Form<'static>, Form<'static>, bool); 11] = [
     (Any(&[]), All(&[]), true),
 ];
 
+/// The first row of the grants that is wrong.
+fn wrong_grant(rt: &impl Abort, alloc: Global) -> Option<usize> {
+    for (row, (a, b, expected)) in GRANTS.iter().enumerate() {
+        if compared(rt, alloc, *a, *b).0 != *expected {
+            return Some(row);
+        }
+    }
+    None
+}
+
 #[test]
 fn grants_by_sets(rt: HostRuntime) {
-    for (row, (a, b, expected)) in GRANTS.iter().enumerate() {
-        let (granted, _) = compared(&rt, rt.alloc(), *a, *b);
-        assert!(rt; granted == *expected, "{row}");
-    }
+    equals(&rt, &wrong_grant(&rt, rt.alloc()), &None);
 }
 
 /// Two authorizations, and whether the first is weaker than the second.
@@ -127,12 +135,19 @@ static WEAKER: [(Form<'static>, Form<'static>, bool); 2] = [
     (All(&["E", "F"]), All(&["E"]), false),
 ];
 
+/// The first row of the weaker ones that is wrong.
+fn wrong_weaker(rt: &impl Abort, alloc: Global) -> Option<usize> {
+    for (row, (a, b, expected)) in WEAKER.iter().enumerate() {
+        if compared(rt, alloc, *a, *b).1 != *expected {
+            return Some(row);
+        }
+    }
+    None
+}
+
 #[test]
 fn weaker_by_sets(rt: HostRuntime) {
-    for (row, (a, b, expected)) in WEAKER.iter().enumerate() {
-        let (_, is_weaker) = compared(&rt, rt.alloc(), *a, *b);
-        assert!(rt; is_weaker == *expected, "{row}");
-    }
+    equals(&rt, &wrong_weaker(&rt, rt.alloc()), &None);
 }
 
 static IMAGES: [Image<'static>; 10] = [
@@ -198,9 +213,17 @@ static IMAGES: [Image<'static>; 10] = [
     ),
 ];
 
+/// The first row of the images that is wrong.
+fn wrong_image(rt: &impl Abort, alloc: Global) -> Option<usize> {
+    for (row, image) in IMAGES.iter().enumerate() {
+        if !is_image(rt, alloc, *image) {
+            return Some(row);
+        }
+    }
+    None
+}
+
 #[test]
 fn images(rt: HostRuntime) {
-    for (row, image) in IMAGES.iter().enumerate() {
-        assert!(rt; holds(&rt, rt.alloc(), *image), "{row}");
-    }
+    equals(&rt, &wrong_image(&rt, rt.alloc()), &None);
 }
