@@ -1,5 +1,5 @@
 // What authorizations grant, and their images under mappings, as rows.
-use crate::telling::equals;
+use crate::telling::holds_at;
 use cad_auth::{Mapping, grants, image, weaker};
 use cad_syntax::{Address, Authorization, Name, Names, Pairs, Text, TypeId, TypeIds};
 use std::alloc::Global;
@@ -41,14 +41,11 @@ fn authorization(rt: &impl Abort, alloc: Global, form: Form<'_>) -> Authorizatio
     }
 }
 
-fn pair(rt: &impl Abort, alloc: Global, from: &str, to: &str) -> (TypeId, TypeId) {
-    (entitlement(rt, alloc, from), entitlement(rt, alloc, to))
-}
-
 fn mapping(rt: &impl Abort, alloc: Global, identity: bool, rows: &[(&str, &str)]) -> Mapping {
     let mut pairs = Pairs::new(alloc);
     for (from, to) in rows {
-        pairs.push(pair(rt, alloc, from, to)).expect(rt, "memory");
+        let pair = (entitlement(rt, alloc, from), entitlement(rt, alloc, to));
+        pairs.push(pair).expect(rt, "memory");
     }
     Mapping { identity, pairs }
 }
@@ -66,19 +63,6 @@ fn compared(rt: &impl Abort, alloc: Global, a: Form<'_>, b: Form<'_>) -> (bool, 
 /// A mapping, an authorization and its image; none where it has none.
 type Image<'a> = (bool, &'a [(&'a str, &'a str)], Form<'a>, Option<Form<'a>>);
 
-/// The image of an authorization.
-fn image_of(
-    rt: &impl Abort,
-    alloc: Global,
-    map: Mapping,
-    of: Authorization,
-) -> Option<Authorization> {
-    let found = image(alloc, &map, &of).expect(rt, "memory");
-    drop(map);
-    drop(of);
-    found
-}
-
 /// The authorization of a row; none where it has none.
 fn wanted(rt: &impl Abort, alloc: Global, form: Option<Form<'_>>) -> Option<Authorization> {
     match form {
@@ -91,7 +75,10 @@ fn wanted(rt: &impl Abort, alloc: Global, form: Option<Form<'_>>) -> Option<Auth
 fn is_image(rt: &impl Abort, alloc: Global, row: Image<'_>) -> bool {
     let (identity, pairs, given, expected) = row;
     let map = mapping(rt, alloc, identity, pairs);
-    let found = image_of(rt, alloc, map, authorization(rt, alloc, given));
+    let of = authorization(rt, alloc, given);
+    let found = image(alloc, &map, &of).expect(rt, "memory");
+    drop(map);
+    drop(of);
     let wanted = wanted(rt, alloc, expected);
     let is_one = found == wanted;
     drop(found);
@@ -114,19 +101,11 @@ static GRANTS: [(Form<'static>, Form<'static>, bool); 11] = [
     (Any(&[]), All(&[]), true),
 ];
 
-/// The first row of the grants that is wrong.
-fn wrong_grant(rt: &impl Abort, alloc: Global) -> Option<usize> {
-    for (row, (a, b, expected)) in GRANTS.iter().enumerate() {
-        if compared(rt, alloc, *a, *b).0 != *expected {
-            return Some(row);
-        }
-    }
-    None
-}
-
 #[test]
 fn grants_by_sets(rt: HostRuntime) {
-    equals(&rt, &wrong_grant(&rt, rt.alloc()), &None);
+    for (row, (a, b, expected)) in GRANTS.iter().enumerate() {
+        holds_at(&rt, compared(&rt, rt.alloc(), *a, *b).0 == *expected, row);
+    }
 }
 
 /// Two authorizations, and whether the first is weaker than the second.
@@ -135,19 +114,11 @@ static WEAKER: [(Form<'static>, Form<'static>, bool); 2] = [
     (All(&["E", "F"]), All(&["E"]), false),
 ];
 
-/// The first row of the weaker ones that is wrong.
-fn wrong_weaker(rt: &impl Abort, alloc: Global) -> Option<usize> {
-    for (row, (a, b, expected)) in WEAKER.iter().enumerate() {
-        if compared(rt, alloc, *a, *b).1 != *expected {
-            return Some(row);
-        }
-    }
-    None
-}
-
 #[test]
 fn weaker_by_sets(rt: HostRuntime) {
-    equals(&rt, &wrong_weaker(&rt, rt.alloc()), &None);
+    for (row, (a, b, expected)) in WEAKER.iter().enumerate() {
+        holds_at(&rt, compared(&rt, rt.alloc(), *a, *b).1 == *expected, row);
+    }
 }
 
 static IMAGES: [Image<'static>; 10] = [
@@ -213,17 +184,9 @@ static IMAGES: [Image<'static>; 10] = [
     ),
 ];
 
-/// The first row of the images that is wrong.
-fn wrong_image(rt: &impl Abort, alloc: Global) -> Option<usize> {
-    for (row, image) in IMAGES.iter().enumerate() {
-        if !is_image(rt, alloc, *image) {
-            return Some(row);
-        }
-    }
-    None
-}
-
 #[test]
 fn images(rt: HostRuntime) {
-    equals(&rt, &wrong_image(&rt, rt.alloc()), &None);
+    for (row, image) in IMAGES.iter().enumerate() {
+        holds_at(&rt, is_image(&rt, rt.alloc(), *image), row);
+    }
 }

@@ -1,7 +1,7 @@
 // Worked examples. The expected values are those of Python's integers and decimals.
 ghost use Rattle.std.specs.Prelude.{◌≡◌};
 
-use crate::telling::equals;
+use crate::telling::{equals, equals_in};
 use cad_num::*;
 use cad_syntax::{Kind, Num, Text};
 use std::alloc::Global;
@@ -15,6 +15,8 @@ enum Call {
     Mul,
     Div,
     Rem,
+    Neg,
+    Saturated(Op),
 }
 
 fn run(call: Call, a: Num, b: Num) -> Result<Num, NumError>
@@ -26,6 +28,8 @@ fn run(call: Call, a: Num, b: Num) -> Result<Num, NumError>
         Call::Mul => mul(a, b),
         Call::Div => div(a, b),
         Call::Rem => rem(a, b),
+        Call::Neg => neg(a),
+        Call::Saturated(op) => saturate(op, a, b),
     }
 }
 
@@ -279,42 +283,55 @@ fn fixed_quotients_and_differences(rt: HostRuntime) {
     hold(&rt, &QUOTIENTS);
 }
 
-static SATURATED: [(Kind, i128, Op, i128, Result<i128, NumError>); 13] = [
-    (Kind::Int8, 127, Op::Add, 1, Ok(127)),
-    (Kind::Int8, -128, Op::Sub, 1, Ok(-128)),
-    (Kind::Int8, -128, Op::Mul, -1, Ok(127)),
-    (Kind::Int8, -128, Op::Mul, 2, Ok(-128)),
-    (Kind::Int8, -128, Op::Div, -1, Ok(127)),
-    (Kind::Int8, 1, Op::Div, 0, Err(NumError::DivisionByZero)),
-    (Kind::UInt8, 0, Op::Sub, 1, Ok(0)),
-    (Kind::UInt8, 200, Op::Add, 100, Ok(255)),
+static SATURATED: [Row; 13] = [
+    (Kind::Int8, 127, Call::Saturated(Op::Add), 1, Ok(127)),
+    (Kind::Int8, -128, Call::Saturated(Op::Sub), 1, Ok(-128)),
+    (Kind::Int8, -128, Call::Saturated(Op::Mul), -1, Ok(127)),
+    (Kind::Int8, -128, Call::Saturated(Op::Mul), 2, Ok(-128)),
+    (Kind::Int8, -128, Call::Saturated(Op::Div), -1, Ok(127)),
+    (
+        Kind::Int8,
+        1,
+        Call::Saturated(Op::Div),
+        0,
+        Err(NumError::DivisionByZero),
+    ),
+    (Kind::UInt8, 0, Call::Saturated(Op::Sub), 1, Ok(0)),
+    (Kind::UInt8, 200, Call::Saturated(Op::Add), 100, Ok(255)),
     (
         Kind::Fix64,
         9_223_372_036_854_775_807,
-        Op::Mul,
+        Call::Saturated(Op::Mul),
         200_000_000,
         Ok(9_223_372_036_854_775_807),
     ),
     (
         Kind::Fix64,
         -9_223_372_036_854_775_808,
-        Op::Div,
+        Call::Saturated(Op::Div),
         1,
         Ok(-9_223_372_036_854_775_808),
     ),
-    (Kind::Int, i128::MIN, Op::Mul, i128::MIN, Ok(i128::MAX)),
-    (Kind::Int, i128::MIN, Op::Mul, 2, Ok(i128::MIN)),
-    (Kind::Int16, 5, Op::Add, -7, Ok(-2)),
+    (
+        Kind::Int,
+        i128::MIN,
+        Call::Saturated(Op::Mul),
+        i128::MIN,
+        Ok(i128::MAX),
+    ),
+    (
+        Kind::Int,
+        i128::MIN,
+        Call::Saturated(Op::Mul),
+        2,
+        Ok(i128::MIN),
+    ),
+    (Kind::Int16, 5, Call::Saturated(Op::Add), -7, Ok(-2)),
 ];
 
 #[test]
 fn saturation_stays_in_range(rt: HostRuntime) {
-    for (kind, a, op, b, expected) in SATURATED.iter() {
-        let a = number(&rt, *kind, *a);
-        let b = number(&rt, *kind, *b);
-        let expected = outcome(&rt, *kind, *expected);
-        equals(&rt, &saturate(*op, a, b), &expected);
-    }
+    hold(&rt, &SATURATED);
 }
 
 static CONVERTED: [(Kind, i128, Kind, Result<i128, NumError>); 15] = [
@@ -394,18 +411,11 @@ fn bits_of_integers(rt: HostRuntime) {
     }
 }
 
-static NEGATED: [(Kind, i128, Result<i128, NumError>); 3] = [
-    (Kind::Int8, -128, Err(NumError::Overflow)),
-    (Kind::Int8, 127, Ok(-127)),
-    (Kind::UInt8, 1, Err(NumError::Underflow)),
+static NEGATED: [Row; 3] = [
+    (Kind::Int8, -128, Call::Neg, 0, Err(NumError::Overflow)),
+    (Kind::Int8, 127, Call::Neg, 0, Ok(-127)),
+    (Kind::UInt8, 1, Call::Neg, 0, Err(NumError::Underflow)),
 ];
-
-fn signs_hold(rt: &impl Abort) {
-    for (kind, a, expected) in NEGATED.iter() {
-        let expected = outcome(rt, *kind, *expected);
-        equals(rt, &neg(number(rt, *kind, *a)), &expected);
-    }
-}
 
 static ORDERED: [(Kind, i128, i128, Ordering); 3] = [
     (Kind::Int8, -128, 127, Ordering::Less),
@@ -425,7 +435,7 @@ fn order_holds(rt: &impl Abort) {
 fn signs_and_order(rt: HostRuntime) {
     equals(&rt, &least(Kind::Int8), &number(&rt, Kind::Int8, -128));
     equals(&rt, &greatest(Kind::Int8), &number(&rt, Kind::Int8, 127));
-    signs_hold(&rt);
+    hold(&rt, &NEGATED);
     order_holds(&rt);
 }
 
@@ -436,8 +446,11 @@ fn read(kind: Kind, text: &str) -> Option<Num> {
     read_decimal(kind, text)
 }
 
+/// The text of a number; an empty one where it is an address.
 fn write(rt: &impl Abort, alloc: Global, n: Num) -> Text {
-    assert!(rt; n.kind != Kind::Address, "an address");
+    if matches!(n.kind, Kind::Address) {
+        return Text::new(alloc);
+    }
     write_decimal(alloc, n).expect(rt, "memory")
 }
 
@@ -504,51 +517,52 @@ fn the_greatest_number_is_written(rt: HostRuntime) {
     );
 }
 
-static READ: [(Kind, &str, i128); 7] = [
-    (Kind::Int8, "-0", 0),
-    (Kind::Int8, "-00128", -128),
+static READ: [(Kind, &str, Option<i128>); 28] = [
+    (Kind::Int8, "-0", Some(0)),
+    (Kind::Int8, "-00128", Some(-128)),
     (
         Kind::UInt8,
         "000000000000000000000000000000000000000000255",
-        255,
+        Some(255),
     ),
-    (Kind::Fix64, "-0.0", 0),
-    (Kind::Fix64, "-00.00000001", -1),
-    (Kind::UFix64, "10.5", 1_050_000_000),
-    (Kind::UFix64, "010.5", 1_050_000_000),
-];
-
-static REFUSED: [(Kind, &str); 21] = [
-    (Kind::Int8, ""),
-    (Kind::Int8, "-"),
-    (Kind::Int8, "+1"),
-    (Kind::Int8, "--1"),
-    (Kind::Int8, "1 "),
-    (Kind::Int8, "1.0"),
-    (Kind::Int8, "128"),
-    (Kind::Int8, "-129"),
-    (Kind::UInt8, "-0"),
-    (Kind::Word8, "256"),
-    (Kind::UInt, "340282366920938463463374607431768211456"),
-    (Kind::Int, "-170141183460469231731687303715884105729"),
-    (Kind::Fix64, "1"),
-    (Kind::Fix64, "1."),
-    (Kind::Fix64, ".1"),
-    (Kind::Fix64, "1.123456789"),
-    (Kind::Fix64, "1.-1"),
-    (Kind::Fix64, "92233720368.54775808"),
-    (Kind::UFix64, "-1.0"),
-    (Kind::UFix64, "184467440737.09551616"),
-    (Kind::UFix64, "999999999999999999999999999999999999999.0"),
+    (Kind::Fix64, "-0.0", Some(0)),
+    (Kind::Fix64, "-00.00000001", Some(-1)),
+    (Kind::UFix64, "10.5", Some(1_050_000_000)),
+    (Kind::UFix64, "010.5", Some(1_050_000_000)),
+    (Kind::Int8, "", None),
+    (Kind::Int8, "-", None),
+    (Kind::Int8, "+1", None),
+    (Kind::Int8, "--1", None),
+    (Kind::Int8, "1 ", None),
+    (Kind::Int8, "1.0", None),
+    (Kind::Int8, "128", None),
+    (Kind::Int8, "-129", None),
+    (Kind::UInt8, "-0", None),
+    (Kind::Word8, "256", None),
+    (Kind::UInt, "340282366920938463463374607431768211456", None),
+    (Kind::Int, "-170141183460469231731687303715884105729", None),
+    (Kind::Fix64, "1", None),
+    (Kind::Fix64, "1.", None),
+    (Kind::Fix64, ".1", None),
+    (Kind::Fix64, "1.123456789", None),
+    (Kind::Fix64, "1.-1", None),
+    (Kind::Fix64, "92233720368.54775808", None),
+    (Kind::UFix64, "-1.0", None),
+    (Kind::UFix64, "184467440737.09551616", None),
+    (
+        Kind::UFix64,
+        "999999999999999999999999999999999999999.0",
+        None,
+    ),
 ];
 
 #[test]
 fn texts_are_read(rt: HostRuntime) {
     for (kind, text, value) in READ.iter() {
-        let expected = number(&rt, *kind, *value);
-        equals(&rt, &read(*kind, text), &Some(expected));
-    }
-    for (kind, text) in REFUSED.iter() {
-        equals(&rt, &read(*kind, text), &None);
+        let wanted = match *value {
+            Some(value) => Some(number(&rt, *kind, value)),
+            None => None,
+        };
+        equals_in(&rt, text, &read(*kind, text), &wanted);
     }
 }

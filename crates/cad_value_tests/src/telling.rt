@@ -12,6 +12,11 @@ pub(crate) fn equals_in<A: Debug + PartialEq>(rt: &impl Abort, row: &str, found:
     assert_eq!(rt; *found, *wanted, "{row}");
 }
 
+/// Asserts what the row with a number tells.
+pub(crate) fn holds_at(rt: &impl Abort, condition: bool, row: usize) {
+    assert!(rt; condition, "{row}");
+}
+
 /// Asserts what a row tells.
 pub(crate) fn holds(rt: &impl Abort, condition: bool, row: &str) {
     assert!(rt; condition, "{row}");

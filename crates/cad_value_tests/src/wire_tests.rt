@@ -113,11 +113,8 @@ static IN_ORDER: [&[u8]; 3] = [
 #[test]
 fn in_order(rt: HostRuntime) {
     for body in IN_ORDER.iter() {
-        holds(
-            &rt,
-            read_entries(rt.alloc(), body).is_ok(),
-            "the body is read",
-        );
+        let read = read_entries(rt.alloc(), body).expect(&rt, "a body");
+        drop(read);
     }
 }
 
