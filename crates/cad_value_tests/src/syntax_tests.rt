@@ -80,13 +80,20 @@ fn paths_are_copied(rt: HostRuntime) {
     drop(path);
 }
 
+/// Whether a text is read as the identifier.
+fn is_read(rt: &impl Abort, alloc: Global, text: &str, id: &TypeId) -> bool {
+    let read = TypeId::from_text(alloc, text).expect(rt, "memory");
+    match read {
+        Some(read) => read == id.clone().expect(rt, "memory"),
+        None => false,
+    }
+}
+
 /// Asserts that an identifier has the text, and that the text is read as the identifier.
 fn is_spelled(rt: &impl Abort, alloc: Global, id: &TypeId, text: &str) {
     let written = id.to_text(alloc).expect(rt, "memory");
     equals(rt, &written.as_str(), &text);
-    let read = TypeId::from_text(alloc, written.as_str()).expect(rt, "memory");
-    let copy = id.clone().expect(rt, "memory");
-    holds(rt, read == Some(copy), text);
+    holds(rt, is_read(rt, alloc, text, id), text);
 }
 
 #[test]
@@ -258,15 +265,20 @@ fn three(rt: &impl Abort, alloc: Global) -> Items<i32> {
     list
 }
 
+/// Asserts that a list's copy is the list, which gives its items back.
+fn list_is_copied(rt: &impl Abort, list: Items<i32>) {
+    let copy = list.clone().expect(rt, "memory");
+    equals(rt, &copy.as_slice().len(), &3);
+    holds(rt, copy == list, "the copy is the list");
+    let again = Items::from_vec(list.into_vec());
+    holds(rt, again == copy, "the items come back");
+}
+
 fn items_come_back(rt: &impl Abort, alloc: Global) {
     let list = three(rt, alloc);
     equals(rt, &list.len(), &3);
     holds(rt, !list.is_empty(), "the list is not empty");
-    let copy = list.clone().expect(rt, "memory");
-    holds(rt, copy == list, "the copy is the list");
-    let again = Items::from_vec(list.into_vec());
-    holds(rt, again == copy, "the items come back");
-    equals(rt, &copy.as_slice().len(), &3);
+    list_is_copied(rt, list);
 }
 
 /// The first three letters.
@@ -277,12 +289,17 @@ fn abc(rt: &impl Abort, alloc: Global) -> Text {
     text
 }
 
-fn letters_come_back(rt: &impl Abort, alloc: Global) {
-    let text = abc(rt, alloc);
-    equals(rt, &text.as_bytes().len(), &3);
+/// Asserts that a text's copy has the letters.
+fn text_is_copied(rt: &impl Abort, alloc: Global, text: &Text) {
     let copy = text.clone().expect(rt, "memory");
     let expected = Text::from_str(alloc, "abc").expect(rt, "memory");
     holds(rt, copy == expected, "the text has the letters");
+}
+
+fn letters_come_back(rt: &impl Abort, alloc: Global) {
+    let text = abc(rt, alloc);
+    equals(rt, &text.as_bytes().len(), &3);
+    text_is_copied(rt, alloc, &text);
     let empty = Text::new(alloc);
     holds(rt, empty.as_str() == "", "a new text is empty");
 }

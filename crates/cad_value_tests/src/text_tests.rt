@@ -1,5 +1,6 @@
 // Worked examples. The lengths are those of Unicode's examples of segmentation, the forms those of Python's unicodedata.
 use crate::telling::equals;
+use cad_syntax::Text;
 use cad_text::*;
 use std::alloc::Global;
 use std::cmp::Ordering;
@@ -136,23 +137,26 @@ fn hexadecimal_forms(rt: HostRuntime) {
     }
 }
 
-/// As many bytes.
-fn zeros(rt: &impl Abort, alloc: Global, count: usize) -> Vec<u8> {
-    vec![in alloc; 0; count].expect(rt, "memory")
+/// As many bytes in digits.
+fn digits(alloc: Global, count: usize) -> Result<Text, TextError> {
+    let bytes = vec![in alloc; 0; count]?;
+    encode_hex(alloc, bytes.as_slice())
+}
+
+/// Asserts that the text is the greatest that there is.
+fn is_largest(rt: &impl Abort, alloc: Global, text: &str) {
+    let whole = concat(alloc, text, "").expect(rt, "memory");
+    equals(rt, &whole.as_bytes().len(), &1_048_576);
+    let error = concat(alloc, text, "a").expect_err(rt, "too large");
+    equals(rt, &error, &TextError::TooLarge);
 }
 
 #[test]
 fn texts_have_at_most_a_mebibyte(rt: HostRuntime) {
-    let alloc = rt.alloc();
-    let more = zeros(&rt, alloc, 524_289);
-    let error = encode_hex(alloc, more.as_slice()).expect_err(&rt, "too large");
+    let error = digits(rt.alloc(), 524_289).expect_err(&rt, "too large");
     equals(&rt, &error, &TextError::TooLarge);
-    let bytes = zeros(&rt, alloc, 524_288);
-    let largest = encode_hex(alloc, bytes.as_slice()).expect(&rt, "memory");
-    let whole = concat(alloc, largest.as_str(), "").expect(&rt, "memory");
-    equals(&rt, &whole.as_bytes().len(), &1_048_576);
-    let error = concat(alloc, largest.as_str(), "a").expect_err(&rt, "too large");
-    equals(&rt, &error, &TextError::TooLarge);
-    let short = concat(alloc, "a", "b").expect(&rt, "memory");
+    let largest = digits(rt.alloc(), 524_288).expect(&rt, "memory");
+    is_largest(&rt, rt.alloc(), largest.as_str());
+    let short = concat(rt.alloc(), "a", "b").expect(&rt, "memory");
     equals(&rt, &short.as_str(), &"ab");
 }

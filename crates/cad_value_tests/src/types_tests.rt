@@ -31,23 +31,29 @@ fn ids(rt: &impl Abort, alloc: Global, names: &str) -> TypeIds {
     ids
 }
 
+static BASICS: [(&str, Basic); 13] = [
+    ("Int", Basic::Number(Kind::Int)),
+    ("Address", Basic::Number(Kind::Address)),
+    ("Void", Basic::Void),
+    ("Never", Basic::Never),
+    ("String", Basic::String),
+    ("Path", Basic::Path),
+    ("StoragePath", Basic::StoragePath),
+    ("PublicPath", Basic::PublicPath),
+    ("Type", Basic::Meta),
+    ("AnyStruct", Basic::AnyStruct),
+    ("AnyResource", Basic::AnyResource),
+    ("Account", Basic::Account),
+    ("Controller", Basic::StorageCapabilityController),
+];
+
 fn basic(name: &str) -> Option<Basic> {
-    match name {
-        "Int" => Some(Basic::Number(Kind::Int)),
-        "Address" => Some(Basic::Number(Kind::Address)),
-        "Void" => Some(Basic::Void),
-        "Never" => Some(Basic::Never),
-        "String" => Some(Basic::String),
-        "Path" => Some(Basic::Path),
-        "StoragePath" => Some(Basic::StoragePath),
-        "PublicPath" => Some(Basic::PublicPath),
-        "Type" => Some(Basic::Meta),
-        "AnyStruct" => Some(Basic::AnyStruct),
-        "AnyResource" => Some(Basic::AnyResource),
-        "Account" => Some(Basic::Account),
-        "Controller" => Some(Basic::StorageCapabilityController),
-        _ => None,
+    for (word, basic) in BASICS.iter() {
+        if *word == name {
+            return Some(*basic);
+        }
     }
+    None
 }
 
 fn named(rt: &impl Abort, alloc: Global, name: &str) -> CadType {
