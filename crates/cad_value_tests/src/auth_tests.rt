@@ -1,8 +1,9 @@
 // What authorizations grant, and their images under mappings, as rows.
+use crate::telling::holds_at;
 use cad_auth::{Mapping, grants, image, weaker};
 use cad_syntax::{Address, Authorization, Name, Names, Pairs, Text, TypeId, TypeIds};
-use std::alloc::{AllocError, Global};
-use std::test::Fail;
+use std::alloc::Global;
+use std::process::Abort;
 
 /// An authorization by the names of its entitlements.
 #[derive(Clone, Copy)]
@@ -14,134 +15,178 @@ enum Form<'a> {
 
 use Form::{All, Any, Unauthorized};
 
-fn entitlement(alloc: Global, name: &str) -> Result<TypeId, AllocError> {
+fn entitlement(rt: &impl Abort, alloc: Global, name: &str) -> TypeId {
+    let text = Text::from_str(alloc, name).expect(rt, "memory");
     let mut names = Names::new(alloc);
-    names.push(Name(Text::from_str(alloc, name)?))?;
-    Ok(TypeId {
+    names.push(Name(text)).expect(rt, "memory");
+    TypeId {
         address: Address(1),
         names,
-    })
+    }
 }
 
-fn ids(alloc: Global, names: &[&str]) -> Result<TypeIds, AllocError> {
+fn ids(rt: &impl Abort, alloc: Global, names: &[&str]) -> TypeIds {
     let mut ids = TypeIds::new(alloc);
     for name in names {
-        ids.push(entitlement(alloc, name)?)?;
+        ids.push(entitlement(rt, alloc, name)).expect(rt, "memory");
     }
-    Ok(ids)
+    ids
 }
 
-fn authorization(alloc: Global, form: Form<'_>) -> Result<Authorization, AllocError> {
+fn authorization(rt: &impl Abort, alloc: Global, form: Form<'_>) -> Authorization {
     match form {
-        Unauthorized => Ok(Authorization::Unauthorized),
-        All(names) => Ok(Authorization::All(ids(alloc, names)?)),
-        Any(names) => Ok(Authorization::Any(ids(alloc, names)?)),
+        Unauthorized => Authorization::Unauthorized,
+        All(names) => Authorization::All(ids(rt, alloc, names)),
+        Any(names) => Authorization::Any(ids(rt, alloc, names)),
     }
 }
 
-fn pair(alloc: Global, from: &str, to: &str) -> Result<(TypeId, TypeId), AllocError> {
-    Ok((entitlement(alloc, from)?, entitlement(alloc, to)?))
-}
-
-fn mapping(alloc: Global, identity: bool, rows: &[(&str, &str)]) -> Result<Mapping, AllocError> {
+fn mapping(rt: &impl Abort, alloc: Global, identity: bool, rows: &[(&str, &str)]) -> Mapping {
     let mut pairs = Pairs::new(alloc);
     for (from, to) in rows {
-        pairs.push(pair(alloc, from, to)?)?;
+        let pair = (entitlement(rt, alloc, from), entitlement(rt, alloc, to));
+        pairs.push(pair).expect(rt, "memory");
     }
-    Ok(Mapping { identity, pairs })
+    Mapping { identity, pairs }
 }
 
 /// Whether the first grants the second, and whether it is weaker.
-fn compared(alloc: Global, a: Form<'_>, b: Form<'_>) -> Result<(bool, bool), AllocError> {
-    let first = authorization(alloc, a)?;
-    let second = authorization(alloc, b)?;
-    Ok((grants(&first, &second), weaker(&first, &second)))
+fn compared(rt: &impl Abort, alloc: Global, a: Form<'_>, b: Form<'_>) -> (bool, bool) {
+    let first = authorization(rt, alloc, a);
+    let second = authorization(rt, alloc, b);
+    let result = (grants(&first, &second), weaker(&first, &second));
+    drop(first);
+    drop(second);
+    result
 }
 
 /// A mapping, an authorization and its image; none where it has none.
 type Image<'a> = (bool, &'a [(&'a str, &'a str)], Form<'a>, Option<Form<'a>>);
 
+/// The authorization of a row; none where it has none.
+fn wanted(rt: &impl Abort, alloc: Global, form: Option<Form<'_>>) -> Option<Authorization> {
+    match form {
+        Some(form) => Some(authorization(rt, alloc, form)),
+        None => None,
+    }
+}
+
 /// Whether the image is the one of the row.
-fn holds(alloc: Global, row: Image<'_>) -> Result<bool, AllocError> {
+fn is_image(rt: &impl Abort, alloc: Global, row: Image<'_>) -> bool {
     let (identity, pairs, given, expected) = row;
-    let map = mapping(alloc, identity, pairs)?;
-    let of = authorization(alloc, given)?;
-    let found = image(alloc, &map, &of)?;
-    let Some(form) = expected else {
-        return Ok(found.is_none());
-    };
-    let wanted = authorization(alloc, form)?;
-    Ok(found == Some(wanted))
+    let map = mapping(rt, alloc, identity, pairs);
+    let of = authorization(rt, alloc, given);
+    let found = image(alloc, &map, &of).expect(rt, "memory");
+    drop(map);
+    drop(of);
+    let wanted = wanted(rt, alloc, expected);
+    let is_one = found == wanted;
+    drop(found);
+    drop(wanted);
+    is_one
 }
 
-#[test]
-fn grants_by_sets(rt: HostRuntime) -> Result<(), Fail> {
-    let rows: [(Form<'_>, Form<'_>, bool); 11] = [
-        (All(&["E", "F"]), All(&["E"]), true),
-        (Any(&["E", "F"]), All(&["E"]), false),
-        (Any(&["E", "F"]), Any(&["E", "F"]), true),
-        (Unauthorized, Unauthorized, true),
-        (All(&["E"]), Any(&["E", "F"]), true),
-        (Any(&["E", "F"]), Any(&["G", "F", "E"]), true),
-        (Any(&["E", "F"]), Any(&["E", "G"]), false),
-        (Unauthorized, All(&["E"]), false),
-        (All(&["E"]), Unauthorized, true),
-        (Unauthorized, Any(&[]), true),
-        (Any(&[]), All(&[]), true),
-    ];
-    for (row, (a, b, expected)) in rows.into_iter().enumerate() {
-        let (granted, _) = compared(rt.alloc(), a, b)?;
-        assert!(rt; granted == expected, "{row}");
-    }
-    Ok(())
-}
+/// Two authorizations, and whether the first grants the second.
+static GRANTS: [(Form<'static>, Form<'static>, bool); 11] = [
+    (All(&["E", "F"]), All(&["E"]), true),
+    (Any(&["E", "F"]), All(&["E"]), false),
+    (Any(&["E", "F"]), Any(&["E", "F"]), true),
+    (Unauthorized, Unauthorized, true),
+    (All(&["E"]), Any(&["E", "F"]), true),
+    (Any(&["E", "F"]), Any(&["G", "F", "E"]), true),
+    (Any(&["E", "F"]), Any(&["E", "G"]), false),
+    (Unauthorized, All(&["E"]), false),
+    (All(&["E"]), Unauthorized, true),
+    (Unauthorized, Any(&[]), true),
+    (Any(&[]), All(&[]), true),
+];
 
 #[test]
-fn weaker_by_sets(rt: HostRuntime) -> Result<(), Fail> {
-    let rows: [(Form<'_>, Form<'_>, bool); 2] = [
-        (All(&["E"]), All(&["E", "F"]), true),
-        (All(&["E", "F"]), All(&["E"]), false),
-    ];
-    for (row, (a, b, expected)) in rows.into_iter().enumerate() {
-        let (_, is_weaker) = compared(rt.alloc(), a, b)?;
-        assert!(rt; is_weaker == expected, "{row}");
+fn grants_by_sets(rt: HostRuntime) {
+    for (row, (a, b, expected)) in GRANTS.iter().enumerate() {
+        holds_at(&rt, compared(&rt, rt.alloc(), *a, *b).0 == *expected, row);
     }
-    Ok(())
 }
 
+/// Two authorizations, and whether the first is weaker than the second.
+static WEAKER: [(Form<'static>, Form<'static>, bool); 2] = [
+    (All(&["E"]), All(&["E", "F"]), true),
+    (All(&["E", "F"]), All(&["E"]), false),
+];
+
 #[test]
-fn images(rt: HostRuntime) -> Result<(), Fail> {
-    let two: [&[(&str, &str)]; 2] = [&[("E", "X"), ("F", "Y")], &[("F", "Y"), ("E", "X")]];
-    let more: &[(&str, &str)] = &[("E", "A"), ("E", "B"), ("F", "B"), ("G", "A")];
-    let rows: [Image<'_>; 10] = [
-        (false, two[0], All(&["E", "F"]), Some(All(&["X", "Y"]))),
-        (false, two[0], Any(&["E", "F"]), Some(Any(&["X", "Y"]))),
-        (false, two[1], All(&["E", "F"]), Some(All(&["X", "Y"]))),
-        (false, two[1], Any(&["E", "F"]), Some(Any(&["X", "Y"]))),
-        (
-            false,
-            &[("E", "X"), ("E", "Y"), ("F", "Z")],
-            Any(&["E", "F"]),
-            None,
-        ),
-        (
-            false,
-            &[("E", "X"), ("F", "X")],
-            Any(&["E", "F"]),
-            Some(All(&["X"])),
-        ),
-        (
-            true,
-            &[("E", "X")],
-            All(&["F", "E"]),
-            Some(All(&["F", "E", "X"])),
-        ),
-        (false, more, Any(&["E", "F", "G"]), Some(Any(&["A", "B"]))),
-        (false, more, Any(&["E", "H"]), Some(Unauthorized)),
-        (false, more, Unauthorized, Some(Unauthorized)),
-    ];
-    for (row, image) in rows.into_iter().enumerate() {
-        assert!(rt; holds(rt.alloc(), image)?, "{row}");
+fn weaker_by_sets(rt: HostRuntime) {
+    for (row, (a, b, expected)) in WEAKER.iter().enumerate() {
+        holds_at(&rt, compared(&rt, rt.alloc(), *a, *b).1 == *expected, row);
     }
-    Ok(())
+}
+
+static IMAGES: [Image<'static>; 10] = [
+    (
+        false,
+        &[("E", "X"), ("F", "Y")],
+        All(&["E", "F"]),
+        Some(All(&["X", "Y"])),
+    ),
+    (
+        false,
+        &[("E", "X"), ("F", "Y")],
+        Any(&["E", "F"]),
+        Some(Any(&["X", "Y"])),
+    ),
+    (
+        false,
+        &[("F", "Y"), ("E", "X")],
+        All(&["E", "F"]),
+        Some(All(&["X", "Y"])),
+    ),
+    (
+        false,
+        &[("F", "Y"), ("E", "X")],
+        Any(&["E", "F"]),
+        Some(Any(&["X", "Y"])),
+    ),
+    (
+        false,
+        &[("E", "X"), ("E", "Y"), ("F", "Z")],
+        Any(&["E", "F"]),
+        None,
+    ),
+    (
+        false,
+        &[("E", "X"), ("F", "X")],
+        Any(&["E", "F"]),
+        Some(All(&["X"])),
+    ),
+    (
+        true,
+        &[("E", "X")],
+        All(&["F", "E"]),
+        Some(All(&["F", "E", "X"])),
+    ),
+    (
+        false,
+        &[("E", "A"), ("E", "B"), ("F", "B"), ("G", "A")],
+        Any(&["E", "F", "G"]),
+        Some(Any(&["A", "B"])),
+    ),
+    (
+        false,
+        &[("E", "A"), ("E", "B"), ("F", "B"), ("G", "A")],
+        Any(&["E", "H"]),
+        Some(Unauthorized),
+    ),
+    (
+        false,
+        &[("E", "A"), ("E", "B"), ("F", "B"), ("G", "A")],
+        Unauthorized,
+        Some(Unauthorized),
+    ),
+];
+
+#[test]
+fn images(rt: HostRuntime) {
+    for (row, image) in IMAGES.iter().enumerate() {
+        holds_at(&rt, is_image(&rt, rt.alloc(), *image), row);
+    }
 }

@@ -1,158 +1,206 @@
 // Bytes of values both ways, and bytes of no value.
 use crate::codec_rows::{DAMAGED, LEVELS, TYPE_LEVELS, VALUES};
+use crate::telling::{equals, equals_in, holds};
 use cad_codec::{decode, decode_type, encode, encode_type};
 use cad_syntax::{CadType, Kind, Num};
 use cad_text::decode_hex;
 use cad_values::{Value, has_no_reference, height, same};
 use cad_wire::DecodeError;
-use std::alloc::{AllocError, Global};
-use std::test::Fail;
+use std::alloc::Global;
+use std::process::Abort;
 
-/// The bytes of a row's digits; none where they are no digits, which no row is.
-fn bytes_of(alloc: Global, digits: &str) -> Result<Vec<u8>, AllocError> {
-    match decode_hex(alloc, digits) {
-        Ok(bytes) => Ok(bytes.into_vec()),
-        Err(_) => Ok(Vec::new(alloc)),
+/// The bytes of a row's digits.
+fn bytes_of(rt: &impl Abort, alloc: Global, digits: &str) -> Vec<u8> {
+    decode_hex(alloc, digits).expect(rt, "digits").into_vec()
+}
+
+/// The bytes of a row's digits behind its name.
+fn bytes_in(rt: &impl Abort, alloc: Global, row: &str) -> Vec<u8> {
+    let (_, digits) = row.split_once('~').unwrap_or((row, ""));
+    bytes_of(rt, alloc, digits)
+}
+
+/// What bytes are read as. None where they are damaged.
+fn read(rt: &impl Abort, alloc: Global, bytes: &[u8]) -> Option<Value> {
+    match decode(alloc, bytes) {
+        Ok(value) => Some(value),
+        Err(error) => {
+            equals(rt, &error, &DecodeError::Damaged);
+            None
+        }
     }
 }
 
-/// The bytes of what is read from bytes. None where they are damaged.
-fn written_again(alloc: Global, bytes: &[u8]) -> Result<Option<Vec<u8>>, AllocError> {
-    match decode(alloc, bytes) {
-        Ok(value) => {
-            if !has_no_reference(&value) {
-                return Ok(None);
-            }
-            Ok(Some(encode(alloc, &value)?.into_vec()))
-        }
-        Err(DecodeError::Damaged) => Ok(None),
-        Err(DecodeError::Memory) => Err(AllocError),
+/// Whether a value is written as the bytes.
+fn is_written(rt: &impl Abort, alloc: Global, value: &Value, bytes: &[u8]) -> bool {
+    if !has_no_reference(value) {
+        return false;
     }
+    let again = encode(alloc, value).expect(rt, "memory");
+    again.as_slice() == bytes
 }
 
 /// Whether bytes are read as a value that is written so again.
-fn is_read(alloc: Global, bytes: &[u8]) -> Result<bool, AllocError> {
-    match written_again(alloc, bytes)? {
-        Some(again) => Ok(again.as_slice() == bytes),
-        None => Ok(false),
+fn is_read(rt: &impl Abort, alloc: Global, bytes: &[u8]) -> bool {
+    match read(rt, alloc, bytes) {
+        Some(value) => {
+            let is_same = is_written(rt, alloc, &value, bytes);
+            drop(value);
+            is_same
+        }
+        None => false,
     }
 }
 
 /// Whether no value has the bytes.
-fn is_damaged(alloc: Global, bytes: &[u8]) -> Result<bool, AllocError> {
-    match decode(alloc, bytes) {
-        Err(DecodeError::Damaged) => Ok(true),
-        Err(DecodeError::Memory) => Err(AllocError),
-        Ok(_) => Ok(false),
+fn is_damaged(rt: &impl Abort, alloc: Global, bytes: &[u8]) -> bool {
+    match read(rt, alloc, bytes) {
+        Some(value) => {
+            drop(value);
+            false
+        }
+        None => true,
     }
+}
+
+/// Whether no value has one byte more.
+fn more_is_damaged(rt: &impl Abort, alloc: Global, bytes: &[u8]) -> bool {
+    let longer = repeated(rt, alloc, bytes, 1, &[0]);
+    is_damaged(rt, alloc, longer.as_slice())
 }
 
 /// Whether no value has fewer of the bytes, from the front, or one byte more.
-fn others_are_damaged(alloc: Global, bytes: &[u8]) -> Result<bool, AllocError> {
+fn others_are_damaged(rt: &impl Abort, alloc: Global, bytes: &[u8]) -> bool {
     for n in 0..bytes.len() {
-        if !is_damaged(alloc, &bytes[..n])? {
-            return Ok(false);
+        if !is_damaged(rt, alloc, &bytes[..n]) {
+            return false;
         }
     }
-    let mut longer = Vec::new(alloc);
-    longer.extend_from_slice(bytes)?;
-    longer.push(0)?;
-    is_damaged(alloc, longer.as_slice())
+    more_is_damaged(rt, alloc, bytes)
 }
 
 /// The front so many times, and the end.
-fn repeated(alloc: Global, front: &[u8], count: usize, end: &[u8]) -> Result<Vec<u8>, AllocError> {
+fn repeated(rt: &impl Abort, alloc: Global, front: &[u8], count: usize, end: &[u8]) -> Vec<u8> {
     let mut bytes = Vec::new(alloc);
     for _ in 0..count {
-        bytes.extend_from_slice(front)?;
+        bytes.extend_from_slice(front).expect(rt, "memory");
     }
-    bytes.extend_from_slice(end)?;
-    Ok(bytes)
+    bytes.extend_from_slice(end).expect(rt, "memory");
+    bytes
 }
 
-/// What stands before each level of a row, and what is innermost.
-fn levels(alloc: Global, row: &str) -> Result<(Vec<u8>, Vec<u8>), AllocError> {
+/// So many levels of a row: what stands before each of them, and what is innermost.
+fn levels(rt: &impl Abort, alloc: Global, row: &str, count: usize) -> Vec<u8> {
     let (_, rest) = row.split_once('~').unwrap_or((row, ""));
     let (front, end) = rest.split_once('~').unwrap_or((rest, ""));
-    Ok((bytes_of(alloc, front)?, bytes_of(alloc, end)?))
+    let before = bytes_of(rt, alloc, front);
+    let innermost = bytes_of(rt, alloc, end);
+    repeated(rt, alloc, before.as_slice(), count, innermost.as_slice())
 }
 
-/// How high the value is that bytes are read as.
-fn height_of(alloc: Global, bytes: &[u8]) -> Result<Option<u64>, AllocError> {
-    match decode(alloc, bytes) {
-        Ok(value) => Ok(Some(height(&value))),
-        Err(DecodeError::Damaged) => Ok(None),
-        Err(DecodeError::Memory) => Err(AllocError),
-    }
-}
-
-/// How deep the type nests that bytes are read as, and whether it is written so again.
-fn nesting_of(alloc: Global, bytes: &[u8]) -> Result<Option<(u32, bool)>, AllocError> {
-    match decode_type(alloc, bytes) {
-        Ok(t) => {
-            let again = encode_type(alloc, &t)?;
-            let nests = t.nesting(2000).unwrap_or(0);
-            Ok(Some((nests, again.as_slice() == bytes)))
+/// How high the value is of so many levels of a row. None where the bytes are damaged.
+fn height_of(rt: &impl Abort, alloc: Global, row: &str, count: usize) -> Option<u64> {
+    let bytes = levels(rt, alloc, row, count);
+    match read(rt, alloc, bytes.as_slice()) {
+        Some(value) => {
+            let high = height(&value);
+            drop(value);
+            Some(high)
         }
-        Err(DecodeError::Damaged) => Ok(None),
-        Err(DecodeError::Memory) => Err(AllocError),
+        None => None,
     }
 }
 
+/// What type bytes are read as. None where they are damaged.
+fn read_type(rt: &impl Abort, alloc: Global, bytes: &[u8]) -> Option<CadType> {
+    match decode_type(alloc, bytes) {
+        Ok(t) => Some(t),
+        Err(error) => {
+            equals(rt, &error, &DecodeError::Damaged);
+            None
+        }
+    }
+}
+
+/// Whether a type is written as the bytes.
+fn is_type_written(rt: &impl Abort, alloc: Global, t: &CadType, bytes: &[u8]) -> bool {
+    let again = encode_type(alloc, t).expect(rt, "memory");
+    again.as_slice() == bytes
+}
+
+/// How deep the type nests of so many levels of a row, and whether it is written so again. None where the bytes are damaged.
+fn nesting_of(rt: &impl Abort, alloc: Global, row: &str, count: usize) -> Option<(u32, bool)> {
+    let bytes = levels(rt, alloc, row, count);
+    match read_type(rt, alloc, bytes.as_slice()) {
+        Some(t) => {
+            let nests = t.nesting(2000).unwrap_or(0);
+            let is_same = is_type_written(rt, alloc, &t, bytes.as_slice());
+            drop(t);
+            Some((nests, is_same))
+        }
+        None => None,
+    }
+}
+
+/// Asserts that the bytes of a row are read as a value that is written so again, and that no fewer and no more are.
+fn is_of_one_value(rt: &impl Abort, alloc: Global, row: &str) {
+    let bytes = bytes_in(rt, alloc, row);
+    holds(rt, is_read(rt, alloc, bytes.as_slice()), row);
+    holds(rt, others_are_damaged(rt, alloc, bytes.as_slice()), row);
+}
+
 #[test]
-fn values_are_read_and_written_again(rt: HostRuntime) -> Result<(), Fail> {
+fn values_are_read_and_written_again(rt: HostRuntime) {
     for row in VALUES.lines() {
-        let (_, digits) = row.split_once('~').unwrap_or((row, ""));
-        let bytes = bytes_of(rt.alloc(), digits)?;
-        assert!(rt; is_read(rt.alloc(), bytes.as_slice())?, "{row}");
-        assert!(rt; others_are_damaged(rt.alloc(), bytes.as_slice())?, "{row}");
+        is_of_one_value(&rt, rt.alloc(), row);
     }
-    Ok(())
+}
+
+/// Whether the bytes of a row are those of no value.
+fn is_of_no_value(rt: &impl Abort, alloc: Global, row: &str) -> bool {
+    let bytes = bytes_in(rt, alloc, row);
+    is_damaged(rt, alloc, bytes.as_slice())
 }
 
 #[test]
-fn other_bytes_are_damaged(rt: HostRuntime) -> Result<(), Fail> {
+fn other_bytes_are_damaged(rt: HostRuntime) {
     for row in DAMAGED.lines() {
-        let (_, digits) = row.split_once('~').unwrap_or((row, ""));
-        let bytes = bytes_of(rt.alloc(), digits)?;
-        assert!(rt; is_damaged(rt.alloc(), bytes.as_slice())?, "{row}");
+        holds(&rt, is_of_no_value(&rt, rt.alloc(), row), row);
     }
-    Ok(())
+}
+
+/// Whether a value is the Int 7.
+fn is_seven(rt: &impl Abort, value: &Value) -> bool {
+    let seven = Value::Number(Num::new(Kind::Int, false, 7).expect(rt, "7 is an Int"));
+    let is_same = same(value, &seven);
+    drop(seven);
+    is_same
 }
 
 #[test]
-fn seven(rt: HostRuntime) -> Result<(), Fail> {
-    let n = Num::new(Kind::Int, false, 7).ok_or("7 is an Int")?;
-    let bytes = bytes_of(rt.alloc(), "04000000000000000000000000000000000007")?;
-    let read = decode(rt.alloc(), bytes.as_slice())?;
-    assert!(rt; same(&read, &Value::Number(n)));
-    Ok(())
+fn seven(rt: HostRuntime) {
+    let bytes = bytes_of(&rt, rt.alloc(), "04000000000000000000000000000000000007");
+    let value = decode(rt.alloc(), bytes.as_slice()).expect(&rt, "a value");
+    holds(&rt, is_seven(&rt, &value), "the value is 7");
+    drop(value);
 }
 
 #[test]
-fn values_are_256_high_at_most(rt: HostRuntime) -> Result<(), Fail> {
+fn values_are_256_high_at_most(rt: HostRuntime) {
     for row in LEVELS.lines() {
-        let (front, end) = levels(rt.alloc(), row)?;
-        let most = repeated(rt.alloc(), front.as_slice(), 255, end.as_slice())?;
-        assert_eq!(rt; height_of(rt.alloc(), most.as_slice())?, Some(256), "{row}");
-        let more = repeated(rt.alloc(), front.as_slice(), 256, end.as_slice())?;
-        assert_eq!(rt; height_of(rt.alloc(), more.as_slice())?, None, "{row}");
+        let most = height_of(&rt, rt.alloc(), row, 255);
+        let more = height_of(&rt, rt.alloc(), row, 256);
+        equals_in(&rt, row, &most, &Some(256));
+        equals_in(&rt, row, &more, &None);
     }
-    Ok(())
 }
 
 #[test]
-fn types_nest_1024_deep_at_most(rt: HostRuntime) -> Result<(), Fail> {
+fn types_nest_1024_deep_at_most(rt: HostRuntime) {
     for row in TYPE_LEVELS.lines() {
-        let (front, end) = levels(rt.alloc(), row)?;
-        let most = repeated(rt.alloc(), front.as_slice(), 1024, end.as_slice())?;
-        assert_eq!(rt;
-            nesting_of(rt.alloc(), most.as_slice())?,
-            Some((1024, true)),
-            "{row}"
-        );
-        let more = repeated(rt.alloc(), front.as_slice(), 1025, end.as_slice())?;
-        assert_eq!(rt; nesting_of(rt.alloc(), more.as_slice())?, None, "{row}");
+        let most = nesting_of(&rt, rt.alloc(), row, 1024);
+        let more = nesting_of(&rt, rt.alloc(), row, 1025);
+        equals_in(&rt, row, &most, &Some((1024, true)));
+        equals_in(&rt, row, &more, &None);
     }
-    Ok(())
 }

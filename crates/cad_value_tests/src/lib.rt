@@ -18,6 +18,8 @@ mod operators_tests;
 #[cfg(test)]
 mod syntax_tests;
 #[cfg(test)]
+mod telling;
+#[cfg(test)]
 mod text_tests;
 #[cfg(test)]
 mod types_tests;

@@ -1,22 +1,36 @@
 // Numbers as bytes and back, and bytes that no value has.
+use crate::telling::{equals, holds};
 use cad_number_codec::*;
-use cad_syntax::{Kind, Num};
-use std::test::*;
+use cad_syntax::{Bytes, Kind, Num};
+use std::alloc::Global;
+use std::process::Abort;
 
 const SEVEN: [u8; 19] = [4, 0, 0, 0, 0, 0, 0, 0, 0, 0, 0, 0, 0, 0, 0, 0, 0, 0, 7];
 
+/// The bytes of a number; none where it is an address.
+fn written(rt: &impl Abort, alloc: Global, n: Num) -> Bytes {
+    if matches!(n.kind, Kind::Address) {
+        return Bytes::new(alloc);
+    }
+    encode(alloc, &Value::Number(n)).expect(rt, "memory")
+}
+
+/// Asserts that a number has the bytes, and that these are read as the number.
+fn is_number(rt: &impl Abort, alloc: Global, n: Num, bytes: &[u8]) {
+    let written = written(rt, alloc, n);
+    equals(rt, &written.as_slice(), &bytes);
+    let read = decode(alloc, bytes).expect(rt, "a number");
+    holds(rt, read == Value::Number(n), "the number is read");
+}
+
 #[test]
-fn seven(rt: HostRuntime) -> Result<(), Fail> {
-    let n = Num::new(Kind::Int, false, 7).ok_or("7 is an Int")?;
-    assert!(rt; n.kind == Kind::Int);
-    let bytes = encode(rt.alloc(), &Value::Number(n))?;
-    assert_eq!(rt; bytes.as_slice(), SEVEN.as_slice());
-    assert!(rt; decode(rt.alloc(), &SEVEN)? == Value::Number(n));
-    Ok(())
+fn seven(rt: HostRuntime) {
+    let n = Num::new(Kind::Int, false, 7).expect(&rt, "7 is an Int");
+    is_number(&rt, rt.alloc(), n, &SEVEN);
 }
 
 // Kind byte, sign byte, magnitude.
-const NUMBERS: [(Kind, u8, bool, u128); 8] = [
+static NUMBERS: [(Kind, u8, bool, u128); 8] = [
     (Kind::Int, 0, true, 1 << 127),
     (Kind::Int, 0, false, (1 << 127) - 1),
     (Kind::Int8, 1, true, 128),
@@ -53,49 +67,61 @@ fn bytes_of(kind: u8, negative: bool, magnitude: u128) -> [u8; 19] {
 }
 
 #[test]
-fn both_ways(rt: HostRuntime) -> Result<(), Fail> {
-    for (kind, byte, negative, magnitude) in NUMBERS {
-        let n = Num::new(kind, negative, magnitude).ok_or("in range")?;
-        assert!(rt; n.kind != Kind::Address);
-        let expected = bytes_of(byte, negative, magnitude);
-        let bytes = encode(rt.alloc(), &Value::Number(n))?;
-        assert_eq!(rt; bytes.as_slice(), expected.as_slice());
-        assert!(rt; decode(rt.alloc(), &expected)? == Value::Number(n));
+fn both_ways(rt: HostRuntime) {
+    for (kind, byte, negative, magnitude) in NUMBERS.iter() {
+        let n = Num::new(*kind, *negative, *magnitude).expect(&rt, "in range");
+        let expected = bytes_of(*byte, *negative, *magnitude);
+        is_number(&rt, rt.alloc(), n, &expected);
     }
-    Ok(())
+}
+
+fn is_damaged(alloc: Global, bytes: &[u8]) -> bool {
+    matches!(decode(alloc, bytes), Err(DecodeError::Damaged))
 }
 
 #[test]
 fn each_front_is_damaged(rt: HostRuntime) {
     for n in 0..SEVEN.len() {
-        assert!(rt; matches!(decode(rt.alloc(), &SEVEN[..n]), Err(DecodeError::Damaged)));
+        holds(
+            &rt,
+            is_damaged(rt.alloc(), &SEVEN[..n]),
+            "a front is damaged",
+        );
     }
 }
 
+// Kind byte, sign byte, magnitude.
+static NO_NUMBERS: [(u8, bool, u128); 7] = [
+    // no such kind, and the kind of addresses
+    (20, false, 1),
+    (19, false, 1),
+    // negative zero
+    (0, true, 0),
+    // out of range
+    (0, true, (1 << 127) + 1),
+    (0, false, 1 << 127),
+    (1, false, 128),
+    (7, true, 1),
+];
+
+fn none_is_a_number(rt: &impl Abort, alloc: Global) {
+    for (kind, negative, magnitude) in NO_NUMBERS.iter() {
+        let bytes = bytes_of(*kind, *negative, *magnitude);
+        holds(rt, is_damaged(alloc, &bytes), "the bytes are damaged");
+    }
+}
+
+// a byte of no value, a sign that is neither, and a byte too many
+static OTHERS: [&[u8]; 3] = [
+    &[14, 0, 0, 0, 0, 0, 0, 0, 0, 0, 0, 0, 0, 0, 0, 0, 0, 0, 7],
+    &[4, 0, 2, 0, 0, 0, 0, 0, 0, 0, 0, 0, 0, 0, 0, 0, 0, 0, 7],
+    &[4, 0, 0, 0, 0, 0, 0, 0, 0, 0, 0, 0, 0, 0, 0, 0, 0, 0, 7, 0],
+];
+
 #[test]
 fn damaged(rt: HostRuntime) {
-    let numbers = [
-        // no such kind, and the kind of addresses
-        bytes_of(20, false, 1),
-        bytes_of(19, false, 1),
-        // negative zero
-        bytes_of(0, true, 0),
-        // out of range
-        bytes_of(0, true, (1 << 127) + 1),
-        bytes_of(0, false, 1 << 127),
-        bytes_of(1, false, 128),
-        bytes_of(7, true, 1),
-    ];
-    for bytes in numbers {
-        assert!(rt; matches!(decode(rt.alloc(), &bytes), Err(DecodeError::Damaged)));
-    }
-    // a byte of no value, a sign that is neither, and a byte too many
-    let others: [&[u8]; 3] = [
-        &[14, 0, 0, 0, 0, 0, 0, 0, 0, 0, 0, 0, 0, 0, 0, 0, 0, 0, 7],
-        &[4, 0, 2, 0, 0, 0, 0, 0, 0, 0, 0, 0, 0, 0, 0, 0, 0, 0, 7],
-        &[4, 0, 0, 0, 0, 0, 0, 0, 0, 0, 0, 0, 0, 0, 0, 0, 0, 0, 7, 0],
-    ];
-    for bytes in others {
-        assert!(rt; matches!(decode(rt.alloc(), bytes), Err(DecodeError::Damaged)));
+    none_is_a_number(&rt, rt.alloc());
+    for bytes in OTHERS.iter() {
+        holds(&rt, is_damaged(rt.alloc(), bytes), "the bytes are damaged");
     }
 }

@@ -1,4 +1,5 @@
 // Worked examples.
+use crate::telling::{equals, holds};
 use cad_syntax::{
     Address, Authorization, Basic, CadType, Kind, Name, Names, Text, TypeId, TypeIds, Types,
 };
@@ -6,86 +7,102 @@ use cad_types::{
     Declared, DeclaredTypes, Sort, is_closed, is_exportable, is_importable, is_resource,
     is_storable, is_subtype,
 };
-use std::alloc::{AllocError, Global};
-use std::test::Fail;
+use std::alloc::Global;
+use std::process::Abort;
 
-fn id(alloc: Global, name: &str) -> Result<TypeId, AllocError> {
+fn id(rt: &impl Abort, alloc: Global, name: &str) -> TypeId {
+    let text = Text::from_str(alloc, name).expect(rt, "memory");
     let mut names = Names::new(alloc);
-    names.push(Name(Text::from_str(alloc, name)?))?;
-    Ok(TypeId {
+    names.push(Name(text)).expect(rt, "memory");
+    TypeId {
         address: Address(1),
         names,
-    })
+    }
 }
 
 /// The identifiers of names with commas between them, of which a dot is none.
-fn ids(alloc: Global, names: &str) -> Result<TypeIds, AllocError> {
+fn ids(rt: &impl Abort, alloc: Global, names: &str) -> TypeIds {
     let mut ids = TypeIds::new(alloc);
     for name in names.split(',') {
         if name != "." {
-            ids.push(id(alloc, name)?)?;
+            ids.push(id(rt, alloc, name)).expect(rt, "memory");
         }
     }
-    Ok(ids)
+    ids
 }
+
+static BASICS: [(&str, Basic); 13] = [
+    ("Int", Basic::Number(Kind::Int)),
+    ("Address", Basic::Number(Kind::Address)),
+    ("Void", Basic::Void),
+    ("Never", Basic::Never),
+    ("String", Basic::String),
+    ("Path", Basic::Path),
+    ("StoragePath", Basic::StoragePath),
+    ("PublicPath", Basic::PublicPath),
+    ("Type", Basic::Meta),
+    ("AnyStruct", Basic::AnyStruct),
+    ("AnyResource", Basic::AnyResource),
+    ("Account", Basic::Account),
+    ("Controller", Basic::StorageCapabilityController),
+];
 
 fn basic(name: &str) -> Option<Basic> {
-    match name {
-        "Int" => Some(Basic::Number(Kind::Int)),
-        "Address" => Some(Basic::Number(Kind::Address)),
-        "Void" => Some(Basic::Void),
-        "Never" => Some(Basic::Never),
-        "String" => Some(Basic::String),
-        "Path" => Some(Basic::Path),
-        "StoragePath" => Some(Basic::StoragePath),
-        "PublicPath" => Some(Basic::PublicPath),
-        "Type" => Some(Basic::Meta),
-        "AnyStruct" => Some(Basic::AnyStruct),
-        "AnyResource" => Some(Basic::AnyResource),
-        "Account" => Some(Basic::Account),
-        "Controller" => Some(Basic::StorageCapabilityController),
-        _ => None,
+    for (word, basic) in BASICS.iter() {
+        if *word == name {
+            return Some(*basic);
+        }
+    }
+    None
+}
+
+fn named(rt: &impl Abort, alloc: Global, name: &str) -> CadType {
+    if let Some(basic) = basic(name) {
+        return CadType::Basic(basic);
+    }
+    if name == "Capability" {
+        return CadType::Capability;
+    }
+    match name.strip_prefix('{') {
+        Some(rest) => CadType::Intersection(ids(rt, alloc, rest.strip_suffix('}').unwrap_or(rest))),
+        None => CadType::Declared(id(rt, alloc, name)),
     }
 }
 
-fn named(alloc: Global, name: &str) -> Result<CadType, AllocError> {
-    if let Some(basic) = basic(name) {
-        return Ok(CadType::Basic(basic));
-    }
-    match name {
-        "Capability" => Ok(CadType::Capability),
-        "{SI}" => Ok(CadType::Intersection(ids(alloc, "SI")?)),
-        "{RI}" => Ok(CadType::Intersection(ids(alloc, "RI")?)),
-        "{RJ}" => Ok(CadType::Intersection(ids(alloc, "RJ")?)),
-        "{RI,RJ}" => Ok(CadType::Intersection(ids(alloc, "RI,RJ")?)),
-        _ => Ok(CadType::Declared(id(alloc, name)?)),
+fn boxed(rt: &impl Abort, alloc: Global, t: CadType) -> Box<CadType> {
+    Box::new(alloc, t).expect(rt, "memory")
+}
+
+/// The authorization of a sign: all of E `+`, all of E and F `*`, any of E and F `|`.
+fn authorization(rt: &impl Abort, alloc: Global, sign: u8) -> Authorization {
+    match sign {
+        b'+' => Authorization::All(ids(rt, alloc, "E")),
+        b'*' => Authorization::All(ids(rt, alloc, "E,F")),
+        b'|' => Authorization::Any(ids(rt, alloc, "E,F")),
+        _ => Authorization::Unauthorized,
     }
 }
 
 /// A type inside another: optional `?`, array `[`, dictionary from texts `:`, capability `C`, reference `&`, and with the
 /// entitlements E `+`, E and F `*`, E or F `|`.
-fn around(alloc: Global, sign: u8, t: CadType) -> Result<CadType, AllocError> {
-    let part = Box::new(alloc, t)?;
+fn around(rt: &impl Abort, alloc: Global, sign: u8, part: Box<CadType>) -> CadType {
     match sign {
-        b'?' => Ok(CadType::Optional(part)),
-        b'[' => Ok(CadType::Array(part)),
-        b':' => Ok(CadType::Dictionary(Box::new(alloc, CadType::Basic(Basic::String))?, part)),
-        b'C' => Ok(CadType::CapabilityOf(part)),
-        b'+' => Ok(CadType::Reference(Authorization::All(ids(alloc, "E")?), part)),
-        b'*' => Ok(CadType::Reference(Authorization::All(ids(alloc, "E,F")?), part)),
-        b'|' => Ok(CadType::Reference(Authorization::Any(ids(alloc, "E,F")?), part)),
-        _ => Ok(CadType::Reference(Authorization::Unauthorized, part)),
+        b'?' => CadType::Optional(part),
+        b'[' => CadType::Array(part),
+        b':' => CadType::Dictionary(boxed(rt, alloc, CadType::Basic(Basic::String)), part),
+        b'C' => CadType::CapabilityOf(part),
+        _ => CadType::Reference(authorization(rt, alloc, sign), part),
     }
 }
 
 /// The type of a word: its name, with the signs of what it is inside of and a slash before, the outermost first.
-fn typed(alloc: Global, word: &str) -> Result<CadType, AllocError> {
+fn typed(rt: &impl Abort, alloc: Global, word: &str) -> CadType {
     let (signs, name) = word.split_once('/').unwrap_or(("", word));
-    let mut t = named(alloc, name)?;
+    let mut t = named(rt, alloc, name);
     for sign in signs.as_bytes().iter().rev() {
-        t = around(alloc, *sign, t)?;
+        t = around(rt, alloc, *sign, boxed(rt, alloc, t));
     }
-    Ok(t)
+    t
 }
 
 fn sort(letter: &str) -> Sort {
@@ -101,38 +118,42 @@ fn sort(letter: &str) -> Sort {
 }
 
 /// A declaration of a line: its name, its sort, its interfaces and the types of its fields.
-fn declaration(alloc: Global, line: &str) -> Result<Declared, AllocError> {
+fn declaration(rt: &impl Abort, alloc: Global, line: &str) -> Declared {
     let mut words = line.split(' ');
-    let id = id(alloc, words.next().unwrap_or(""))?;
+    let id = id(rt, alloc, words.next().unwrap_or(""));
     let sort = sort(words.next().unwrap_or(""));
-    let interfaces = ids(alloc, words.next().unwrap_or(""))?;
+    let interfaces = ids(rt, alloc, words.next().unwrap_or(""));
     let mut fields = Types::new(alloc);
     for word in words {
-        fields.push(typed(alloc, word)?)?;
+        fields.push(typed(rt, alloc, word)).expect(rt, "memory");
     }
-    Ok(Declared {
+    Declared {
         id,
         sort,
         fields,
         interfaces,
-    })
+    }
 }
 
-fn declarations(alloc: Global, lines: &str) -> Result<Vec<Declared>, AllocError> {
+fn declarations(rt: &impl Abort, alloc: Global, lines: &str) -> Vec<Declared> {
     let mut declared = Vec::new(alloc);
     for line in lines.lines() {
-        declared.push(declaration(alloc, line)?)?;
+        declared
+            .push(declaration(rt, alloc, line))
+            .expect(rt, "memory");
     }
-    Ok(declared)
+    declared
 }
 
-/// The declared types of lines, if they are closed.
-fn declared_types(alloc: Global, lines: &str) -> Result<Option<DeclaredTypes>, AllocError> {
-    let declared = declarations(alloc, lines)?;
-    if is_closed(declared.as_slice()) {
-        return Ok(Some(DeclaredTypes::new(alloc, declared)?));
-    }
-    Ok(None)
+/// The types of declarations, which are closed.
+fn closed(rt: &impl Abort, alloc: Global, declared: Vec<Declared>) -> DeclaredTypes {
+    assert!(rt; is_closed(declared.as_slice()), "closed");
+    DeclaredTypes::new(alloc, declared).expect(rt, "memory")
+}
+
+/// The declared types of lines, which are closed.
+fn declared_types(rt: &impl Abort, alloc: Global, lines: &str) -> DeclaredTypes {
+    closed(rt, alloc, declarations(rt, alloc, lines))
 }
 
 /// A struct with an interface, a resource with two, one of which has the other, and these interfaces.
@@ -179,52 +200,62 @@ C&/R ....1.......................11.1\n\
 C+/R ....1.......................1111\n\
 C&/{RI} ....1.......................1..1";
 
+/// What stands before a line's first space, and what behind it.
+fn halves(line: &str) -> (&str, &str) {
+    line.split_once(' ').unwrap_or((line, ""))
+}
+
 /// The types at the heads of the lines.
-fn types(alloc: Global, lines: &str) -> Result<Vec<CadType>, AllocError> {
+fn types(rt: &impl Abort, alloc: Global, lines: &str) -> Vec<CadType> {
     let mut types = Vec::new(alloc);
     for line in lines.lines() {
-        let (word, _row) = line.split_once(' ').unwrap_or((line, ""));
-        types.push(typed(alloc, word)?)?;
+        let (word, _row) = halves(line);
+        types.push(typed(rt, alloc, word)).expect(rt, "memory");
     }
-    Ok(types)
+    types
+}
+
+/// Whether a row has the digit one at a place.
+fn is_one(row: &str, place: usize) -> bool {
+    match row.as_bytes().get(place) {
+        Some(digit) => *digit == b'1',
+        None => false,
+    }
 }
 
 fn is_row(declared_types: &DeclaredTypes, a: &CadType, types: &[CadType], row: &str) -> bool {
-    for (b, answer) in types.iter().zip(row.as_bytes()) {
-        if is_subtype(declared_types, a, b) != (*answer == b'1') {
+    for (place, b) in types.iter().enumerate() {
+        if is_subtype(declared_types, a, b) != is_one(row, place) {
             return false;
         }
     }
     types.len() == row.len()
 }
 
-#[test]
-fn types_stand_in_their_order(rt: HostRuntime) -> Result<(), Fail> {
-    let declared_types = declared_types(rt.alloc(), INTERFACES)?.ok_or(
-        "the interfaces are closed",
-    )?;
-    let types = types(rt.alloc(), BELOW)?;
-    assert_eq!(rt; types.len(), 32);
+/// Asserts which of the types each of them is below.
+fn rows_hold(rt: &impl Abort, declared_types: &DeclaredTypes, types: &[CadType]) {
+    equals(rt, &types.len(), &32);
     for (a, line) in types.iter().zip(BELOW.lines()) {
-        let (_word, row) = line.split_once(' ').unwrap_or((line, ""));
-        assert!(rt; is_row(&declared_types, a, types.as_slice(), row), "{line}");
+        let (_word, row) = halves(line);
+        holds(rt, is_row(declared_types, a, types, row), line);
     }
-    Ok(())
+}
+
+#[test]
+fn types_stand_in_their_order(rt: HostRuntime) {
+    let declared_types = declared_types(&rt, rt.alloc(), INTERFACES);
+    let types = types(&rt, rt.alloc(), BELOW);
+    rows_hold(&rt, &declared_types, types.as_slice());
+    drop(types);
+    drop(declared_types);
 }
 
 /// Whether the type is storable, importable and exportable: three digits.
 fn is_judged(declared_types: &DeclaredTypes, t: &CadType, answers: &str) -> bool {
-    let judged = [
-        is_storable(declared_types, t),
-        is_importable(declared_types, t),
-        is_exportable(declared_types, t),
-    ];
-    for (mark, answer) in judged.iter().zip(answers.as_bytes()) {
-        if *mark != (*answer == b'1') {
-            return false;
-        }
-    }
     answers.len() == 3
+        && is_storable(declared_types, t) == is_one(answers, 0)
+        && is_importable(declared_types, t) == is_one(answers, 1)
+        && is_exportable(declared_types, t) == is_one(answers, 2)
 }
 
 /// Declarations that come back to themselves, with and without what is in no class.
@@ -267,87 +298,170 @@ C&/Int 100\n\
 [/Void 000\n\
 ?/Ring 100";
 
-#[test]
-fn types_are_judged(rt: HostRuntime) -> Result<(), Fail> {
-    let declared_types = declared_types(rt.alloc(), RECURSIVE)?.ok_or("there are no interfaces")?;
-    for line in CLASSES.lines() {
-        let (word, answers) = line.split_once(' ').unwrap_or((line, ""));
-        let t = typed(rt.alloc(), word)?;
-        assert!(rt; is_judged(&declared_types, &t, answers), "{line}");
-    }
-    Ok(())
+/// Whether the type of a line is judged as the line says.
+fn is_line(rt: &impl Abort, alloc: Global, declared_types: &DeclaredTypes, line: &str) -> bool {
+    let (word, answers) = halves(line);
+    let t = typed(rt, alloc, word);
+    let holds = is_judged(declared_types, &t, answers);
+    drop(t);
+    holds
 }
 
-/// A type as deep as that inside types of the signs in turn.
-fn nested(alloc: Global, signs: &[u8; 4], name: &str, depth: usize) -> Result<CadType, AllocError> {
-    let mut t = named(alloc, name)?;
-    for i in 0..depth {
-        t = around(alloc, signs[i % 4], t)?;
+#[test]
+fn types_are_judged(rt: HostRuntime) {
+    let declared_types = declared_types(&rt, rt.alloc(), RECURSIVE);
+    for line in CLASSES.lines() {
+        holds(&rt, is_line(&rt, rt.alloc(), &declared_types, line), line);
     }
-    Ok(t)
+    drop(declared_types);
 }
 
 /// How deep a type in bytes may nest.
 const DEEPEST: u32 = 1024;
 
-#[test]
-fn walks_go_1024_deep(rt: HostRuntime) -> Result<(), Fail> {
-    let declared_types = declared_types(rt.alloc(), RECURSIVE)?.ok_or("there are no interfaces")?;
-    let ring = nested(rt.alloc(), b"?[:&", "Ring", 1024)?;
-    let never = nested(rt.alloc(), b"?[:&", "Never", 1024)?;
-    assert!(rt; is_subtype(&declared_types, &never, &ring));
-    assert!(rt; !is_subtype(&declared_types, &ring, &never));
-    assert!(rt; is_subtype(&declared_types, &ring, &ring));
-    let rings = nested(rt.alloc(), b"[:[:", "Ring", 1024)?;
-    assert!(rt; is_subtype(&declared_types, &rings, &CadType::Basic(Basic::AnyResource)));
-    assert!(rt; !is_subtype(&declared_types, &rings, &CadType::Basic(Basic::AnyStruct)));
-    assert!(rt; is_judged(&declared_types, &rings, "100"));
-    let nevers = nested(rt.alloc(), b"[:[:", "Never", 1024)?;
-    assert!(rt;
-        is_subtype(
-            &declared_types,
-            &nevers,
-            &CadType::Basic(Basic::AnyResource)
-        )
+/// A type as deep as that inside types of the signs in turn.
+fn nested(rt: &impl Abort, alloc: Global, signs: &[u8; 4], name: &str) -> CadType {
+    let mut t = named(rt, alloc, name);
+    for i in 0..1024usize {
+        t = around(rt, alloc, signs[i % 4], boxed(rt, alloc, t));
+    }
+    t
+}
+
+/// Two types with these names innermost, and whether the first is below the second.
+fn is_nested_below(
+    rt: &impl Abort,
+    alloc: Global,
+    declared_types: &DeclaredTypes,
+    a: &str,
+    b: &str,
+) -> bool {
+    let first = nested(rt, alloc, b"?[:&", a);
+    let second = nested(rt, alloc, b"?[:&", b);
+    let is_below = is_subtype(declared_types, &first, &second);
+    drop(first);
+    drop(second);
+    is_below
+}
+
+/// Whether a type is below the greatest type of resources, and whether it is below that of structs.
+fn tops(declared_types: &DeclaredTypes, t: &CadType) -> (bool, bool) {
+    let resources = CadType::Basic(Basic::AnyResource);
+    let structs = CadType::Basic(Basic::AnyStruct);
+    let result = (
+        is_subtype(declared_types, t, &resources),
+        is_subtype(declared_types, t, &structs),
     );
-    assert!(rt; is_subtype(&declared_types, &nevers, &CadType::Basic(Basic::AnyStruct)));
-    let trees = nested(rt.alloc(), b"?[:[", "Tree", 1024)?;
-    assert!(rt; is_judged(&declared_types, &trees, "111"));
-    assert_eq!(rt; trees.nesting(DEEPEST), Some(DEEPEST));
-    assert!(rt; is_resource(&declared_types, &rings));
-    Ok(())
+    drop(resources);
+    drop(structs);
+    result
+}
+
+/// Asserts what stands over rings and nevers in arrays and dictionaries.
+fn tops_hold(rt: &impl Abort, alloc: Global, declared_types: &DeclaredTypes) {
+    let rings = nested(rt, alloc, b"[:[:", "Ring");
+    equals(rt, &tops(declared_types, &rings), &(true, false));
+    holds(
+        rt,
+        is_judged(declared_types, &rings, "100"),
+        "rings are judged",
+    );
+    holds(
+        rt,
+        is_resource(declared_types, &rings),
+        "rings are resources",
+    );
+    drop(rings);
+    let nevers = nested(rt, alloc, b"[:[:", "Never");
+    equals(rt, &tops(declared_types, &nevers), &(true, true));
+    drop(nevers);
+}
+
+/// Asserts how trees in optionals, arrays and dictionaries are judged.
+fn trees_hold(rt: &impl Abort, alloc: Global, declared_types: &DeclaredTypes) {
+    let trees = nested(rt, alloc, b"?[:[", "Tree");
+    holds(
+        rt,
+        is_judged(declared_types, &trees, "111"),
+        "trees are judged",
+    );
+    equals(rt, &trees.nesting(DEEPEST), &Some(DEEPEST));
+    drop(trees);
 }
 
 #[test]
-fn declarations_are_tested(rt: HostRuntime) -> Result<(), Fail> {
+fn walks_go_1024_deep(rt: HostRuntime) {
     let alloc = rt.alloc();
-    let open = declarations(alloc, "R R RJ\nRJ RI RI")?;
-    assert!(rt; !is_closed(open.as_slice()));
-    let declared_types = declared_types(alloc, INTERFACES)?.ok_or("the interfaces are closed")?;
-    assert!(rt; declared_types.find(&id(alloc, "R")?).is_some());
-    assert_eq!(rt; declared_types.interfaces(&id(alloc, "R")?).len(), 2);
-    assert_eq!(rt; declared_types.declared().len(), 5);
-    assert!(rt; declared_types.is_resource(&id(alloc, "RI")?));
-    Ok(())
+    let declared_types = declared_types(&rt, alloc, RECURSIVE);
+    holds(
+        &rt,
+        is_nested_below(&rt, alloc, &declared_types, "Never", "Ring"),
+        "never is below rings",
+    );
+    holds(
+        &rt,
+        !is_nested_below(&rt, alloc, &declared_types, "Ring", "Never"),
+        "rings are not below never",
+    );
+    holds(
+        &rt,
+        is_nested_below(&rt, alloc, &declared_types, "Ring", "Ring"),
+        "rings are below rings",
+    );
+    tops_hold(&rt, alloc, &declared_types);
+    trees_hold(&rt, alloc, &declared_types);
+    drop(declared_types);
+}
+
+/// Asserts what is told of a resource and of an interface.
+fn resources_hold(rt: &impl Abort, alloc: Global, declared_types: &DeclaredTypes) {
+    let resource = id(rt, alloc, "R");
+    holds(
+        rt,
+        declared_types.find(&resource).is_some(),
+        "the resource is found",
+    );
+    equals(rt, &declared_types.interfaces(&resource).len(), &2);
+    holds(
+        rt,
+        declared_types.is_resource(&id(rt, alloc, "RI")),
+        "the interface is one of resources",
+    );
+}
+
+#[test]
+fn declarations_are_tested(rt: HostRuntime) {
+    let alloc = rt.alloc();
+    let open = declarations(&rt, alloc, "R R RJ\nRJ RI RI");
+    holds(
+        &rt,
+        !is_closed(open.as_slice()),
+        "the declarations are open",
+    );
+    let declared_types = declared_types(&rt, alloc, INTERFACES);
+    equals(&rt, &declared_types.declared().len(), &5);
+    resources_hold(&rt, alloc, &declared_types);
+    drop(declared_types);
 }
 
 /// A struct whose field nests as deep as a type may.
+fn high(rt: &impl Abort, alloc: Global) -> Vec<Declared> {
+    let mut high = declaration(rt, alloc, "High S .");
+    high.fields
+        .push(nested(rt, alloc, b"?[:[", "Int"))
+        .expect(rt, "memory");
+    let mut declared = Vec::new(alloc);
+    declared.push(high).expect(rt, "memory");
+    declared
+}
+
 #[test]
-fn deep_fields_are_judged(rt: HostRuntime) -> Result<(), Fail> {
-    let alloc = rt.alloc();
-    let mut declared = declarations(alloc, "High S .")?;
-    for d in &mut declared {
-        d.fields.push(nested(alloc, b"?[:[", "Int", 1024)?)?;
-    }
-    if is_closed(declared.as_slice()) {
-        let declared_types = DeclaredTypes::new(alloc, declared)?;
-        assert!(rt;
-            is_judged(
-                &declared_types,
-                &CadType::Declared(id(alloc, "High")?),
-                "111"
-            )
-        );
-    }
-    Ok(())
+fn deep_fields_are_judged(rt: HostRuntime) {
+    let declared_types = closed(&rt, rt.alloc(), high(&rt, rt.alloc()));
+    holds(
+        &rt,
+        is_line(&rt, rt.alloc(), &declared_types, "High 111"),
+        "High is judged",
+    );
+    drop(declared_types);
 }
