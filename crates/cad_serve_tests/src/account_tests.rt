@@ -301,10 +301,9 @@ fn run_done(rt: &impl Abort, alloc: Global, host: &mut MemHost) {
 
 // A run over the first of the commands.
 fn run_first(rt: &impl Abort, alloc: Global, count: usize) -> MemHost {
-    let mut input = String::new(alloc);
-    for command in COMMANDS.iter().take(count) {
-        input.push_str(command).expect(rt, "memory");
-    }
+    let commands: &[&str] = &COMMANDS;
+    let first = commands.get(..count).expect(rt, "so many");
+    let input = joined(rt, alloc, first);
     let mut host = host_of(rt, alloc, &input, &[], &[], &[]);
     run_done(rt, alloc, &mut host);
     host
@@ -345,8 +344,13 @@ fn moments(rt: &impl Abort, alloc: Global) -> Items<u64> {
 
 // How many commands had their replies at a moment.
 fn known_at(put_at: &[u64], moment: u64) -> usize {
-    let put = put_at.iter().filter(|put| **put <= moment).count();
-    put.saturating_sub(1)
+    let mut known = 0usize;
+    for put in put_at {
+        if *put <= moment {
+            known = known.saturating_add(1);
+        }
+    }
+    known.saturating_sub(1)
 }
 
 // Whether replies are those that tell of so many commands.

@@ -95,7 +95,7 @@ fn tells_that_a_line_broke(rt: HostRuntime) {
 fn writes_the_lines(rt: HostRuntime) {
     let alloc = rt.alloc();
     let lines = generate_lines(alloc, 1).expect(&rt, "memory");
-    let last = lines.as_slice().split(|byte| *byte == b'\n').nth(15);
-    let last = last.expect(&rt, "there are 16 lines");
-    assert!(rt; last.starts_with(TRANSFER.as_bytes()));
+    let text = str::from_utf8(lines.as_slice()).expect(&rt, "a text");
+    let last = text.lines().nth(15).expect(&rt, "there are 16 lines");
+    assert!(rt; last.as_bytes().starts_with(TRANSFER.as_bytes()));
 }
