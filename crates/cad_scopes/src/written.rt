@@ -114,6 +114,7 @@ fn intersection_of(ids: Option<TypeIds>) -> Option<CadType>
     }
 }
 
+/// The type of dictionaries from keys to values of these types.
 fn boxed_dictionary(alloc: Global, key: CadType, value: CadType) -> Result<CadType, AllocError>
     ensures { IfOk result (λ t. pure_type t ≡ types.dictionary (pure_type key) (pure_type value)) }
 {
